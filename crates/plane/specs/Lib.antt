@@ -1,0 +1,2 @@
+-- The plane's specification.
+pub mod Plane

@@ -1,0 +1,1 @@
+// Exact whole numbers: lemmas only. The definitions stand in specs/, the laws in proofs/.
