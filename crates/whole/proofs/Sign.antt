@@ -1,0 +1,249 @@
+-- Signs of whole numbers, as records over the number so that it can be inferred: closure under sum and product, cancellation of a positive
+-- factor, and the tests ltZ, leZ, eqZ as signs of a difference. An inequality is then an identity (Solver) and closure.
+use Prim.Native.Nat.{ℕ, zero, suc, _+_, _*_, _≤_, _<_}
+use native.Mathlib.Omega.{arith}
+use mathlib.Core.Path.{_≡_, refl, sym, ap, _∙_, subst}
+use mathlib.Core.Bool.{Bool, true, false, not}
+use lib.Dec.{T, T-not, not-T, ltb, lt→ltb, leb, le→leb}
+use lib.IntN.{ℤ, pos, negsuc, negℤ, _+ℤ_, _-ℤ_, _*ℤ_, zero-*ℤ, *ℤ-comm, negℤ-negℤ}
+use lib.Signed.{ltZ, leZ}
+use Rattle.whole.specs.Count.{eqZ}
+use Rattle.whole.proofs.Balance.{P, N, add-balance, sub-balanceℤ, neg-P, neg-N, pos-P, pos-N, balance-eq, ltZ-read, ltZ-make, leZ-read, leZ-make, eqZ-read, eqZ-make}
+use Rattle.whole.proofs.Ring.{neg-mul, distrib-left}
+
+pub record Pos (z : ℤ) : Type 0 where
+  pub above : N z < P z
+
+pub record NonNeg (z : ℤ) : Type 0 where
+  pub least : N z ≤ P z
+
+pub record Neg (z : ℤ) : Type 0 where
+  pub below : P z < N z
+
+pub neg-pos : {z : ℤ} → Neg z → Pos (negℤ z)
+neg-pos {z} h = record { above = omega (arith, neg-P z, neg-N z) }
+
+pub pos-neg : {z : ℤ} → Pos z → Neg (negℤ z)
+pos-neg {z} h = record { below = omega (arith, neg-P z, neg-N z) }
+
+pub neg-of-pos : (z : ℤ) → Pos (negℤ z) → Neg z
+neg-of-pos z h = record { below = omega (arith, neg-P z, neg-N z) }
+
+pub pos-of-neg : (z : ℤ) → Neg (negℤ z) → Pos z
+pos-of-neg z h = record { above = omega (arith, neg-P z, neg-N z) }
+
+-- ---- the three signs
+
+pub data Sign (z : ℤ) : Type 0 where
+  minus : Neg z → Sign z
+  nought : z ≡ pos 0 → Sign z
+  plus : Pos z → Sign z
+
+pub sign : (z : ℤ) → Sign z
+unfolding P N
+sign (pos zero) = nought refl
+sign (pos (suc n)) = plus (record { above = omega arith })
+sign (negsuc n) = minus (record { below = omega arith })
+
+pub pos-nonneg : {z : ℤ} → Pos z → NonNeg z
+pos-nonneg h = record { least = omega arith }
+
+pub zero-nonneg : {z : ℤ} → z ≡ pos 0 → NonNeg z
+zero-nonneg {z} e = subst NonNeg (sym e) (record { least = omega (arith, pos-P 0, pos-N 0) })
+
+pub one-pos : (n : ℕ) → Pos (pos (suc n))
+one-pos n = record { above = omega (arith, pos-P (suc n), pos-N (suc n)) }
+
+pub lit-pos : (n : ℕ) → 0 < n → Pos (pos n)
+lit-pos n h = record { above = omega (arith, pos-P n, pos-N n) }
+
+pub lit-nonneg : (n : ℕ) → NonNeg (pos n)
+lit-nonneg n = record { least = omega (arith, pos-P n, pos-N n) }
+
+pub data Weak (z : ℤ) : Type 0 where
+  weak-zero : z ≡ pos 0 → Weak z
+  weak-plus : Pos z → Weak z
+
+pub weak : {z : ℤ} → NonNeg z → Weak z
+weak {z} h = go (sign z)
+  where
+    clash : NonNeg z → Neg z → ⊥
+    clash h k = omega arith
+    go : Sign z → Weak z
+    go (minus k) = absurd (clash h k)
+    go (nought e) = weak-zero e
+    go (plus k) = weak-plus k
+
+-- z is at least zero, or below it
+pub data Half (z : ℤ) : Type 0 where
+  at-least : NonNeg z → Half z
+  under : Neg z → Half z
+
+pub half : (z : ℤ) → Half z
+half z = go (sign z)
+  where
+    go : Sign z → Half z
+    go (minus k) = under k
+    go (nought e) = at-least (zero-nonneg e)
+    go (plus k) = at-least (pos-nonneg k)
+
+-- ---- clashes
+
+pub pos-clash {ℓ} : {A : Type ℓ} {z : ℤ} → Pos z → Neg z → A
+pos-clash {z = z} h k = absurd (clash h k)
+  where
+    clash : Pos z → Neg z → ⊥
+    clash h k = omega arith
+
+pub nonneg-clash {ℓ} : {A : Type ℓ} {z : ℤ} → NonNeg z → Neg z → A
+nonneg-clash {z = z} h k = absurd (clash h k)
+  where
+    clash : NonNeg z → Neg z → ⊥
+    clash h k = omega arith
+
+pub zero-pos {ℓ} : {A : Type ℓ} {z : ℤ} → z ≡ pos 0 → Pos z → A
+zero-pos {z = z} e h = absurd (clash (subst Pos e h))
+  where
+    clash : Pos (pos 0) → ⊥
+    clash k = omega (arith, pos-P 0, pos-N 0)
+
+pub neg-zero : {z : ℤ} → z ≡ pos 0 → negℤ z ≡ pos 0
+neg-zero e = ap negℤ e
+
+pub zero-of-neg : {z : ℤ} → negℤ z ≡ pos 0 → z ≡ pos 0
+zero-of-neg {z} e = sym (negℤ-negℤ z) ∙ ap negℤ e
+
+pub zero-neg {ℓ} : {A : Type ℓ} {z : ℤ} → z ≡ pos 0 → Neg z → A
+zero-neg e h = zero-pos (neg-zero e) (neg-pos h)
+
+pub nonneg-both : {z : ℤ} → NonNeg z → NonNeg (negℤ z) → z ≡ pos 0
+nonneg-both {z} h k = balance-eq z (pos 0) (omega (arith, neg-P z, neg-N z, pos-P 0, pos-N 0))
+
+-- ---- sums
+
+pub pos-add : {x y : ℤ} → Pos x → Pos y → Pos (x +ℤ y)
+pos-add {x} {y} h k = record { above = omega (arith, add-balance x y) }
+
+pub pos-add-nonneg : {x y : ℤ} → Pos x → NonNeg y → Pos (x +ℤ y)
+pos-add-nonneg {x} {y} h k = record { above = omega (arith, add-balance x y) }
+
+pub nonneg-add-pos : {x y : ℤ} → NonNeg x → Pos y → Pos (x +ℤ y)
+nonneg-add-pos {x} {y} h k = record { above = omega (arith, add-balance x y) }
+
+pub nonneg-add : {x y : ℤ} → NonNeg x → NonNeg y → NonNeg (x +ℤ y)
+nonneg-add {x} {y} h k = record { least = omega (arith, add-balance x y) }
+
+-- ---- products
+
+pub pos-mul : {x y : ℤ} → Pos x → Pos y → Pos (x *ℤ y)
+unfolding P N
+pos-mul {x = pos zero} h k = absurd (zero-pos refl h)
+pos-mul {x = pos (suc a)} {y = pos zero} h k = absurd (zero-pos refl k)
+pos-mul {x = pos (suc a)} {y = pos (suc b)} h k = record { above = omega arith }
+pos-mul {x = pos (suc a)} {y = negsuc b} h k = absurd (below k)
+  where
+    below : {b : ℕ} → Pos (negsuc b) → ⊥
+    below k = omega arith
+pos-mul {x = negsuc a} h k = absurd (below h)
+  where
+    below : {b : ℕ} → Pos (negsuc b) → ⊥
+    below k = omega arith
+
+pub mul-zero-left : {x : ℤ} (y : ℤ) → x ≡ pos 0 → x *ℤ y ≡ pos 0
+mul-zero-left y e = ap (λ z. z *ℤ y) e ∙ zero-*ℤ y
+
+pub mul-zero-right : (x : ℤ) {y : ℤ} → y ≡ pos 0 → x *ℤ y ≡ pos 0
+mul-zero-right x {y} e = *ℤ-comm x y ∙ mul-zero-left x e
+
+pub nonneg-mul : {x y : ℤ} → NonNeg x → NonNeg y → NonNeg (x *ℤ y)
+nonneg-mul {x} {y} h k = go (weak h) (weak k)
+  where
+    go : Weak x → Weak y → NonNeg (x *ℤ y)
+    go (weak-zero e) w = zero-nonneg (mul-zero-left y e)
+    go (weak-plus p) (weak-zero e) = zero-nonneg (mul-zero-right x e)
+    go (weak-plus p) (weak-plus q) = pos-nonneg (pos-mul p q)
+
+mul-neg : (x y : ℤ) → x *ℤ negℤ y ≡ negℤ (x *ℤ y)
+mul-neg x y = *ℤ-comm x (negℤ y) ∙ neg-mul y x ∙ ap negℤ (*ℤ-comm y x)
+
+pub pos-mul-neg : {x y : ℤ} → Pos x → Neg y → Neg (x *ℤ y)
+pos-mul-neg {x} {y} h k = neg-of-pos (x *ℤ y) (subst Pos (mul-neg x y) (pos-mul h (neg-pos k)))
+
+pub neg-mul-pos : {x y : ℤ} → Neg x → Pos y → Neg (x *ℤ y)
+neg-mul-pos {x} {y} h k = neg-of-pos (x *ℤ y) (subst Pos (neg-mul x y) (pos-mul (neg-pos h) k))
+
+pub neg-mul-neg : {x y : ℤ} → Neg x → Neg y → Pos (x *ℤ y)
+neg-mul-neg {x} {y} h k =
+    subst Pos (neg-mul x (negℤ y) ∙ ap negℤ (mul-neg x y) ∙ negℤ-negℤ (x *ℤ y)) (pos-mul (neg-pos h) (neg-pos k))
+
+-- ---- cancellation of a positive factor
+
+pub cancel-zero : {k z : ℤ} → Pos k → k *ℤ z ≡ pos 0 → z ≡ pos 0
+cancel-zero {k} {z} h e = go (sign z)
+  where
+    go : Sign z → z ≡ pos 0
+    go (minus m) = zero-neg e (pos-mul-neg h m)
+    go (nought m) = m
+    go (plus m) = zero-pos e (pos-mul h m)
+
+pub cancel-pos : {k z : ℤ} → Pos k → Pos (k *ℤ z) → Pos z
+cancel-pos {k} {z} h p = go (sign z)
+  where
+    go : Sign z → Pos z
+    go (minus m) = pos-clash p (pos-mul-neg h m)
+    go (nought m) = zero-pos (mul-zero-right k m) p
+    go (plus m) = m
+
+pub cancel-nonneg : {k z : ℤ} → Pos k → NonNeg (k *ℤ z) → NonNeg z
+cancel-nonneg {k} {z} h p = go (half z)
+  where
+    go : Half z → NonNeg z
+    go (at-least m) = m
+    go (under m) = nonneg-clash p (pos-mul-neg h m)
+
+pub cancel-neg : {k z : ℤ} → Pos k → Neg (k *ℤ z) → Neg z
+cancel-neg {k} {z} h p = neg-of-pos z (cancel-pos h (subst Pos (sym (mul-neg k z)) (neg-pos p)))
+
+-- the same with the positive factor unknown: a product with a weakly positive factor that is positive
+pub pos-of-mul-nonneg : {k z : ℤ} → NonNeg k → Pos (k *ℤ z) → Pos k × Pos z
+pos-of-mul-nonneg {k} {z} h p = go (weak h)
+  where
+    go : Weak k → Pos k × Pos z
+    go (weak-zero e) = zero-pos (mul-zero-left z e) p
+    go (weak-plus q) = (q, cancel-pos q p)
+
+-- ---- the tests, as signs of a difference
+
+pub ltZ-pos : (a b : ℤ) → T (ltZ a b) → Pos (b -ℤ a)
+ltZ-pos a b t = record { above = omega (arith, ltZ-read a b t, sub-balanceℤ b a) }
+
+pub pos-ltZ : (a b : ℤ) → Pos (b -ℤ a) → T (ltZ a b)
+pos-ltZ a b h = ltZ-make a b (omega (arith, sub-balanceℤ b a))
+
+pub leZ-nonneg : (a b : ℤ) → T (leZ a b) → NonNeg (b -ℤ a)
+leZ-nonneg a b t = record { least = omega (arith, leZ-read a b t, sub-balanceℤ b a) }
+
+pub nonneg-leZ : (a b : ℤ) → NonNeg (b -ℤ a) → T (leZ a b)
+nonneg-leZ a b h = leZ-make a b (omega (arith, sub-balanceℤ b a))
+
+pub eqZ-zero : (a b : ℤ) → T (eqZ a b) → b -ℤ a ≡ pos 0
+eqZ-zero a b t = balance-eq (b -ℤ a) (pos 0) (omega (arith, ap P (eqZ-read a b t), ap N (eqZ-read a b t), sub-balanceℤ b a, pos-P 0, pos-N 0))
+
+pub sub-zero-eq : (a b : ℤ) → b -ℤ a ≡ pos 0 → a ≡ b
+sub-zero-eq a b e = balance-eq a b (omega (arith, ap P e, ap N e, sub-balanceℤ b a, pos-P 0, pos-N 0))
+
+pub zero-eqZ : (a b : ℤ) → b -ℤ a ≡ pos 0 → T (eqZ a b)
+zero-eqZ a b e = eqZ-make a b (sub-zero-eq a b e)
+
+-- of a single number
+pub ltZ0-pos : (z : ℤ) → T (ltZ (pos 0) z) → Pos z
+ltZ0-pos z t = record { above = omega (arith, ltZ-read (pos 0) z t, pos-P 0, pos-N 0) }
+
+pub pos-ltZ0 : (z : ℤ) → Pos z → T (ltZ (pos 0) z)
+pos-ltZ0 z h = ltZ-make (pos 0) z (omega (arith, pos-P 0, pos-N 0))
+
+pub ltZ0-neg : (z : ℤ) → T (ltZ z (pos 0)) → Neg z
+ltZ0-neg z t = record { below = omega (arith, ltZ-read z (pos 0) t, pos-P 0, pos-N 0) }
+
+pub neg-ltZ0 : (z : ℤ) → Neg z → T (ltZ z (pos 0))
+neg-ltZ0 z h = ltZ-make z (pos 0) (omega (arith, pos-P 0, pos-N 0))
