@@ -25,7 +25,7 @@ unfolding P N
 sub-balance a b = go (ltb a b) (ltb→lt a b) (nltb→le a b)
   where
     go : (t : Bool) → (T t → a < b) → (T (not t) → b ≤ a)
-      → P (cond t (negsuc (b - suc a)) (pos (a - b))) + b ≡ N (cond t (negsuc (b - suc a)) (pos (a - b))) + a
+        → P (cond t (negsuc (b - suc a)) (pos (a - b))) + b ≡ N (cond t (negsuc (b - suc a)) (pos (a - b))) + a
     go true f g = let h : a < b = f tt in omega arith
     go false f g = let h : b ≤ a = g tt in omega arith
 

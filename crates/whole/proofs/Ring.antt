@@ -21,10 +21,12 @@ distrib-right m k c = by-steps (λ k. (m +ℤ k) *ℤ c ≡ m *ℤ c +ℤ k *ℤ
   where
     none : (m +ℤ pos 0) *ℤ c ≡ m *ℤ c +ℤ pos 0 *ℤ c
     none = ap (λ x. x *ℤ c) (+ℤ-idr m) ∙ sym (ap (λ x. m *ℤ c +ℤ x) (zero-*ℤ c) ∙ +ℤ-idr (m *ℤ c))
+
     up : (k : ℤ) → (m +ℤ k) *ℤ c ≡ m *ℤ c +ℤ k *ℤ c → (m +ℤ sucℤ k) *ℤ c ≡ m *ℤ c +ℤ sucℤ k *ℤ c
     up k h =
         ap (λ x. x *ℤ c) (+ℤ-sucℤ m k) ∙ sucℤ-*ℤ (m +ℤ k) c ∙ ap (λ x. x +ℤ c) h
         ∙ +ℤ-assoc (m *ℤ c) (k *ℤ c) c ∙ ap (λ x. m *ℤ c +ℤ x) (sym (sucℤ-*ℤ k c))
+
     down : (k : ℤ) → (m +ℤ k) *ℤ c ≡ m *ℤ c +ℤ k *ℤ c → (m +ℤ predℤ k) *ℤ c ≡ m *ℤ c +ℤ predℤ k *ℤ c
     down k h =
         ap (λ x. x *ℤ c) (+ℤ-predℤ m k) ∙ predℤ-*ℤ (m +ℤ k) c ∙ ap (λ x. x -ℤ c) h
@@ -47,10 +49,12 @@ mul-assoc m k c = by-steps (λ m. (m *ℤ k) *ℤ c ≡ m *ℤ (k *ℤ c)) none 
   where
     none : (pos 0 *ℤ k) *ℤ c ≡ pos 0 *ℤ (k *ℤ c)
     none = ap (λ x. x *ℤ c) (zero-*ℤ k) ∙ zero-*ℤ c ∙ sym (zero-*ℤ (k *ℤ c))
+
     up : (m : ℤ) → (m *ℤ k) *ℤ c ≡ m *ℤ (k *ℤ c) → (sucℤ m *ℤ k) *ℤ c ≡ sucℤ m *ℤ (k *ℤ c)
     up m h =
         ap (λ x. x *ℤ c) (sucℤ-*ℤ m k) ∙ distrib-right (m *ℤ k) k c ∙ ap (λ x. x +ℤ k *ℤ c) h
         ∙ sym (sucℤ-*ℤ m (k *ℤ c))
+
     down : (m : ℤ) → (m *ℤ k) *ℤ c ≡ m *ℤ (k *ℤ c) → (predℤ m *ℤ k) *ℤ c ≡ predℤ m *ℤ (k *ℤ c)
     down m h =
         ap (λ x. x *ℤ c) (predℤ-*ℤ m k) ∙ distrib-right (m *ℤ k) (negℤ k) c ∙ ap (λ x. x +ℤ negℤ k *ℤ c) h

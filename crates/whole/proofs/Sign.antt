@@ -69,6 +69,7 @@ weak {z} h = go (sign z)
   where
     clash : NonNeg z → Neg z → ⊥
     clash h k = omega arith
+
     go : Sign z → Weak z
     go (minus k) = absurd (clash h k)
     go (nought e) = weak-zero e

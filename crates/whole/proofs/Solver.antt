@@ -12,7 +12,6 @@ use Rattle.whole.proofs.Ring.{add-left-comm, distrib-right, distrib-lef
 
 infixl 6 _:+_ _:-_
 infixl 7 _:*_
-
 pub data Exp : Type 0 where
   var : ℕ → Exp
   con : ℤ → Exp
@@ -139,7 +138,7 @@ module _ (ρ : List ℤ) where
   insertVar-is i (j ∷ m) = go (leb i j) (insertVar-is i m)
     where
       go : (b : Bool) → mono (insertVar i m) ≡ getD ρ i (pos 0) *ℤ mono m
-        → mono (insertVarBy b i j m (insertVar i m)) ≡ getD ρ i (pos 0) *ℤ (getD ρ j (pos 0) *ℤ mono m)
+          → mono (insertVarBy b i j m (insertVar i m)) ≡ getD ρ i (pos 0) *ℤ (getD ρ j (pos 0) *ℤ mono m)
       go true h = refl
       go false h = ap (λ x. getD ρ j (pos 0) *ℤ x) h ∙ mul-left-comm (getD ρ j (pos 0)) (getD ρ i (pos 0)) (mono m)
 
@@ -156,7 +155,7 @@ module _ (ρ : List ℤ) where
   insertTerm-is c m (term d n p) = go (lex m n) (lex-equal m n) (insertTerm-is c m p)
     where
       go : (o : Order) → (IsEqual o → m ≡ n) → value (insertTerm c m p) ≡ c *ℤ mono m +ℤ value p
-        → value (insertBy o c m d n p (insertTerm c m p)) ≡ c *ℤ mono m +ℤ (d *ℤ mono n +ℤ value p)
+          → value (insertBy o c m d n p (insertTerm c m p)) ≡ c *ℤ mono m +ℤ (d *ℤ mono n +ℤ value p)
       go less f h = refl
       go equal f h =
           ap (λ x. x +ℤ value p) (distrib-right c d (mono n)) ∙ +ℤ-assoc (c *ℤ mono n) (d *ℤ mono n) (value p)
@@ -214,6 +213,7 @@ module _ (ρ : List ℤ) where
       is-zero : (c : ℤ) → T (eqZ c (pos 0)) → c ≡ pos 0
       is-zero (pos n) t = ap pos (eqb→eq n 0 t)
       is-zero (negsuc n) t = absurd t
+
       go : (b : Bool) → (T b → c ≡ pos 0) → (T (allZero p) → value p ≡ pos 0) → T (b && allZero p) → c *ℤ mono m +ℤ value p ≡ pos 0
       go true f g t = ap (λ x. x *ℤ mono m +ℤ value p) (f tt) ∙ ap (λ x. x +ℤ value p) (zero-*ℤ (mono m)) ∙ +ℤ-idl (value p) ∙ g t
       go false f g t = absurd t

@@ -1,0 +1,94 @@
+-- Tests as propositions: `T b` taken apart and put together at each Boolean operation, and "some" and "every" of a list with their witnesses.
+use mathlib.Core.Path.{_≡_, refl, sym, ap, _∙_, subst}
+use mathlib.Core.Logic.{_⊎_, inl, inr, ⊎-elim}
+use mathlib.Core.Bool.{Bool, true, false, not, _&&_, _||_}
+use mathlib.Core.List.{List, [], _∷_, _++_}
+use lib.Dec.{T, T-not, not-T}
+use Rattle.whole.specs.Count.{_∈_, here, there, some, every}
+
+pub and-left : (a b : Bool) → T (a && b) → T a
+and-left true b t = tt
+and-left false b t = t
+
+pub and-right : (a b : Bool) → T (a && b) → T b
+and-right true b t = t
+and-right false b t = absurd t
+
+pub and-make : (a b : Bool) → T a → T b → T (a && b)
+and-make true b s t = t
+and-make false b s t = s
+
+pub or-cases : (a b : Bool) → T (a || b) → T a ⊎ T b
+or-cases true b t = inl tt
+or-cases false b t = inr t
+
+pub or-left : (a b : Bool) → T a → T (a || b)
+or-left true b t = tt
+or-left false b t = absurd t
+
+pub or-right : (a b : Bool) → T b → T (a || b)
+or-right true b t = tt
+or-right false b t = t
+
+pub decide : (b : Bool) → T b ⊎ T (not b)
+decide true = inl tt
+decide false = inr tt
+
+pub true-is : (b : Bool) → T b → b ≡ true
+true-is true t = refl
+true-is false t = absurd t
+
+pub false-is : (b : Bool) → T (not b) → b ≡ false
+false-is true t = absurd t
+false-is false t = refl
+
+pub is-true : (b : Bool) → b ≡ true → T b
+is-true b e = subst T (sym e) tt
+
+pub is-false : (b : Bool) → b ≡ false → T (not b)
+is-false b e = subst (λ c. T (not c)) (sym e) tt
+
+pub refute : (b : Bool) → (T b → ⊥) → b ≡ false
+refute b f = false-is b (not-T b f)
+
+-- two tests that imply each other are equal
+pub same-test : (a b : Bool) → (T a → T b) → (T b → T a) → a ≡ b
+same-test true b f g = sym (true-is b (f tt))
+same-test false b f g = sym (refute b g)
+
+-- what is so for both values of a test is so
+pub by-test : (A : Bool → Type 0) → A true → A false → (b : Bool) → A b
+by-test A t f true = t
+by-test A t f false = f
+
+-- ---- lists
+
+module _ {A : Type 0} where
+  pub some-find : (f : A → Bool) (l : List A) → T (some f l) → (a : A) × (a ∈ l) × T (f a)
+  some-find f [] t = absurd t
+  some-find f (a ∷ l) t = ⊎-elim (λ h. (a, here, h)) (λ h. let w = some-find f l h in (w .0, there (w .1), w .2)) (or-cases (f a) (some f l) t)
+
+  pub some-make : (f : A → Bool) {l : List A} {a : A} → a ∈ l → T (f a) → T (some f l)
+  some-make f {a = a} (here {l = l}) t = or-left (f a) (some f l) t
+  some-make f (there {b = b} {l = l} m) t = or-right (f b) (some f l) (some-make f m t)
+
+  pub every-at : (f : A → Bool) {l : List A} {a : A} → T (every f l) → a ∈ l → T (f a)
+  every-at f {a = a} t (here {l = l}) = and-left (f a) (every f l) t
+  every-at f t (there {b = b} {l = l} m) = every-at f (and-right (f b) (every f l) t) m
+
+  pub every-make : (f : A → Bool) (l : List A) → ((a : A) → a ∈ l → T (f a)) → T (every f l)
+  every-make f [] h = tt
+  every-make f (a ∷ l) h = and-make (f a) (every f l) (h a here) (every-make f l (λ b m. h b (there m)))
+
+  pub in-left : {a : A} {l : List A} (m : List A) → a ∈ l → a ∈ (l ++ m)
+  in-left m here = here
+  in-left m (there h) = there (in-left m h)
+
+  pub in-right : {a : A} (l : List A) {m : List A} → a ∈ m → a ∈ (l ++ m)
+  in-right [] h = h
+  in-right (b ∷ l) h = there (in-right l h)
+
+  pub in-append : {a : A} (l : List A) {m : List A} → a ∈ (l ++ m) → (a ∈ l) ⊎ (a ∈ m)
+  in-append [] h = inr h
+  in-append (b ∷ l) here = inl here
+  in-append (b ∷ l) (there h) = ⊎-elim (λ k. inl (there k)) inr (in-append l h)
