@@ -88,6 +88,27 @@ half z = go (sign z)
     go (nought e) = at-least (zero-nonneg e)
     go (plus k) = at-least (pos-nonneg k)
 
+-- two numbers: of one strict sign, or weakly opposite
+pub data Signs (x y : ℤ) : Type 0 where
+  both-plus : Pos x → Pos y → Signs x y
+  both-minus : Neg x → Neg y → Signs x y
+  falling : NonNeg x → NonNeg (negℤ y) → Signs x y
+  rising : NonNeg (negℤ x) → NonNeg y → Signs x y
+
+pub signs : (x y : ℤ) → Signs x y
+signs x y = go (sign x) (sign y)
+  where
+    go : Sign x → Sign y → Signs x y
+    go (minus h) (minus k) = both-minus h k
+    go (minus h) (nought k) = rising (pos-nonneg (neg-pos h)) (zero-nonneg k)
+    go (minus h) (plus k) = rising (pos-nonneg (neg-pos h)) (pos-nonneg k)
+    go (nought h) (minus k) = falling (zero-nonneg h) (pos-nonneg (neg-pos k))
+    go (nought h) (nought k) = falling (zero-nonneg h) (zero-nonneg (ap negℤ k))
+    go (nought h) (plus k) = rising (zero-nonneg (ap negℤ h)) (pos-nonneg k)
+    go (plus h) (minus k) = falling (pos-nonneg h) (pos-nonneg (neg-pos k))
+    go (plus h) (nought k) = falling (pos-nonneg h) (zero-nonneg (ap negℤ k))
+    go (plus h) (plus k) = both-plus h k
+
 -- ---- clashes
 
 pub pos-clash {ℓ} : {A : Type ℓ} {z : ℤ} → Pos z → Neg z → A
@@ -133,6 +154,13 @@ nonneg-add-pos {x} {y} h k = record { above = omega (arith, add-balance x y) }
 
 pub nonneg-add : {x y : ℤ} → NonNeg x → NonNeg y → NonNeg (x +ℤ y)
 nonneg-add {x} {y} h k = record { least = omega (arith, add-balance x y) }
+
+-- summands that are not negative vanish with their sum
+pub sum-zero-left : {x y : ℤ} → NonNeg x → NonNeg y → x +ℤ y ≡ pos 0 → x ≡ pos 0
+sum-zero-left {x} {y} h k e = balance-eq x (pos 0) (omega (arith, add-balance x y, ap P e, ap N e, pos-P 0, pos-N 0))
+
+pub sum-zero-right : {x y : ℤ} → NonNeg x → NonNeg y → x +ℤ y ≡ pos 0 → y ≡ pos 0
+sum-zero-right {x} {y} h k e = balance-eq y (pos 0) (omega (arith, add-balance x y, ap P e, ap N e, pos-P 0, pos-N 0))
 
 -- ---- products
 
@@ -186,6 +214,9 @@ cancel-zero {k} {z} h e = go (sign z)
     go (minus m) = zero-neg e (pos-mul-neg h m)
     go (nought m) = m
     go (plus m) = zero-pos e (pos-mul h m)
+
+pub cancel-zero-right : {z k : ℤ} → Pos k → z *ℤ k ≡ pos 0 → z ≡ pos 0
+cancel-zero-right {z} {k} h e = cancel-zero h (*ℤ-comm k z ∙ e)
 
 pub cancel-pos : {k z : ℤ} → Pos k → Pos (k *ℤ z) → Pos z
 cancel-pos {k} {z} h p = go (sign z)

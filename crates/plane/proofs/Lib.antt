@@ -1,0 +1,4 @@
+-- The plane's lemmas.
+pub mod Homogeneous
+pub mod OnSegment
+pub mod Meeting
