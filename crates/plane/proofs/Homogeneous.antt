@@ -167,5 +167,10 @@ det-swap p q v =
     (opp (detᵉ first second left))
     tt
 
+pub dx-swap : (p q : HPoint) → dx q p ≡ negℤ (dx p q)
+unfolding dx
+dx-swap p q =
+    solve (pos 0 ∷ pos 0 ∷ pos 0 ∷ pos 0 ∷ p .X ∷ p .Y ∷ p .W ∷ q .X ∷ q .Y ∷ q .W ∷ []) (dxᵉ second first) (opp (dxᵉ first second)) tt
+
 pub one-times : (p : HPoint) → pos 1 ⋆ p ≡ p
 one-times p = triple-eq (one-mul (p .X)) (one-mul (p .Y)) (one-mul (p .W))

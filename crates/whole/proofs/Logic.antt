@@ -61,6 +61,15 @@ pub by-test : (A : Bool → Type 0) → A true → A false → (b : Bool) → A 
 by-test A t f true = t
 by-test A t f false = f
 
+-- a second test that follows from the first, or contradicts it
+pub and-follows : (a b : Bool) → (T a → T b) → a && b ≡ a
+and-follows true b f = true-is b (f tt)
+and-follows false b f = refl
+
+pub and-never : (a b : Bool) → (T a → T b → ⊥) → a && b ≡ false
+and-never true b f = refute b (f tt)
+and-never false b f = refl
+
 -- ---- lists
 
 module _ {A : Type 0} where

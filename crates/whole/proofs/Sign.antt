@@ -9,6 +9,7 @@ use lib.IntN.{ℤ, pos, negsuc, negℤ, _+ℤ_, _-ℤ_, _*ℤ_, zero-*ℤ, *ℤ-
 use lib.Signed.{ltZ, leZ}
 use Rattle.whole.specs.Count.{eqZ}
 use Rattle.whole.proofs.Balance.{P, N, add-balance, sub-balanceℤ, neg-P, neg-N, pos-P, pos-N, balance-eq, ltZ-read, ltZ-make, leZ-read, leZ-make, eqZ-read, eqZ-make}
+use Rattle.whole.proofs.Logic.{same-test}
 use Rattle.whole.proofs.Ring.{neg-mul, distrib-left}
 
 pub record Pos (z : ℤ) : Type 0 where
@@ -266,6 +267,16 @@ sub-zero-eq a b e = balance-eq a b (omega (arith, ap P e, ap N e, sub-balanceℤ
 
 pub zero-eqZ : (a b : ℤ) → b -ℤ a ≡ pos 0 → T (eqZ a b)
 zero-eqZ a b e = eqZ-make a b (sub-zero-eq a b e)
+
+pub ltZ-leZ : (a b : ℤ) → ltZ a b ≡ not (leZ b a)
+ltZ-leZ a b = same-test (ltZ a b) (not (leZ b a)) (λ t. not-T (leZ b a) (λ u. apart t u)) (λ t. pos-ltZ a b (back t (half (a -ℤ b))))
+  where
+    apart : T (ltZ a b) → T (leZ b a) → ⊥
+    apart t u = omega (arith, ltZ-read a b t, leZ-read b a u)
+
+    back : T (not (leZ b a)) → Half (a -ℤ b) → Pos (b -ℤ a)
+    back t (at-least h) = absurd (T-not (leZ b a) t (nonneg-leZ b a h))
+    back t (under h) = record { above = omega (arith, sub-balanceℤ a b, sub-balanceℤ b a) }
 
 -- of a single number
 pub ltZ0-pos : (z : ℤ) → T (ltZ (pos 0) z) → Pos z
