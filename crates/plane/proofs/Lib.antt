@@ -3,3 +3,5 @@ pub mod Homogeneous
 pub mod OnSegment
 pub mod Meeting
 pub mod Path
+pub mod Means
+pub mod AlongSegment
