@@ -5,3 +5,4 @@ pub mod Meeting
 pub mod Path
 pub mod Means
 pub mod AlongSegment
+pub mod Steps

@@ -73,6 +73,13 @@ and-never false b f = refl
 -- ---- lists
 
 module _ {A : Type 0} where
+  pub in-nil : {a : A} → a ∈ [] → ⊥
+  in-nil m = elim m [ ]
+
+  pub in-cons : {a b : A} {l : List A} → a ∈ (b ∷ l) → (a ≡ b) ⊎ (a ∈ l)
+  in-cons here = inl refl
+  in-cons (there m) = inr m
+
   pub some-find : (f : A → Bool) (l : List A) → T (some f l) → (a : A) × (a ∈ l) × T (f a)
   some-find f [] t = absurd t
   some-find f (a ∷ l) t = ⊎-elim (λ h. (a, here, h)) (λ h. let w = some-find f l h in (w .0, there (w .1), w .2)) (or-cases (f a) (some f l) t)

@@ -21,6 +21,9 @@ pub record NonNeg (z : ℤ) : Type 0 where
 pub record Neg (z : ℤ) : Type 0 where
   pub below : P z < N z
 
+pub record NonPos (z : ℤ) : Type 0 where
+  pub most : P z ≤ N z
+
 pub neg-pos : {z : ℤ} → Neg z → Pos (negℤ z)
 neg-pos {z} h = record { above = omega (arith, neg-P z, neg-N z) }
 
@@ -51,6 +54,12 @@ pos-nonneg h = record { least = omega arith }
 
 pub zero-nonneg : {z : ℤ} → z ≡ pos 0 → NonNeg z
 zero-nonneg {z} e = subst NonNeg (sym e) (record { least = omega (arith, pos-P 0, pos-N 0) })
+
+pub neg-nonpos : {z : ℤ} → Neg z → NonPos z
+neg-nonpos h = record { most = omega arith }
+
+pub zero-nonpos : {z : ℤ} → z ≡ pos 0 → NonPos z
+zero-nonpos {z} e = subst NonPos (sym e) (record { most = omega (arith, pos-P 0, pos-N 0) })
 
 pub one-pos : (n : ℕ) → Pos (pos (suc n))
 one-pos n = record { above = omega (arith, pos-P (suc n), pos-N (suc n)) }
@@ -122,6 +131,12 @@ pub nonneg-clash {ℓ} : {A : Type ℓ} {z : ℤ} → NonNeg z → Neg z → A
 nonneg-clash {z = z} h k = absurd (clash h k)
   where
     clash : NonNeg z → Neg z → ⊥
+    clash h k = omega arith
+
+pub nonpos-clash {ℓ} : {A : Type ℓ} {z : ℤ} → NonPos z → Pos z → A
+nonpos-clash {z = z} h k = absurd (clash h k)
+  where
+    clash : NonPos z → Pos z → ⊥
     clash h k = omega arith
 
 pub zero-pos {ℓ} : {A : Type ℓ} {z : ℤ} → z ≡ pos 0 → Pos z → A
@@ -290,3 +305,15 @@ ltZ0-neg z t = record { below = omega (arith, ltZ-read z (pos 0) t, pos-P 0, pos
 
 pub neg-ltZ0 : (z : ℤ) → Neg z → T (ltZ z (pos 0))
 neg-ltZ0 z h = ltZ-make z (pos 0) (omega (arith, pos-P 0, pos-N 0))
+
+pub leZ0-nonneg : (z : ℤ) → T (leZ (pos 0) z) → NonNeg z
+leZ0-nonneg z t = record { least = omega (arith, leZ-read (pos 0) z t, pos-P 0, pos-N 0) }
+
+pub nonneg-leZ0 : (z : ℤ) → NonNeg z → T (leZ (pos 0) z)
+nonneg-leZ0 z h = leZ-make (pos 0) z (omega (arith, pos-P 0, pos-N 0))
+
+pub ltZ-shift : (a b : ℤ) → ltZ a b ≡ ltZ (pos 0) (b -ℤ a)
+ltZ-shift a b = same-test (ltZ a b) (ltZ (pos 0) (b -ℤ a)) (λ t. pos-ltZ0 (b -ℤ a) (ltZ-pos a b t)) (λ t. pos-ltZ a b (ltZ0-pos (b -ℤ a) t))
+
+pub leZ-shift : (a b : ℤ) → leZ a b ≡ leZ (pos 0) (b -ℤ a)
+leZ-shift a b = same-test (leZ a b) (leZ (pos 0) (b -ℤ a)) (λ t. nonneg-leZ0 (b -ℤ a) (leZ-nonneg a b t)) (λ t. nonneg-leZ a b (leZ0-nonneg (b -ℤ a) t))
