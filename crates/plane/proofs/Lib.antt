@@ -6,3 +6,4 @@ pub mod Path
 pub mod Means
 pub mod AlongSegment
 pub mod Steps
+pub mod Flip

@@ -15,7 +15,7 @@ use Rattle.whole.proofs.Logic.{and-left, and-right, and-make, and-follows, and-
 use Rattle.whole.proofs.Parity.{_⊻_, xor-none, xor-assoc, parity, parity-cons, parity-nil, parity-same, parity-xor, even-all}
 use Rattle.plane.specs.declared.Point.{Point}
 use Rattle.plane.specs.declared.Segment.{Segment}
-use Rattle.plane.specs.Plane.{HPoint, grid, sideAt, samePoint, countsBelow}
+use Rattle.plane.specs.Plane.{HPoint, grid, sideAt, samePoint, sameSegment, countsBelow}
 use Rattle.plane.proofs.Homogeneous.{det, dx, dx-swap, first, second, dxᵉ, values₂, seen-from-left, seen-from-right, seen-from-first, seen-from-second}
 use Rattle.plane.proofs.Meeting.{Clear, aligned, path-over, path-under, ends-over, ends-under, clear-swap}
 
@@ -186,6 +186,15 @@ same-point p q t =
 pub same-point-refl : (p : Point) → T (samePoint p p)
 unfolding samePoint
 same-point-refl p = and-make (eqZ (p .x) (p .x)) (eqZ (p .y) (p .y)) (eqZ-make (p .x) (p .x) refl) (eqZ-make (p .y) (p .y) refl)
+
+pub same-segment : (s t : Segment) → T (sameSegment s t) → s ≡ t
+unfolding sameSegment
+same-segment s t h =
+    λ i. record { left = same-point (s .left) (t .left) (and-left (samePoint (s .left) (t .left)) (samePoint (s .right) (t .right)) h) i; right = same-point (s .right) (t .right) (and-right (samePoint (s .left) (t .left)) (samePoint (s .right) (t .right)) h) i }
+
+pub same-segment-refl : (s : Segment) → T (sameSegment s s)
+unfolding sameSegment
+same-segment-refl s = and-make (samePoint (s .left) (s .left)) (samePoint (s .right) (s .right)) (same-point-refl (s .left)) (same-point-refl (s .right))
 
 ends : List Segment → List Point
 ends [] = []

@@ -72,26 +72,26 @@ stays n e h = ap (λ x. x +ℤ e) (mul-zero-right (pos n) h) ∙ +ℤ-idl e
 
 -- ---- so its tests are those of z, moved by the sign of e
 
-positive : ℤ → Bool
+unfoldable pub positive : ℤ → Bool
 positive z = ltZ (pos 0) z
 
-atLeast : ℤ → Bool
+unfoldable pub atLeast : ℤ → Bool
 atLeast z = leZ (pos 0) z
 
 module _ {z : ℤ} where
-  positive-yes : Pos z → positive z ≡ true
+  pub positive-yes : Pos z → positive z ≡ true
   unfolding positive
   positive-yes h = true-is (ltZ (pos 0) z) (pos-ltZ0 z h)
 
-  positive-no : NonPos z → positive z ≡ false
+  pub positive-no : NonPos z → positive z ≡ false
   unfolding positive
   positive-no h = refute (ltZ (pos 0) z) (λ t. nonpos-clash h (ltZ0-pos z t))
 
-  at-least-yes : NonNeg z → atLeast z ≡ true
+  pub at-least-yes : NonNeg z → atLeast z ≡ true
   unfolding atLeast
   at-least-yes h = true-is (leZ (pos 0) z) (nonneg-leZ0 z h)
 
-  at-least-no : Neg z → atLeast z ≡ false
+  pub at-least-no : Neg z → atLeast z ≡ false
   unfolding atLeast
   at-least-no h = refute (leZ (pos 0) z) (λ t. nonneg-clash (leZ0-nonneg z t) h)
 
@@ -173,30 +173,31 @@ away-moved s d p (past e h) = large-map (λ n k. past e (subst Neg (sym (under-r
 -- ---- a count below, moved
 
 -- p's x is within the segment's, which is not upright
-record InRange (s : Segment) (p : HPoint) : Type 0 where
-  from-left : NonNeg (p .X -ℤ s .left .x *ℤ p .W)
-  to-right : NonNeg (s .right .x *ℤ p .W -ℤ p .X)
-  wide : Pos (p .X -ℤ s .left .x *ℤ p .W +ℤ (s .right .x *ℤ p .W -ℤ p .X))
+pub record InRange (s : Segment) (p : HPoint) : Type 0 where
+  pub from-left : NonNeg (p .X -ℤ s .left .x *ℤ p .W)
+  pub to-right : NonNeg (s .right .x *ℤ p .W -ℤ p .X)
+  pub wide : Pos (p .X -ℤ s .left .x *ℤ p .W +ℤ (s .right .x *ℤ p .W -ℤ p .X))
+
+-- an upright segment has no width
+no-width : (s : Segment) (p : HPoint) → s .right .x -ℤ s .left .x ≡ pos 0 → p .X -ℤ s .left .x *ℤ p .W +ℤ (s .right .x *ℤ p .W -ℤ p .X) ≡ pos 0
+no-width s p e =
+    solve (s .left .x ∷ s .right .x ∷ p .X ∷ p .W ∷ []) (var 2 :- var 0 :* var 3 :+ (var 1 :* var 3 :- var 2)) ((var 1 :- var 0) :* var 3) tt
+    ∙ mul-zero-left (p .W) e
 
 -- there a point away from s is over it or beneath it, and stays so
 side-stable : (s : Segment) (d p : HPoint) → Away s p → (r : Bool) → (T r → InRange s p)
     → Large (λ n. T r → positive (sideAt s (step d p n)) ≡ positive (sideAt s p))
 side-stable s d p away r f = go away
   where
-    width-zero : s .right .x -ℤ s .left .x ≡ pos 0 → p .X -ℤ s .left .x *ℤ p .W +ℤ (s .right .x *ℤ p .W -ℤ p .X) ≡ pos 0
-    width-zero e =
-        solve (s .left .x ∷ s .right .x ∷ p .X ∷ p .W ∷ []) (var 2 :- var 0 :* var 3 :+ (var 1 :* var 3 :- var 2)) ((var 1 :- var 0) :* var 3) tt
-        ∙ mul-zero-left (p .W) e
-
     go : Away s p → Large (λ n. T r → positive (sideAt s (step d p n)) ≡ positive (sideAt s p))
     go (over h) = large-map (λ n k t. positive-yes (subst Pos (sym (side-moved s d p n)) k) ∙ sym (positive-yes h)) (grows (sideAt s d) h)
     go (beneath h) = large-map (λ n k t. positive-no (neg-nonpos (subst Neg (sym (side-moved s d p n)) k)) ∙ sym (positive-no (neg-nonpos h))) (shrinks (sideAt s d) h)
     go (leftward h) = large-all (λ n t. nonneg-clash (f t .from-left) h)
     go (rightward h) = large-all (λ n t. nonneg-clash (f t .to-right) h)
-    go (short e h) = large-all (λ n t. zero-pos (width-zero e) (f t .wide))
-    go (past e h) = large-all (λ n t. zero-pos (width-zero e) (f t .wide))
+    go (short e h) = large-all (λ n t. zero-pos (no-width s p e) (f t .wide))
+    go (past e h) = large-all (λ n t. zero-pos (no-width s p e) (f t .wide))
 
-positive-is : (z : ℤ) → T (positive z) → Pos z
+pub positive-is : (z : ℤ) → T (positive z) → Pos z
 unfolding positive
 positive-is z t = ltZ0-pos z t
 
@@ -205,18 +206,18 @@ unfolding atLeast
 at-least-is z t = leZ0-nonneg z t
 
 -- the counts, as tests of signs: one of the two ends of the range is strict
-inCount : Segment → HPoint → Bool
+unfoldable pub inCount : Segment → HPoint → Bool
 inCount s p = atLeast (p .X -ℤ s .left .x *ℤ p .W) && positive (s .right .x *ℤ p .W -ℤ p .X)
 
-inLeftCount : Segment → HPoint → Bool
+unfoldable pub inLeftCount : Segment → HPoint → Bool
 inLeftCount s p = positive (p .X -ℤ s .left .x *ℤ p .W) && atLeast (s .right .x *ℤ p .W -ℤ p .X)
 
-count-tests : (s : Segment) (p : HPoint) → countsBelow p s ≡ inCount s p && positive (sideAt s p)
+pub count-tests : (s : Segment) (p : HPoint) → countsBelow p s ≡ inCount s p && positive (sideAt s p)
 unfolding countsBelow inCount positive atLeast
 count-tests s p =
     ap₂ (λ a b. a && b && ltZ (pos 0) (sideAt s p)) (leZ-shift (s .left .x *ℤ p .W) (p .X)) (ltZ-shift (p .X) (s .right .x *ℤ p .W))
 
-left-count-tests : (s : Segment) (p : HPoint) → countsBelowLeft p s ≡ inLeftCount s p && positive (sideAt s p)
+pub left-count-tests : (s : Segment) (p : HPoint) → countsBelowLeft p s ≡ inLeftCount s p && positive (sideAt s p)
 unfolding countsBelowLeft inLeftCount positive atLeast
 left-count-tests s p =
     ap₂ (λ a b. a && b && ltZ (pos 0) (sideAt s p)) (ltZ-shift (s .left .x *ℤ p .W) (p .X)) (leZ-shift (p .X) (s .right .x *ℤ p .W))
@@ -228,7 +229,7 @@ count-range s p t =
     let b = positive-is (s .right .x *ℤ p .W -ℤ p .X) (and-right (atLeast (p .X -ℤ s .left .x *ℤ p .W)) (positive (s .right .x *ℤ p .W -ℤ p .X)) t) in
     record { from-left = a; to-right = pos-nonneg b; wide = nonneg-add-pos a b }
 
-left-count-range : (s : Segment) (p : HPoint) → T (inLeftCount s p) → InRange s p
+pub left-count-range : (s : Segment) (p : HPoint) → T (inLeftCount s p) → InRange s p
 unfolding inLeftCount
 left-count-range s p t =
     let a = positive-is (p .X -ℤ s .left .x *ℤ p .W) (and-left (positive (p .X -ℤ s .left .x *ℤ p .W)) (atLeast (s .right .x *ℤ p .W -ℤ p .X)) t) in
@@ -236,13 +237,13 @@ left-count-range s p t =
     record { from-left = pos-nonneg a; to-right = b; wide = pos-add-nonneg a b }
 
 -- an upright segment never counts
-pub upright-never : (s : Segment) (p : HPoint) → s .right .x -ℤ s .left .x ≡ pos 0 → countsBelow p s ≡ false
-upright-never s p e = count-tests s p ∙ and-never (inCount s p) (positive (sideAt s p)) (λ t u. zero-pos zero (count-range s p t .wide))
-  where
-    zero : p .X -ℤ s .left .x *ℤ p .W +ℤ (s .right .x *ℤ p .W -ℤ p .X) ≡ pos 0
-    zero =
-        solve (s .left .x ∷ s .right .x ∷ p .X ∷ p .W ∷ []) (var 2 :- var 0 :* var 3 :+ (var 1 :* var 3 :- var 2)) ((var 1 :- var 0) :* var 3) tt
-        ∙ mul-zero-left (p .W) e
+module _ (s : Segment) (p : HPoint) (e : s .right .x -ℤ s .left .x ≡ pos 0) where
+  pub upright-never : countsBelow p s ≡ false
+  upright-never = count-tests s p ∙ and-never (inCount s p) (positive (sideAt s p)) (λ t u. zero-pos (no-width s p e) (count-range s p t .wide))
+
+  pub upright-never-left : countsBelowLeft p s ≡ false
+  upright-never-left =
+      left-count-tests s p ∙ and-never (inLeftCount s p) (positive (sideAt s p)) (λ t u. zero-pos (no-width s p e) (left-count-range s p t .wide))
 
 module _ (s : Segment) (d p : HPoint) (away : Away s p) where
   -- a count of the moved point is a count of p, if its range is
