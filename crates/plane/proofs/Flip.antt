@@ -11,7 +11,7 @@ use lib.Signed.{ltZ}
 use Rattle.whole.specs.Count.{eqZ, _∈_}
 use Rattle.whole.proofs.Balance.{eqZ-read}
 use Rattle.whole.proofs.Solver.{Exp, var, con, opp, _:+_, _:-_, _:*_, solve}
-use Rattle.whole.proofs.Sign.{Pos, NonNeg, Neg, NonPos, Sign, minus, nought, plus, sign, pos-nonneg, zero-nonneg, zero-nonpos, neg-nonpos, neg-pos, pos-neg, neg-of-pos, pos-of-neg, pos-clash, nonneg-clash, zero-pos, zero-neg, pos-add, pos-mul, pos-mul-neg, cancel-pos, mul-zero-left, mul-zero-right, eqZ-zero, zero-eqZ, ltZ-shift, one-pos}
+use Rattle.whole.proofs.Sign.{Half, at-least, under, half, nonneg-mul, Pos, NonNeg, Neg, NonPos, Sign, minus, nought, plus, sign, pos-nonneg, zero-nonneg, zero-nonpos, neg-nonpos, neg-pos, pos-neg, neg-of-pos, pos-of-neg, pos-clash, nonneg-clash, zero-pos, zero-neg, pos-add, pos-mul, pos-mul-neg, cancel-pos, mul-zero-left, mul-zero-right, eqZ-zero, zero-eqZ, ltZ-shift, one-pos}
 use Rattle.whole.proofs.Logic.{true-is, refute, and-never}
 use Rattle.whole.proofs.Parity.{_⊻_, xor-same, xor-false, xor-comm, xor-assoc, xor-move, parity, parity-same, parity-xor}
 use Rattle.plane.specs.declared.Point.{Point}
@@ -38,10 +38,10 @@ abbrev pub leftwards : HPoint
 leftwards = record { X = negsuc 0; Y = pos 0; W = pos 0 }
 
 -- a direction's x, seen from any point
-seen-x : (x c : ℤ) → x -ℤ c *ℤ pos 0 ≡ x
+pub seen-x : (x c : ℤ) → x -ℤ c *ℤ pos 0 ≡ x
 seen-x x c = solve (x ∷ c ∷ []) (var 0 :- var 1 :* con (pos 0)) (var 0) tt
 
-seen-back : (x c : ℤ) → c *ℤ pos 0 -ℤ x ≡ negℤ x
+pub seen-back : (x c : ℤ) → c *ℤ pos 0 -ℤ x ≡ negℤ x
 seen-back x c = solve (x ∷ c ∷ []) (var 1 :* con (pos 0) :- var 0) (opp (var 0)) tt
 
 -- ---- below a point on its upright line
@@ -61,13 +61,20 @@ module _ (p : HPoint) (v : Point) where
   unfolding straightUnder positive
   under-some e = ap₂ (λ a b. a && b) (true-is (eqZ (v .x *ℤ p .W) (p .X)) (zero-eqZ (v .x *ℤ p .W) (p .X) e)) (ltZ-shift (v .y *ℤ p .W) (p .Y))
 
-positive-times : {k : ℤ} (z : ℤ) → Pos k → positive (k *ℤ z) ≡ positive z
+pub positive-times : {k : ℤ} (z : ℤ) → Pos k → positive (k *ℤ z) ≡ positive z
 positive-times {k} z h = go (sign z)
   where
     go : Sign z → positive (k *ℤ z) ≡ positive z
     go (minus m) = positive-no (neg-nonpos (pos-mul-neg h m)) ∙ sym (positive-no (neg-nonpos m))
     go (nought m) = positive-no (zero-nonpos (mul-zero-right k m)) ∙ sym (positive-no (zero-nonpos m))
     go (plus m) = positive-yes (pos-mul h m) ∙ sym (positive-yes m)
+
+pub at-least-times : {k : ℤ} (z : ℤ) → Pos k → atLeast (k *ℤ z) ≡ atLeast z
+at-least-times {k} z h = go (half z)
+  where
+    go : Half z → atLeast (k *ℤ z) ≡ atLeast z
+    go (at-least m) = at-least-yes (nonneg-mul (pos-nonneg h) m) ∙ sym (at-least-yes m)
+    go (under m) = at-least-no (pos-mul-neg h m) ∙ sym (at-least-no m)
 
 -- ---- the left count differs from the count by the ends straight under the point
 

@@ -7,3 +7,4 @@ pub mod Means
 pub mod AlongSegment
 pub mod Steps
 pub mod Flip
+pub mod Topmost

@@ -222,7 +222,7 @@ unfolding countsBelowLeft inLeftCount positive atLeast
 left-count-tests s p =
     ap₂ (λ a b. a && b && ltZ (pos 0) (sideAt s p)) (ltZ-shift (s .left .x *ℤ p .W) (p .X)) (leZ-shift (p .X) (s .right .x *ℤ p .W))
 
-count-range : (s : Segment) (p : HPoint) → T (inCount s p) → InRange s p
+pub count-range : (s : Segment) (p : HPoint) → T (inCount s p) → InRange s p
 unfolding inCount
 count-range s p t =
     let a = at-least-is (p .X -ℤ s .left .x *ℤ p .W) (and-left (atLeast (p .X -ℤ s .left .x *ℤ p .W)) (positive (s .right .x *ℤ p .W -ℤ p .X)) t) in

@@ -178,6 +178,9 @@ sum-zero-left {x} {y} h k e = balance-eq x (pos 0) (omega (arith, add-balance x 
 pub sum-zero-right : {x y : ℤ} → NonNeg x → NonNeg y → x +ℤ y ≡ pos 0 → y ≡ pos 0
 sum-zero-right {x} {y} h k e = balance-eq y (pos 0) (omega (arith, add-balance x y, ap P e, ap N e, pos-P 0, pos-N 0))
 
+pub neg-sub-pos : {x y : ℤ} → Neg x → Pos y → Neg (x -ℤ y)
+neg-sub-pos {x} {y} h k = record { below = omega (arith, sub-balanceℤ x y) }
+
 -- ---- products
 
 pub pos-mul : {x y : ℤ} → Pos x → Pos y → Pos (x *ℤ y)
