@@ -2,3 +2,4 @@
 pub mod Homogeneous
 pub mod OnSegment
 pub mod Meeting
+pub mod Scale
