@@ -3,3 +3,4 @@ pub mod Homogeneous
 pub mod OnSegment
 pub mod Meeting
 pub mod Scale
+pub mod Touch
