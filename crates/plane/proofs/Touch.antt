@@ -3,54 +3,72 @@
 use mathlib.Core.Path.{_≡_, refl, sym, ap, ap₂, _∙_, subst, subst₂}
 use mathlib.Core.Logic.{_⊎_, inl, inr, ⊎-elim}
 use mathlib.Core.Bool.{Bool, true, false, not, _&&_, _||_, and-comm}
-use mathlib.Core.List.{List, [], _∷_}
+use mathlib.Core.List.{[], _∷_}
 use lib.Dec.{T, T-not, not-T}
 use lib.IntN.{ℤ, pos, negℤ, _+ℤ_, _-ℤ_, _*ℤ_, *ℤ-comm}
 use lib.Signed.{ltZ}
 use Rattle.whole.specs.Count.{eqZ}
 use Rattle.whole.proofs.Ring.{one-mul}
-use Rattle.whole.proofs.Solver.{Exp, var, con, opp, _:+_, _:-_, _:*_, solve}
+use Rattle.whole.proofs.Solver.{var, con, opp, _:+_, _:-_, _:*_, solve}
 use Rattle.whole.proofs.Balance.{eqZ-read, eqZ-make}
-use Rattle.whole.proofs.Sign.{Pos, NonNeg, Neg, Sign, minus, nought, plus, sign, Weak, weak-zero, weak-plus, weak, pos-nonneg, zero-nonneg, neg-pos, pos-neg, neg-of-pos, pos-clash, nonneg-clash, zero-pos, zero-neg, pos-add, pos-add-nonneg, nonneg-add-pos, sum-zero-left, sum-zero-right, pos-mul, pos-mul-neg, neg-mul-pos, neg-mul-neg, mul-zero-left, mul-zero-right, cancel-zero, cancel-pos, cancel-neg, eqZ-zero, zero-eqZ, sub-zero-eq, one-pos, lit-nonneg, ltZ0-pos, pos-ltZ0, ltZ0-neg, neg-ltZ0}
+use Rattle.whole.proofs.Sign.{Pos, NonNeg, Neg, Sign, minus, nought, plus, sign, Weak, weak-zero, weak-plus, weak, pos-nonneg, zero-nonneg, neg-pos, pos-neg, pos-clash, nonneg-clash, zero-pos, zero-neg, pos-add, pos-add-nonneg, nonneg-add-pos, sum-zero-left, sum-zero-right, pos-mul, pos-mul-neg, neg-mul-pos, neg-mul-neg, mul-zero-left, mul-zero-right, cancel-zero, cancel-pos, cancel-neg, eqZ-zero, sub-zero-eq, one-pos, lit-nonneg, ltZ0-pos, pos-ltZ0, ltZ0-neg, neg-ltZ0}
 use Rattle.whole.proofs.Logic.{and-left, and-right, and-make, or-cases, or-left, or-right, decide}
 use Rattle.plane.specs.declared.Point.{Point}
 use Rattle.plane.specs.declared.Segment.{Segment}
-use Rattle.plane.specs.Plane.{HPoint, grid, fractions, samePoint, sameSegment, side, sideAt, isAt, on, isEnd, SharePoint, opposite, cross, endWithin, touch}
-use Rattle.plane.proofs.Homogeneous.{_⋆_, _⊞_, triple, triple-eq, gridᵉ, det, sideAt-det, side-grid, sideᵉ, sideAtᵉ, left, right, first, second}
+use Rattle.plane.specs.Plane.{HPoint, grid, fractions, samePoint, sameSegment, sideAt, isAt, on, isEnd, SharePoint, opposite, cross, endWithin, touch}
+use Rattle.plane.proofs.Homogeneous.{_⋆_, triple, triple-eq, gridᵉ, det, sideAt-det, side-grid, sideᵉ, sideAtᵉ, left, right, first, second}
 use Rattle.plane.proofs.OnSegment.{Ordered, slanting, upright, Between, Along, right-of-left, above-left, left-of-right, below-right, on-line, Away, over, beneath, leftward, rightward, short, past, on-or-away, along-on, on-along}
 use Rattle.plane.proofs.Meeting.{Clear, aligned, path-over, path-under, ends-over, ends-under, Meets, between-swap, clear-or-meets}
 use Rattle.plane.proofs.Scale.{ScaleFree, sideAt-scale, on-scale, isEnd-scale, fractions-pos, as-fractions, at-fractions}
 
--- ---- equal segments
+-- ---- equal points and segments
+
+both-equal : (a b c d : ℤ) → T (eqZ a b && eqZ c d) → (a ≡ b) × (c ≡ d)
+both-equal a b c d t = (eqZ-read a b (and-left (eqZ a b) (eqZ c d) t), eqZ-read c d (and-right (eqZ a b) (eqZ c d) t))
+
+make-equal : (a b c d : ℤ) → a ≡ b → c ≡ d → T (eqZ a b && eqZ c d)
+make-equal a b c d e f = and-make (eqZ a b) (eqZ c d) (eqZ-make a b e) (eqZ-make c d f)
 
 point-eq : {p q : Point} → p .x ≡ q .x → p .y ≡ q .y → p ≡ q
 point-eq e f = λ i. record { x = e i; y = f i }
 
+segment-eq : {s t : Segment} → s .left ≡ t .left → s .right ≡ t .right → s ≡ t
+segment-eq e f = λ i. record { left = e i; right = f i }
+
 pub samePoint-read : (p q : Point) → T (samePoint p q) → p ≡ q
 unfolding samePoint
 samePoint-read p q t =
-    let e = eqZ-read (p .x) (q .x) (and-left (eqZ (p .x) (q .x)) (eqZ (p .y) (q .y)) t) in
-    let f = eqZ-read (p .y) (q .y) (and-right (eqZ (p .x) (q .x)) (eqZ (p .y) (q .y)) t) in
-    point-eq e f
+    let r = both-equal (p .x) (q .x) (p .y) (q .y) t in
+    point-eq (r .0) (r .1)
+
+pub samePoint-refl : (p : Point) → T (samePoint p p)
+unfolding samePoint
+samePoint-refl p = make-equal (p .x) (p .x) (p .y) (p .y) refl refl
 
 pub sameSegment-read : (s t : Segment) → T (sameSegment s t) → s ≡ t
 unfolding sameSegment
 sameSegment-read s t h =
-    let e = samePoint-read (s .left) (t .left) (and-left (samePoint (s .left) (t .left)) (samePoint (s .right) (t .right)) h) in
-    let f = samePoint-read (s .right) (t .right) (and-right (samePoint (s .left) (t .left)) (samePoint (s .right) (t .right)) h) in
-    λ i. record { left = e i; right = f i }
+    segment-eq (samePoint-read (s .left) (t .left) (and-left (samePoint (s .left) (t .left)) (samePoint (s .right) (t .right)) h))
+    (samePoint-read (s .right) (t .right) (and-right (samePoint (s .left) (t .left)) (samePoint (s .right) (t .right)) h))
 
--- ---- a point at a grid point is a multiple of it
+pub sameSegment-refl : (s : Segment) → T (sameSegment s s)
+unfolding sameSegment
+sameSegment-refl s =
+    and-make (samePoint (s .left) (s .left)) (samePoint (s .right) (s .right)) (samePoint-refl (s .left)) (samePoint-refl (s .right))
+
+-- ---- points at a grid point, which are its multiples
 
 pub isAt-read : (e : Point) (p : HPoint) → T (isAt e p) → (e .x *ℤ p .W ≡ p .X) × (e .y *ℤ p .W ≡ p .Y)
 unfolding isAt
-isAt-read e p t =
-    (eqZ-read (e .x *ℤ p .W) (p .X) (and-left (eqZ (e .x *ℤ p .W) (p .X)) (eqZ (e .y *ℤ p .W) (p .Y)) t), eqZ-read (e .y *ℤ p .W) (p .Y) (and-right (eqZ (e .x *ℤ p .W) (p .X)) (eqZ (e .y *ℤ p .W) (p .Y)) t))
+isAt-read e p t = both-equal (e .x *ℤ p .W) (p .X) (e .y *ℤ p .W) (p .Y) t
 
 pub isAt-make : (e : Point) (p : HPoint) → e .x *ℤ p .W ≡ p .X → e .y *ℤ p .W ≡ p .Y → T (isAt e p)
 unfolding isAt
-isAt-make e p f g =
-    and-make (eqZ (e .x *ℤ p .W) (p .X)) (eqZ (e .y *ℤ p .W) (p .Y)) (eqZ-make (e .x *ℤ p .W) (p .X) f) (eqZ-make (e .y *ℤ p .W) (p .Y) g)
+isAt-make e p f g = make-equal (e .x *ℤ p .W) (p .X) (e .y *ℤ p .W) (p .Y) f g
+
+pub isEnd-read : (s : Segment) (p : HPoint) → T (isEnd s p) → T (isAt (s .left) p) ⊎ T (isAt (s .right) p)
+unfolding isEnd
+isEnd-read s p t = or-cases (isAt (s .left) p) (isAt (s .right) p) t
 
 times-one : (z : ℤ) → z *ℤ pos 1 ≡ z
 times-one z = *ℤ-comm z (pos 1) ∙ one-mul z
@@ -152,19 +170,32 @@ pub inner-weights : (s : Segment) (p : HPoint) (h : Along s p) → T (not (isEnd
 unfolding isEnd
 inner-weights s p h n = (by-a (weak (h .a-least)), by-b (weak (h .b-least)))
   where
-    by-b : Weak (h .b) → Pos (h .b)
-    by-b (weak-plus k) = k
-    by-b (weak-zero e) =
-        absurd (T-not (isEnd s p) n (or-left (isAt (s .left) p) (isAt (s .right) p)
-        (isAt-make (s .left) p (sub-zero-eq (s .left .x *ℤ p .W) (p .X) (cancel-zero (h .k-pos) (right-of-left s p h ∙ mul-zero-left (s .right .x -ℤ s .left .x) e)))
-        (sub-zero-eq (s .left .y *ℤ p .W) (p .Y) (cancel-zero (h .k-pos) (above-left s p h ∙ mul-zero-left (s .right .y -ℤ s .left .y) e))))))
+    width : ℤ
+    width = s .right .x -ℤ s .left .x
+
+    height : ℤ
+    height = s .right .y -ℤ s .left .y
+
+    none : {m z : ℤ} (w : ℤ) → m ≡ pos 0 → h .k *ℤ z ≡ m *ℤ w → z ≡ pos 0
+    none w e f = cancel-zero (h .k-pos) (f ∙ mul-zero-left w e)
+
+    at-left : h .b ≡ pos 0 → T (isAt (s .left) p)
+    at-left e =
+        isAt-make (s .left) p (sub-zero-eq (s .left .x *ℤ p .W) (p .X) (none width e (right-of-left s p h)))
+        (sub-zero-eq (s .left .y *ℤ p .W) (p .Y) (none height e (above-left s p h)))
+
+    at-right : h .a ≡ pos 0 → T (isAt (s .right) p)
+    at-right e =
+        isAt-make (s .right) p (sym (sub-zero-eq (p .X) (s .right .x *ℤ p .W) (none width e (left-of-right s p h))))
+        (sym (sub-zero-eq (p .Y) (s .right .y *ℤ p .W) (none height e (below-right s p h))))
 
     by-a : Weak (h .a) → Pos (h .a)
     by-a (weak-plus k) = k
-    by-a (weak-zero e) =
-        absurd (T-not (isEnd s p) n (or-right (isAt (s .left) p) (isAt (s .right) p)
-        (isAt-make (s .right) p (sym (sub-zero-eq (p .X) (s .right .x *ℤ p .W) (cancel-zero (h .k-pos) (left-of-right s p h ∙ mul-zero-left (s .right .x -ℤ s .left .x) e))))
-        (sym (sub-zero-eq (p .Y) (s .right .y *ℤ p .W) (cancel-zero (h .k-pos) (below-right s p h ∙ mul-zero-left (s .right .y -ℤ s .left .y) e)))))))
+    by-a (weak-zero e) = absurd (T-not (isEnd s p) n (or-right (isAt (s .left) p) (isAt (s .right) p) (at-right e)))
+
+    by-b : Weak (h .b) → Pos (h .b)
+    by-b (weak-plus k) = k
+    by-b (weak-zero e) = absurd (T-not (isEnd s p) n (or-left (isAt (s .left) p) (isAt (s .right) p) (at-left e)))
 
 inner-after : (s : Segment) (p : HPoint) → Ordered s → (h : Along s p) → Pos (h .b) → After (s .left) p
 inner-after s p o h b =
@@ -195,8 +226,7 @@ between-along s p o z a b = ⊎-elim (λ h. h) off (on-or-away s o p)
     off (past e h) = nonneg-clash (onward-y (sum-zero-right (onward-x a) (onward-x b) (split e)) b) h
 
 between-no-end : (s : Segment) (p : HPoint) → After (s .left) p → Before (s .right) p → T (not (isEnd s p))
-unfolding isEnd
-between-no-end s p a b = not-T (isEnd s p) (λ t. ⊎-elim at-left at-right (or-cases (isAt (s .left) p) (isAt (s .right) p) t))
+between-no-end s p a b = not-T (isEnd s p) (λ t. ⊎-elim at-left at-right (isEnd-read s p t))
   where
     no-step : (a b : ℤ) → a ≡ b → b -ℤ a ≡ pos 0
     no-step a b e = eqZ-zero a b (eqZ-make a b e)
@@ -278,6 +308,10 @@ sideAt-mean s {u} {v} {p} h =
     (var 10 :* sideAtᵉ first :+ var 11 :* sideAtᵉ second)
     tt
 
+-- the ends of t lie strictly on opposite sides of the line of s
+abbrev Across : Segment → Segment → Type 0
+Across s t = Opposite (sideAt s (grid (t .left))) (sideAt s (grid (t .right)))
+
 -- the side values of each segment's ends against the other differ by the same
 sides-differ : (s t : Segment)
     → sideAt s (grid (t .right)) -ℤ sideAt s (grid (t .left)) ≡ sideAt t (grid (s .left)) -ℤ sideAt t (grid (s .right))
@@ -288,9 +322,9 @@ sides-differ s t =
     (sideᵉ (var 4) (var 5) (var 6) (var 7) left :- sideᵉ (var 4) (var 5) (var 6) (var 7) right)
     tt
 
-both-level : {A : Type 0} (s t : Segment) → Opposite (sideAt s (grid (t .left))) (sideAt s (grid (t .right)))
-    → sideAt t (grid (s .left)) ≡ pos 0 → sideAt t (grid (s .right)) ≡ pos 0 → A
-both-level s t a e f =
+-- so where one segment is across the other's line, the other is not within its line
+across-line : {A : Type 0} (s t : Segment) → Across s t → sideAt t (grid (s .left)) ≡ pos 0 → sideAt t (grid (s .right)) ≡ pos 0 → A
+across-line s t a e f =
     opposite-differ a (sub-zero-eq (sideAt s (grid (t .left))) (sideAt s (grid (t .right))) (sides-differ s t ∙ ap₂ _-ℤ_ e f))
 
 cross-sides : (s t : Segment)
@@ -299,17 +333,17 @@ cross-sides : (s t : Segment)
 unfolding cross
 cross-sides s t = simp side-grid
 
-cross-make : (s t : Segment) → Opposite (sideAt s (grid (t .left))) (sideAt s (grid (t .right)))
-    → Opposite (sideAt t (grid (s .left))) (sideAt t (grid (s .right))) → T (cross s t)
+cross-make : (s t : Segment) → Across s t → Across t s → T (cross s t)
 cross-make s t a b =
     subst T (sym (cross-sides s t))
     (and-make (opposite (sideAt s (grid (t .left))) (sideAt s (grid (t .right)))) (opposite (sideAt t (grid (s .left))) (sideAt t (grid (s .right))))
     (opposite-make (sideAt s (grid (t .left))) (sideAt s (grid (t .right))) a) (opposite-make (sideAt t (grid (s .left))) (sideAt t (grid (s .right))) b))
 
-cross-read : (s t : Segment) → T (cross s t)
-    → Opposite (sideAt s (grid (t .left))) (sideAt s (grid (t .right))) × Opposite (sideAt t (grid (s .left))) (sideAt t (grid (s .right)))
-cross-read s t h =
-    (opposite-read (sideAt s (grid (t .left))) (sideAt s (grid (t .right))) (and-left one other both), opposite-read (sideAt t (grid (s .left))) (sideAt t (grid (s .right))) (and-right one other both))
+cross-read : (s t : Segment) → T (cross s t) → Across s t × Across t s
+cross-read s t h = (
+  opposite-read (sideAt s (grid (t .left))) (sideAt s (grid (t .right))) (and-left one other both),
+  opposite-read (sideAt t (grid (s .left))) (sideAt t (grid (s .right))) (and-right one other both),
+)
   where
     one : Bool
     one = opposite (sideAt s (grid (t .left))) (sideAt s (grid (t .right)))
@@ -322,8 +356,11 @@ cross-read s t h =
 
 -- ---- the test, taken apart: they cross, or an end of t lies strictly inside s, or an end of s inside t
 
+abbrev EndWithin : Segment → Segment → Type 0
+EndWithin s t = T (endWithin s (t .left)) ⊎ T (endWithin s (t .right))
+
 abbrev Touching : Segment → Segment → Type 0
-Touching s t = T (cross s t) ⊎ ((T (endWithin s (t .left)) ⊎ T (endWithin s (t .right))) ⊎ (T (endWithin t (s .left)) ⊎ T (endWithin t (s .right))))
+Touching s t = T (cross s t) ⊎ (EndWithin s t ⊎ EndWithin t s)
 
 touch-read : (s t : Segment) → T (touch s t) → Touching s t
 unfolding touch
@@ -355,10 +392,9 @@ touch-make s t n h =
 -- ---- no touch, no common point but common ends
 
 -- an end of s on t that is no end of t
-end-on : (s t : Segment) (p : HPoint) → Ordered t → Pos (p .W) → T (isEnd s p) → Along t p → T (not (isEnd t p)) → T (endWithin t (s .left)) ⊎ T (endWithin t (s .right))
-unfolding isEnd endWithin
-end-on s t p o w e h n =
-    ⊎-elim (λ k. inl (at (s .left) k)) (λ k. inr (at (s .right) k)) (or-cases (isAt (s .left) p) (isAt (s .right) p) e)
+end-on : (s t : Segment) (p : HPoint) → Ordered t → Pos (p .W) → T (isEnd s p) → Along t p → T (not (isEnd t p)) → EndWithin t s
+unfolding endWithin
+end-on s t p o w e h n = ⊎-elim (λ k. inl (at (s .left) k)) (λ k. inr (at (s .right) k)) (isEnd-read s p e)
   where
     at : (v : Point) → T (isAt v p) → T (endWithin t v)
     at v k =
@@ -384,8 +420,8 @@ inside-both s t p o u n w h k hn kn = go (sides s t h k kn) (sides t s k h hn)
 
     go : Balance (sideAt s (grid (t .left))) (sideAt s (grid (t .right))) → Balance (sideAt t (grid (s .left))) (sideAt t (grid (s .right))) → Touching s t
     go (tipped a) (tipped b) = inl (cross-make s t a b)
-    go (tipped a) (level e f) = both-level s t a e f
-    go (level e f) (tipped b) = both-level t s b e f
+    go (tipped a) (level e f) = across-line s t a e f
+    go (level e f) (tipped b) = across-line t s b e f
     go (level e f) (level e′ f′) = on-one-line (compare (s .left) (t .left)) (compare (s .right) (t .right))
       where
         on-one-line : Compare (s .left) (t .left) → Compare (s .right) (t .right) → Touching s t
@@ -393,7 +429,7 @@ inside-both s t p o u n w h k hn kn = go (sides s t h k kn) (sides t s k h hn)
         on-one-line (later c) d = inr (inr (inl (end-within t u (s .left) e′ c to-right)))
         on-one-line (equal c) (earlier d) = inr (inr (inr (end-within t u (s .right) f′ to-left d)))
         on-one-line (equal c) (later d) = inr (inl (inr (end-within s o (t .right) f to-right d)))
-        on-one-line (equal c) (equal d) = absurd (n (λ i. record { left = c i; right = d i }))
+        on-one-line (equal c) (equal d) = absurd (n (segment-eq c d))
 
 touch-or-ends : (s t : Segment) → Ordered s → Ordered t → (s ≡ t → ⊥) → (p : HPoint) → Pos (p .W)
     → Along s p → Along t p → T (touch s t) ⊎ T (isEnd s p && isEnd t p)
@@ -427,12 +463,21 @@ share s t p o u w h k n =
       on-one = subst T (sym (at-fractions (on s) (on-scale s) p w)) (along-on s p o h);
       on-other = subst T (sym (at-fractions (on t) (on-scale t) p w)) (along-on t p u k);
       not-both-ends =
-          subst T (sym (at-fractions (λ p. not (isEnd s p && isEnd t p)) (λ m g p. ap₂ (λ a b. not (a && b)) (isEnd-scale s m g p) (isEnd-scale t m g p)) p w))
+          subst T (sym (at-fractions (λ p. not (isEnd s p && isEnd t p)) free p w))
           (not-T (isEnd s p && isEnd t p) (λ b. T-not (isEnd s p) n (and-left (isEnd s p) (isEnd t p) b)));
     }
+  where
+    free : ScaleFree (λ p. not (isEnd s p && isEnd t p))
+    free m g p = ap₂ (λ a b. not (a && b)) (isEnd-scale s m g p) (isEnd-scale t m g p)
 
 pub share-swap : {s t : Segment} → SharePoint s t → SharePoint t s
-share-swap {s} {t} m = record { shared = m .shared; on-one = m .on-other; on-other = m .on-one; not-both-ends = subst (λ b. T (not b)) (and-comm (isEnd s (fractions (m .shared))) (isEnd t (fractions (m .shared)))) (m .not-both-ends) }
+share-swap {s} {t} m =
+    record {
+      shared = m .shared;
+      on-one = m .on-other;
+      on-other = m .on-one;
+      not-both-ends = subst (λ b. T (not b)) (and-comm (isEnd s (fractions (m .shared))) (isEnd t (fractions (m .shared)))) (m .not-both-ends);
+    }
 
 pub first-between : (u v : HPoint) → Between u v u
 first-between u v =
@@ -451,7 +496,6 @@ first-between u v =
 
 -- where they cross
 cross-shares : (s t : Segment) → Ordered s → Ordered t → T (cross s t) → SharePoint s t
-unfolding isEnd
 cross-shares s t o u h =
     ⊎-elim apart (λ m. share s t (m .z) o u (m .z-pos) (m .on-segment) (m .on-path) (no-end m))
     (clear-or-meets (grid (t .left)) (grid (t .right)) (one-pos 0) (one-pos 0) s)
@@ -474,24 +518,30 @@ cross-shares s t o u h =
 
     -- at an end of s its side value against t would be zero
     no-end : (m : Meets (grid (t .left)) (grid (t .right)) s) → T (not (isEnd s (m .z)))
-    no-end m =
-        not-T (isEnd s (m .z))
-        (λ e. ⊎-elim (λ a. zero-neg (mul-zero-left (sideAt t (grid (s .right))) (side-zero (s .left) a)) over-t) (λ a. zero-neg (mul-zero-right (sideAt t (grid (s .left))) (side-zero (s .right) a)) over-t) (or-cases (isAt (s .left) (m .z)) (isAt (s .right) (m .z)) e))
+    no-end m = not-T (isEnd s (m .z)) (λ e. ⊎-elim at-left at-right (isEnd-read s (m .z) e))
       where
         side-zero : (v : Point) → T (isAt v (m .z)) → sideAt t (grid v) ≡ pos 0
         side-zero v a =
-            cancel-zero (m .z-pos) (sym (sideAt-scale t (m .z .W) (grid v)) ∙ sym (ap (sideAt t) (at-multiple v (m .z) a)) ∙ on-line t (m .z) (m .on-path))
+            cancel-zero (m .z-pos)
+            (sym (sideAt-scale t (m .z .W) (grid v)) ∙ sym (ap (sideAt t) (at-multiple v (m .z) a)) ∙ on-line t (m .z) (m .on-path))
+
+        at-left : T (isAt (s .left) (m .z)) → ⊥
+        at-left a = zero-neg (mul-zero-left (sideAt t (grid (s .right))) (side-zero (s .left) a)) over-t
+
+        at-right : T (isAt (s .right) (m .z)) → ⊥
+        at-right a = zero-neg (mul-zero-right (sideAt t (grid (s .left))) (side-zero (s .right) a)) over-t
 
 -- an end of t strictly inside s
 end-shares : (s t : Segment) (e : Point) → Ordered s → Ordered t → Along t (grid e) → T (endWithin s e) → SharePoint s t
 unfolding endWithin
 end-shares s t e o u k h =
-    share s t (grid e) o u (one-pos 0) (on-along s (grid e) o (and-left (on s (grid e)) (not (isEnd s (grid e))) h)) k (and-right (on s (grid e)) (not (isEnd s (grid e))) h)
+    share s t (grid e) o u (one-pos 0) (on-along s (grid e) o (and-left (on s (grid e)) (not (isEnd s (grid e))) h)) k
+    (and-right (on s (grid e)) (not (isEnd s (grid e))) h)
 
 pub touch-sound : (s t : Segment) → Ordered s → Ordered t → T (touch s t) → SharePoint s t
 touch-sound s t o u h = go (touch-read s t h)
   where
-    ends : (s t : Segment) → Ordered s → Ordered t → T (endWithin s (t .left)) ⊎ T (endWithin s (t .right)) → SharePoint s t
+    ends : (s t : Segment) → Ordered s → Ordered t → EndWithin s t → SharePoint s t
     ends s t o u (inl h) = end-shares s t (t .left) o u (first-between (grid (t .left)) (grid (t .right))) h
     ends s t o u (inr h) = end-shares s t (t .right) o u (between-swap (first-between (grid (t .right)) (grid (t .left)))) h
 
