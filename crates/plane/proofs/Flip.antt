@@ -20,7 +20,8 @@ use Rattle.plane.specs.Plane.{HPoint, midpoint, sideAt, sameSegment, cou
 use Rattle.plane.proofs.Homogeneous.{values₁, sideAtᵉ, first, triple}
 use Rattle.plane.proofs.Means.{middle}
 use Rattle.plane.proofs.OnSegment.{on-line, on-away, Away, over, beneath, leftward, rightward, short, past, Ordered, slanting, upright}
-use Rattle.plane.proofs.Path.{Even, even-ends, same-segment, same-segment-refl}
+use Rattle.plane.proofs.Path.{Even, even-ends}
+use Rattle.plane.proofs.Equal.{sameSegment-read, sameSegment-refl}
 use Rattle.plane.proofs.Steps.{grows, stays, positive-is, Large, large-all, large-map, large-and, large-each, step, side-moved, past-left-moved, to-right-moved, away-moved, count-moved, count-moved-left, upright-never, upright-never-left, positive, atLeast, positive-yes, positive-no, at-least-yes, at-least-no, count-tests, left-count-tests, inCount, inLeftCount, left-count-range}
 
 -- ---- directions
@@ -284,10 +285,10 @@ module _ (s : Segment) where
 module _ (s : Segment) (o : Ordered s) (l : List Segment) (others : (t : Segment) → t ∈ l → (s ≡ t) ⊎ Away t (midpoint s)) where
   -- a segment that the midpoint is away from is not s
   another : (t : Segment) → Away t (midpoint s) → sameSegment s t ≡ false
-  another t away = refute (sameSegment s t) (λ h. on-away s (midpoint s) o (middle s) (subst (λ r. Away r (midpoint s)) (sym (same-segment s t h)) away))
+  another t away = refute (sameSegment s t) (λ h. on-away s (midpoint s) o (middle s) (subst (λ r. Away r (midpoint s)) (sym (sameSegment-read s t h)) away))
 
   itself : (t : Segment) → s ≡ t → sameSegment s t ≡ true
-  itself t e = true-is (sameSegment s t) (subst (λ r. T (sameSegment s r)) e (same-segment-refl s))
+  itself t e = true-is (sameSegment s t) (subst (λ r. T (sameSegment s r)) e (sameSegment-refl s))
 
   pub upper-away : Large (λ n. (t : Segment) → t ∈ l → Away t (upper s o n))
   upper-away =

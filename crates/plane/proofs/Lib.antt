@@ -1,9 +1,12 @@
--- The plane's lemmas.
+-- The plane's lemmas, in the order in which they rest on each other.
 pub mod Homogeneous
 pub mod OnSegment
+pub mod Scale
 pub mod Meeting
-pub mod Path
+pub mod Equal
 pub mod Means
+pub mod Touch
+pub mod Path
 pub mod AlongSegment
 pub mod Steps
 pub mod Flip

@@ -9,14 +9,14 @@ use lib.IntN.{ℤ, pos, negℤ, _+ℤ_, _-ℤ_, _*ℤ_, *ℤ-comm}
 use lib.Signed.{ltZ, leZ}
 use Rattle.whole.specs.Count.{eqZ, _∈_, here, there}
 use Rattle.whole.proofs.Solver.{Exp, var, con, opp, _:+_, _:-_, _:*_, solve}
-use Rattle.whole.proofs.Balance.{eqZ-read, eqZ-make}
 use Rattle.whole.proofs.Sign.{Pos, NonNeg, Neg, Half, at-least, under, half, pos-nonneg, neg-pos, neg-of-pos, pos-neg, pos-clash, nonneg-clash, zero-pos, zero-neg, pos-add-nonneg, nonneg-add-pos, nonneg-add, pos-mul, nonneg-mul, pos-of-mul-nonneg, cancel-nonneg, ltZ-pos, leZ-nonneg, nonneg-leZ, ltZ-leZ, ltZ0-pos, pos-ltZ0, ltZ0-neg, neg-ltZ0}
 use Rattle.whole.proofs.Logic.{and-left, and-right, and-make, and-follows, and-never}
 use Rattle.whole.proofs.Parity.{_⊻_, xor-none, xor-assoc, parity, parity-cons, parity-nil, parity-same, parity-xor, even-all}
 use Rattle.plane.specs.declared.Point.{Point}
 use Rattle.plane.specs.declared.Segment.{Segment}
-use Rattle.plane.specs.Plane.{HPoint, grid, sideAt, samePoint, sameSegment, countsBelow}
+use Rattle.plane.specs.Plane.{HPoint, grid, sideAt, samePoint, countsBelow}
 use Rattle.plane.proofs.Homogeneous.{det, dx, dx-swap, first, second, dxᵉ, values₂, seen-from-left, seen-from-right, seen-from-first, seen-from-second}
+use Rattle.plane.proofs.Equal.{samePoint-read, samePoint-refl}
 use Rattle.plane.proofs.Meeting.{Clear, aligned, path-over, path-under, ends-over, ends-under, clear-swap}
 
 -- v lies under the path from p to q: past p, not past q, and right of p → q
@@ -178,24 +178,6 @@ module _ (p q : HPoint) (p-pos : Pos (p .W)) (q-pos : Pos (q .W)) (forward : Non
 abbrev pub Even : List Segment → Type 0
 Even l = (v : Point) → parity (λ s. samePoint (s .left) v ⊻ samePoint (s .right) v) l ≡ false
 
-pub same-point : (p q : Point) → T (samePoint p q) → p ≡ q
-unfolding samePoint
-same-point p q t =
-    λ i. record { x = eqZ-read (p .x) (q .x) (and-left (eqZ (p .x) (q .x)) (eqZ (p .y) (q .y)) t) i; y = eqZ-read (p .y) (q .y) (and-right (eqZ (p .x) (q .x)) (eqZ (p .y) (q .y)) t) i }
-
-pub same-point-refl : (p : Point) → T (samePoint p p)
-unfolding samePoint
-same-point-refl p = and-make (eqZ (p .x) (p .x)) (eqZ (p .y) (p .y)) (eqZ-make (p .x) (p .x) refl) (eqZ-make (p .y) (p .y) refl)
-
-pub same-segment : (s t : Segment) → T (sameSegment s t) → s ≡ t
-unfolding sameSegment
-same-segment s t h =
-    λ i. record { left = same-point (s .left) (t .left) (and-left (samePoint (s .left) (t .left)) (samePoint (s .right) (t .right)) h) i; right = same-point (s .right) (t .right) (and-right (samePoint (s .left) (t .left)) (samePoint (s .right) (t .right)) h) i }
-
-pub same-segment-refl : (s : Segment) → T (sameSegment s s)
-unfolding sameSegment
-same-segment-refl s = and-make (samePoint (s .left) (s .left)) (samePoint (s .right) (s .right)) (same-point-refl (s .left)) (same-point-refl (s .right))
-
 ends : List Segment → List Point
 ends [] = []
 ends (s ∷ l) = s .left ∷ s .right ∷ ends l
@@ -210,7 +192,7 @@ over-ends f (s ∷ l) = ap (λ b. f (s .left) ⊻ (f (s .right) ⊻ b)) (over-en
 pub even-ends : (l : List Segment) → Even l → (f : Point → Bool) → parity (λ s. f (s .left) ⊻ f (s .right)) l ≡ false
 even-ends l h f =
     sym (over-ends f l)
-    ∙ even-all (λ a b. samePoint b a) (λ a b t. sym (same-point b a t)) same-point-refl (ends l) (λ v m. over-ends (λ b. samePoint b v) l ∙ h v) f
+    ∙ even-all (λ a b. samePoint b a) (λ a b t. sym (samePoint-read b a t)) samePoint-refl (ends l) (λ v m. over-ends (λ b. samePoint b v) l ∙ h v) f
 
 -- ---- the path lemma
 

@@ -17,7 +17,8 @@ use Rattle.plane.specs.Plane.{HPoint, grid, midpoint, sideAt, sameSegmen
 use Rattle.plane.proofs.Homogeneous.{_⋆_, _⊞_, one-times, Triple, triple, sideᵉ, sideAtᵉ, first}
 use Rattle.plane.proofs.OnSegment.{Between, Along, Ordered, Away, over, beneath, leftward, rightward, short, past, on-or-away, on-line}
 use Rattle.plane.proofs.Means.{EndOf, left-end, right-end, at-left, at-right}
-use Rattle.plane.proofs.Path.{Even, same-segment, same-segment-refl}
+use Rattle.plane.proofs.Path.{Even}
+use Rattle.plane.proofs.Equal.{sameSegment-read, sameSegment-refl}
 use Rattle.plane.proofs.AlongSegment.{Apart, along-segment}
 use Rattle.plane.proofs.Steps.{Large, large-all, large-map, large-and, large-each, large-one, step, past-left-moved, to-right-moved, away-moved, count-moved, shrinks, positive, atLeast, positive-is, positive-yes, positive-no, at-least-yes, at-least-no, count-tests, inCount, InRange, count-range}
 use Rattle.plane.proofs.Flip.{rightwards, seen-x, seen-back, positive-times, at-least-times}
@@ -233,7 +234,7 @@ module _ (H : List Segment) (ord : (t : Segment) → t ∈ H → Ordered t) (pai
 
     -- another segment is apart from s
     split : (t : Segment) → t ∈ H → (s ≡ t) ⊎ (T (not (sameSegment s t)) × Apart s t)
-    split t m = ⊎-elim (λ h. inl (same-segment s t h)) (λ h. ⊎-elim (λ e. inl e) (λ a. inr (h, a)) (pairs s t i m)) (decide (sameSegment s t))
+    split t m = ⊎-elim (λ h. inl (sameSegment-read s t h)) (λ h. ⊎-elim (λ e. inl e) (λ a. inr (h, a)) (pairs s t i m)) (decide (sameSegment s t))
 
     from-foot : (t : Segment) → t ∈ H → countsBelow q t ≡ countsBelow (foot q s) t ⊻ sameSegment s t
     from-foot t m = go (split t m)
@@ -241,7 +242,7 @@ module _ (H : List Segment) (ord : (t : Segment) → t ∈ H → Ordered t) (pai
         go : (s ≡ t) ⊎ (T (not (sameSegment s t)) × Apart s t) → countsBelow q t ≡ countsBelow (foot q s) t ⊻ sameSegment s t
         go (inl e) =
             subst (λ r. countsBelow q r ≡ countsBelow (foot q s) r ⊻ sameSegment s r) e
-            (true-is (countsBelow q s) u ∙ sym (ap₂ (λ a b. a ⊻ b) own-foot (true-is (sameSegment s s) (same-segment-refl s))))
+            (true-is (countsBelow q s) u ∙ sym (ap₂ (λ a b. a ⊻ b) own-foot (true-is (sameSegment s s) (sameSegment-refl s))))
         go (inr h) = other-count t m (h .1) ∙ sym (ap (λ b. countsBelow (foot q s) t ⊻ b) (false-is (sameSegment s t) (h .0)) ∙ xor-false (countsBelow (foot q s) t))
 
     under-q : (l : List Segment) → ((t : Segment) → t ∈ l → t ∈ H) → Even l → parity (countsBelow q) l ≡ parity (countsBelow (midpoint s)) l ⊻ parity (sameSegment s) l

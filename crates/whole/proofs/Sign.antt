@@ -119,6 +119,15 @@ signs x y = go (sign x) (sign y)
     go (plus h) (nought k) = falling (pos-nonneg h) (zero-nonneg (ap negℤ k))
     go (plus h) (plus k) = both-plus h k
 
+-- a number above zero is a natural
+pub pos-lit : (z : ℤ) → Pos z → (n : ℕ) × (0 < n) × (pos n ≡ z)
+unfolding P N
+pos-lit (pos n) h = (n, omega arith, refl)
+pos-lit (negsuc n) h = absurd (below h)
+  where
+    below : Pos (negsuc n) → ⊥
+    below k = omega arith
+
 -- ---- clashes
 
 pub pos-clash {ℓ} : {A : Type ℓ} {z : ℤ} → Pos z → Neg z → A
@@ -320,3 +329,23 @@ ltZ-shift a b = same-test (ltZ a b) (ltZ (pos 0) (b -ℤ a)) (λ t. pos-ltZ0 (b 
 
 pub leZ-shift : (a b : ℤ) → leZ a b ≡ leZ (pos 0) (b -ℤ a)
 leZ-shift a b = same-test (leZ a b) (leZ (pos 0) (b -ℤ a)) (λ t. nonneg-leZ0 (b -ℤ a) (leZ-nonneg a b t)) (λ t. nonneg-leZ a b (leZ0-nonneg (b -ℤ a) t))
+
+-- no test sees a positive factor on both sides
+module _ {k : ℤ} (h : Pos k) where
+  times-test : (f : ℤ → ℤ → Bool) (A : ℤ → Type 0) → ((a b : ℤ) → T (f a b) → A (b -ℤ a)) → ((a b : ℤ) → A (b -ℤ a) → T (f a b))
+      → ((z : ℤ) → A z → A (k *ℤ z)) → ((z : ℤ) → A (k *ℤ z) → A z) → (a b : ℤ) → f (k *ℤ a) (k *ℤ b) ≡ f a b
+  times-test f A read make up down a b =
+      same-test (f (k *ℤ a) (k *ℤ b)) (f a b) (λ t. make a b (down (b -ℤ a) (subst A apart (read (k *ℤ a) (k *ℤ b) t))))
+      (λ t. make (k *ℤ a) (k *ℤ b) (subst A (sym apart) (up (b -ℤ a) (read a b t))))
+    where
+      apart : k *ℤ b -ℤ k *ℤ a ≡ k *ℤ (b -ℤ a)
+      apart = sym (distrib-left k b (negℤ a) ∙ ap (λ z. k *ℤ b +ℤ z) (mul-neg k a))
+
+  pub ltZ-times : (a b : ℤ) → ltZ (k *ℤ a) (k *ℤ b) ≡ ltZ a b
+  ltZ-times = times-test ltZ Pos ltZ-pos pos-ltZ (λ z. pos-mul h) (λ z. cancel-pos h)
+
+  pub leZ-times : (a b : ℤ) → leZ (k *ℤ a) (k *ℤ b) ≡ leZ a b
+  leZ-times = times-test leZ NonNeg leZ-nonneg nonneg-leZ (λ z. nonneg-mul (pos-nonneg h)) (λ z. cancel-nonneg h)
+
+  pub eqZ-times : (a b : ℤ) → eqZ (k *ℤ a) (k *ℤ b) ≡ eqZ a b
+  eqZ-times = times-test eqZ (λ z. z ≡ pos 0) eqZ-zero zero-eqZ (λ z. mul-zero-right k) (λ z. cancel-zero h)
