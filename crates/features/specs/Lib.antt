@@ -1,0 +1,2 @@
+-- What the topological feature vectors are.
+pub mod Flags

@@ -1,0 +1,1 @@
+// The topological feature vectors of two objects.
