@@ -4,17 +4,20 @@ use Prim.Native.Nat.{ℕ, zero, suc, _+_, _*_, _-_, _≤_, _<_, _^_}
 use native.Mathlib.Nat.{mul-le-mul, le-trans, le-of-eq}
 use native.Mathlib.Omega.{arith}
 use mathlib.Core.Path.{_≡_, refl, sym, ap, ap₂, subst, _∙_}
-use mathlib.Core.Bool.{Bool, true, false, cond, _&&_, _||_, false≢true, or-false}
-use lib.Dec.{T, leb, ltb, eqb, leb→le, lit≤}
+use mathlib.Core.Bool.{Bool, true, false, cond, false≢true}
+use lib.Dec.{T, leb, ltb, eqb, leb→le, le→leb, lit≤, eqb·suc-zero}
 use lib.IntN.{ℤ, pos, negsuc, negℤ, natAbs, subℕ, _+ℤ_, _-ℤ_, _*ℤ_}
 use lib.Signed.{mag, ltZ}
 use mir.Syntax.{Width, w32, w64}
 use mir.Val.{SFits, toZ, ofZ}
-use mir.Facts.{toZ-ofZ, and-yes}
-use borrow.Author.Tests.{eqb-true, eqb-false, eq-eqb, le-ltb}
+use mir.Facts.{toZ-ofZ, and-yes, yes-and}
+use borrow.Author.Tests.{eqb-true, eqb-false, eq-eqb, lt-ltb, le-ltb}
 use Rattle.whole.specs.Count.{eqZ}
 use Rattle.plane.specs.declared.Point.{Point}
-use Rattle.plane.specs.Plane.{limit, within, before}
+use Rattle.plane.specs.declared.Segment.{Segment}
+use Rattle.plane.specs.declared.Turn.{Turn}
+use Rattle.plane.specs.declared.Turn.the-variants.{Left, Straight, Right}
+use Rattle.plane.specs.Plane.{limit, within, inRange, segmentInRange, turnOf}
 
 -- ---- sizes
 natAbs-neg : (z : ℤ) → natAbs (negℤ z) ≡ natAbs z
@@ -111,6 +114,27 @@ pub within-y : (n : ℕ) (p : Point) → T (within n p) → natAbs (p .y) ≤ n
 unfolding within
 within-y n p t = leb→le (natAbs (p .y)) n (and-yes (leb (natAbs (p .x)) n) (leb (natAbs (p .y)) n) t .1)
 
+pub is-within : (n : ℕ) (p : Point) → natAbs (p .x) ≤ n → natAbs (p .y) ≤ n → T (within n p)
+unfolding within
+is-within n p h k = yes-and (leb (natAbs (p .x)) n) (leb (natAbs (p .y)) n) (le→leb (natAbs (p .x)) n h) (le→leb (natAbs (p .y)) n k)
+
+pub left-in-range : (s : Segment) → T (segmentInRange s) → T (inRange (s .left))
+left-in-range s t = and-yes (inRange (s .left)) (inRange (s .right)) t .0
+
+pub right-in-range : (s : Segment) → T (segmentInRange s) → T (inRange (s .right))
+right-in-range s t = and-yes (inRange (s .left)) (inRange (s .right)) t .1
+
+-- what is in range is within the range of doubled coordinates
+pub in-doubled : (p : Point) → T (inRange p) → T (within (2 * limit) p)
+in-doubled p t = is-within (2 * limit) p (omega (arith, within-x limit p t)) (omega (arith, within-y limit p t))
+
+module _ (s : Segment) (t : T (segmentInRange s)) where
+  pub left-in-doubled : T (within (2 * limit) (s .left))
+  left-in-doubled = in-doubled (s .left) (left-in-range s t)
+
+  pub right-in-doubled : T (within (2 * limit) (s .right))
+  right-in-doubled = in-doubled (s .right) (right-in-range s t)
+
 -- ---- the side value: a difference of coordinates, a product of two and a difference of products
 pub record Factor (z : ℤ) : Type 0 where
   pub small : natAbs z ≤ 4 * limit
@@ -168,3 +192,34 @@ module _ (u v w z : ℤ) (f : Factor u) (g : Factor v) (h : Factor w) (k : Facto
 
   pub value-back : toZ w64 (ofZ w64 (value u v w z)) ≡ u *ℤ v -ℤ w *ℤ z
   value-back = toZ-ofZ value-fits ∙ value-is
+
+-- ---- what a turn says of the side value's sign
+abbrev pub isLeft : Turn → Bool
+isLeft Left = true
+isLeft Straight = false
+isLeft Right = false
+
+abbrev pub isStraight : Turn → Bool
+isStraight Left = false
+isStraight Straight = true
+isStraight Right = false
+
+abbrev pub isRight : Turn → Bool
+isRight Left = false
+isRight Straight = false
+isRight Right = true
+
+pub left-is : (z : ℤ) → isLeft (turnOf z) ≡ ltZ (pos 0) z
+left-is (pos zero) = refl
+left-is (pos (suc n)) = sym (lt-ltb 0 (suc n) (omega arith))
+left-is (negsuc n) = refl
+
+pub straight-is : (z : ℤ) → isStraight (turnOf z) ≡ eqZ z (pos 0)
+straight-is (pos zero) = refl
+straight-is (pos (suc n)) = sym (eqb·suc-zero n)
+straight-is (negsuc n) = refl
+
+pub right-is : (z : ℤ) → isRight (turnOf z) ≡ ltZ z (pos 0)
+right-is (pos zero) = refl
+right-is (pos (suc n)) = sym (le-ltb (suc n) 0 (omega arith))
+right-is (negsuc n) = refl
