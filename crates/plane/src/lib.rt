@@ -2,8 +2,8 @@
 // Every sign of a side value is read off `turn_from`.
 ghost use mathlib.Core.Path.{_≡_};
 ghost use Prim.Native.Nat.{_*_};
-ghost use lib.Dec.{T};
-ghost use lib.IntN.{pos, _+ℤ_, _-ℤ_};
+ghost use lib.Dec.{T, leb};
+ghost use lib.IntN.{pos, natAbs, _+ℤ_, _-ℤ_};
 ghost use lib.Signed.{ltZ};
 ghost use Rattle.plane.specs.Plane.{limit, within, inRange, segmentInRange, before, samePoint, sameSegment, side, turn};
 ghost use Rattle.plane.specs.Plane.{dominating, farEnd, comesBefore, grid, halved, midpoint, on, isEnd, countsBelow, countsBelowLeft};
@@ -37,10 +37,16 @@ pub enum Turn {
     Right,
 }
 
+pub fn is_coordinate(v: i32) -> bool
+    ensures { λ r. ⌜ r ≡ leb (natAbs v) limit ⌝ }
+{
+    -LIMIT <= v && v <= LIMIT
+}
+
 pub fn is_in_range(p: Point) -> bool
     ensures { λ r. ⌜ r ≡ inRange p ⌝ }
 {
-    -LIMIT <= p.x && p.x <= LIMIT && -LIMIT <= p.y && p.y <= LIMIT
+    is_coordinate(p.x) && is_coordinate(p.y)
 }
 
 pub fn is_before(p: Point, q: Point) -> bool
@@ -104,13 +110,21 @@ pub fn is_left_of(a: Point, b: Point, c: Point) -> bool
 pub fn dominating_point(h: Halfsegment) -> Point
     ensures { λ r. ⌜ r ≡ dominating h ⌝ }
 {
-    if h.is_left { h.segment.left } else { h.segment.right }
+    if h.is_left {
+        h.segment.left
+    } else {
+        h.segment.right
+    }
 }
 
 pub fn far_end(h: Halfsegment) -> Point
     ensures { λ r. ⌜ r ≡ farEnd h ⌝ }
 {
-    if h.is_left { h.segment.right } else { h.segment.left }
+    if h.is_left {
+        h.segment.right
+    } else {
+        h.segment.left
+    }
 }
 
 pub fn comes_before(h: Halfsegment, k: Halfsegment) -> bool
@@ -145,24 +159,30 @@ pub fn is_end(s: Segment, p: Point) -> bool
     is_same_point(s.left, p) || is_same_point(s.right, p)
 }
 
+fn sum(p: Point, q: Point) -> Point
+    requires { ⌜ T (inRange p) × T (inRange q) ⌝ }
+    ensures { λ r. ⌜ (r .x ≡ p .x +ℤ q .x) × (r .y ≡ p .y +ℤ q .y) × T (within (2 * limit) r) ⌝ }
+{
+    Point {
+        x: p.x + q.x,
+        y: p.y + q.y,
+    }
+}
+
+// A grid point by its doubled coordinates.
 pub fn doubled(p: Point) -> Point
     requires { ⌜ T (inRange p) ⌝ }
     ensures { λ r. ⌜ (r .x ≡ p .x +ℤ p .x) × (r .y ≡ p .y +ℤ p .y) × T (within (2 * limit) r) ⌝ }
 {
-    Point {
-        x: p.x + p.x,
-        y: p.y + p.y,
-    }
+    sum(p, p)
 }
 
+// A midpoint by its doubled coordinates.
 pub fn doubled_midpoint(s: Segment) -> Point
     requires { ⌜ T (segmentInRange s) ⌝ }
     ensures { λ r. ⌜ (halved r ≡ midpoint s) × T (within (2 * limit) r) ⌝ }
 {
-    Point {
-        x: s.left.x + s.right.x,
-        y: s.left.y + s.right.y,
-    }
+    sum(s.left, s.right)
 }
 
 // Does s count below the point whose doubled coordinates are m's?

@@ -97,8 +97,7 @@ far-end-requires-2 c κs = search needs
 is-left-of-requires : tie.Need-is-left-of-requires
 is-left-of-requires c κs =
     let d = c .before .before .before .before .before .before .before .before in
-    let s = d .before in
-    (
+    let s = d .before in (
       rw (d .dominating-point .ensures) (dominating-in (s .args .h) (s .pre .0)),
       rw (c .before .far-end .ensures) (far-in (s .args .h) (s .pre .0)),
       rw (c .far-end2 .ensures) (far-in (s .args .k) (s .pre .1)),

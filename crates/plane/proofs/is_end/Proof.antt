@@ -1,26 +1,27 @@
+-- `plane::is_end` meets its contract, by that of `is_same_point` at both ends.
+use mathlib.Core.Path.{_≡_, refl, sym, _∙_}
+use mathlib.Core.Bool.{_||_}
 use borrow.Author.Needs.{needs}
+use Rattle.plane.proofs.Grid.{end-grid}
 use Rattle.plane.proofs.is_end.Statement.{statement}
 use Rattle.plane.proofs.is_end.Tie as tie
-use Rattle.plane.proofs.is_end.Reads as reads
-use Rattle.plane.proofs.is_end.Lts as lts
-use Rattle.plane.proofs.is_same_point.Reads as is-same-point-reads
 
--- src/lib.rt:146:5
 is-same-point-requires : tie.Need-is-same-point-requires
 is-same-point-requires c κs = search needs
 
--- src/lib.rt:146:33
 is-same-point-requires-2 : tie.Need-is-same-point-requires-2
 is-same-point-requires-2 c κs = search needs
 
--- src/lib.rt:143:1
 returns : tie.Need-returns
-returns c = ?
+returns c =
+    let s = c .before .before in
+    rw (end-grid (s .args .s) (s .args .p), sym (c .before .is-same-point .ensures), c .if1 .taken)
 
--- src/lib.rt:143:1
 returns-2 : tie.Need-returns-2
-returns-2 c = ?
+returns-2 c =
+    let s = c .before .before .before in
+    rw (end-grid (s .args .s) (s .args .p), sym (c .before .before .is-same-point .ensures), c .before .if1 .left)
+    (c .is-same-point2 .ensures)
 
 pub is-end-spec : {M : Type 1} → statement M
-is-end-spec =
-    tie.close (tie.spec is-same-point-requires is-same-point-requires-2 returns returns-2)
+is-end-spec = tie.close (tie.spec is-same-point-requires is-same-point-requires-2 returns returns-2)

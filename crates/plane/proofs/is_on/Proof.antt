@@ -1,50 +1,63 @@
+-- `plane::is_on` meets its contract: a grid point lies on a segment when there is no turn and it is neither before the left end nor after the right.
+use mathlib.Core.Path.{_≡_, refl, sym, _∙_}
+use mathlib.Core.Bool.{not, _&&_}
 use borrow.Author.Needs.{needs}
+use Rattle.plane.proofs.Machine.{left-in-doubled, right-in-doubled, in-doubled, isStraight}
+use Rattle.plane.proofs.Grid.{on-grid}
 use Rattle.plane.proofs.is_on.Statement.{statement}
 use Rattle.plane.proofs.is_on.Tie as tie
-use Rattle.plane.proofs.is_on.Reads as reads
-use Rattle.plane.proofs.is_on.Lts as lts
-use Rattle.plane.proofs.is_before.Reads as is-before-reads
-use Rattle.plane.proofs.turn_from.Reads as turn-from-reads
 
--- src/lib.rt:136:11
 turn-from-requires : tie.Need-turn-from-requires
-turn-from-requires c κs = ?
+turn-from-requires c κs =
+    (left-in-doubled (c .args .s) (c .pre .0), right-in-doubled (c .args .s) (c .pre .0), in-doubled (c .args .p) (c .pre .1))
 
--- src/lib.rt:137:23
 enum-told : tie.Need-enum-told
 enum-told c = search needs
 
--- src/lib.rt:138:28
 enum-told-2 : tie.Need-enum-told-2
 enum-told-2 c = search needs
 
--- src/lib.rt:138:28
 is-before-requires : tie.Need-is-before-requires
 is-before-requires c κs = search needs
 
--- src/lib.rt:138:53
 is-before-requires-2 : tie.Need-is-before-requires-2
 is-before-requires-2 c κs = search needs
 
--- src/lib.rt:139:24
 enum-told-3 : tie.Need-enum-told-3
 enum-told-3 c = search needs
 
--- src/lib.rt:132:1
 returns : tie.Need-returns
-returns c = ?
+returns c =
+    let s = c .before .before .before in
+    rw (on-grid (s .args .s) (s .args .p), sym (c .before .before .turn-from .ensures) ∙ c .enum-told .given .1)
 
--- src/lib.rt:132:1
 returns-2 : tie.Need-returns-2
-returns-2 c = ?
+returns-2 c =
+    let d = c .before .before .before in
+    let s = d .before .before .before in
+    rw (
+      on-grid (s .args .s) (s .args .p),
+      sym (d .before .before .turn-from .ensures) ∙ d .enum-told2 .given .1,
+      sym (c .before .before .is-before .ensures),
+      c .before .if1 .taken,
+      sym (c .is-before2 .ensures),
+    )
 
--- src/lib.rt:132:1
 returns-3 : tie.Need-returns-3
-returns-3 c = ?
+returns-3 c =
+    let d = c .before .before in
+    let s = d .before .before .before in
+    rw (
+      on-grid (s .args .s) (s .args .p),
+      sym (d .before .before .turn-from .ensures) ∙ d .enum-told2 .given .1,
+      sym (c .before .is-before .ensures),
+      c .if1 .left,
+    )
 
--- src/lib.rt:132:1
 returns-4 : tie.Need-returns-4
-returns-4 c = ?
+returns-4 c =
+    let s = c .before .before .before in
+    rw (on-grid (s .args .s) (s .args .p), sym (c .before .before .turn-from .ensures) ∙ c .enum-told3 .given .1)
 
 pub is-on-spec : {M : Type 1} → statement M
 is-on-spec =
