@@ -5,7 +5,7 @@ use native.Mathlib.Nat.{mul-le-mul, le-trans, le-of-eq}
 use native.Mathlib.Omega.{arith}
 use mathlib.Core.Path.{_≡_, refl, sym, ap, ap₂, subst, _∙_}
 use mathlib.Core.Logic.{_⊎_, inl, inr}
-use mathlib.Core.Bool.{Bool, true, false, cond, _&&_, false≢true, true≢false}
+use mathlib.Core.Bool.{Bool, true, false, cond, _&&_, _||_, false≢true, true≢false}
 use lib.Dec.{T, leb, ltb, eqb, leb→le, le→leb, lit≤, eqb·suc-zero}
 use lib.IntN.{ℤ, pos, negsuc, negℤ, natAbs, subℕ, _+ℤ_, _-ℤ_, _*ℤ_}
 use lib.Signed.{mag, ltZ}
@@ -18,7 +18,7 @@ use Rattle.plane.specs.declared.Point.{Point}
 use Rattle.plane.specs.declared.Segment.{Segment}
 use Rattle.plane.specs.declared.Turn.{Turn}
 use Rattle.plane.specs.declared.Turn.the-variants.{Left, Straight, Right}
-use Rattle.plane.specs.Plane.{limit, within, inRange, segmentInRange, turnOf}
+use Rattle.plane.specs.Plane.{limit, within, inRange, segmentInRange, side, turnOf, turn}
 
 -- ---- sizes
 natAbs-neg : (z : ℤ) → natAbs (negℤ z) ≡ natAbs z
@@ -116,10 +116,14 @@ module _ {w : Width} {a b : ℤ} (f : SFits w a) (g : SFits w b) where
       go true e = e ∙ sym (eqZ-yes a b (bits-eq (eqb-true (ofZ w a) (ofZ w b) e)))
       go false e = e ∙ sym (eqZ-no a b (λ q. eqb-false (ofZ w a) (ofZ w b) e (ap (ofZ w) q)))
 
--- the flag t where the ways of `a && b` meet
+-- the flag t where the ways of `a && b` meet, and of `a || b`
 pub and-met : {t a b : Bool} → ((a ≡ true) × (t ≡ b)) ⊎ ((a ≡ false) × (t ≡ a)) → t ≡ (a && b)
 and-met {t} {a} {b} (inl w) = w .1 ∙ ap (λ (x : Bool). x && b) (sym (w .0))
 and-met {t} {a} {b} (inr w) = w .1 ∙ w .0 ∙ ap (λ (x : Bool). x && b) (sym (w .0))
+
+pub or-met : {t a b : Bool} → ((a ≡ true) × (t ≡ a)) ⊎ ((a ≡ false) × (t ≡ b)) → t ≡ (a || b)
+or-met {t} {a} {b} (inl w) = w .1 ∙ w .0 ∙ ap (λ (x : Bool). x || b) (sym (w .0))
+or-met {t} {a} {b} (inr w) = w .1 ∙ ap (λ (x : Bool). x || b) (sym (w .0))
 
 -- ---- points within a range
 pub within-x : (n : ℕ) (p : Point) → T (within n p) → natAbs (p .x) ≤ n
@@ -150,6 +154,10 @@ module _ (s : Segment) (t : T (segmentInRange s)) where
 
   pub right-in-doubled : T (within (2 * limit) (s .right))
   right-in-doubled = in-doubled (s .right) (right-in-range s t)
+
+-- what a turn at a segment's ends and a point asks
+pub turn-asks : (s : Segment) (p : Point) → T (segmentInRange s) → T (inRange p) → T (within (2 * limit) (s .left)) × T (within (2 * limit) (s .right)) × T (within (2 * limit) p)
+turn-asks s p t u = (left-in-doubled s t, right-in-doubled s t, in-doubled p u)
 
 near-fits : (z : ℤ) → natAbs z ≤ 2 * limit → SFits w32 z
 near-fits z h = record { sfits = omega (arith, mag-small z) }
@@ -263,3 +271,11 @@ pub right-is : (z : ℤ) → isRight (turnOf z) ≡ ltZ z (pos 0)
 right-is (pos zero) = refl
 right-is (pos (suc n)) = sym (le-ltb (suc n) 0 (omega arith))
 right-is (negsuc n) = refl
+
+-- in an arm of a match on a turn t of three points, where t is u: a test of u is the test of the side value that it stands for
+pub told :
+    (f : Turn → Bool) (g : ℤ → Bool) →
+    ((z : ℤ) → f (turnOf z) ≡ g z) →
+    (a b c : Point) {t u : Turn} → t ≡ turn a b c → t ≡ u → f u ≡ g (side a b c)
+unfolding turn
+told f g e a b c p q = ap f (sym q ∙ p) ∙ e (side a b c)

@@ -1,6 +1,7 @@
 // The plane of document 01, exactly: its types, and the tests on them in 64 bits, each proved equal to its definition in specs/Plane.antt.
 // Every sign of a side value is read off `turn_from`.
 ghost use mathlib.Core.Path.{_≡_};
+ghost use mathlib.Core.Bool.{_||_};
 ghost use Prim.Native.Nat.{_*_};
 ghost use lib.Dec.{T, leb};
 ghost use lib.IntN.{pos, natAbs, _+ℤ_, _-ℤ_};
@@ -107,6 +108,17 @@ pub fn is_left_of(a: Point, b: Point, c: Point) -> bool
     }
 }
 
+pub fn is_right_of(a: Point, b: Point, c: Point) -> bool
+    requires { ⌜ T (within (2 * limit) a) × T (within (2 * limit) b) × T (within (2 * limit) c) ⌝ }
+    ensures { λ r. ⌜ r ≡ ltZ (side a b c) (pos 0) ⌝ }
+{
+    match turn_from(a, b, c) {
+        Turn::Left => false,
+        Turn::Straight => false,
+        Turn::Right => true,
+    }
+}
+
 pub fn dominating_point(h: Halfsegment) -> Point
     ensures { λ r. ⌜ r ≡ dominating h ⌝ }
 {
@@ -202,4 +214,49 @@ pub fn counts_below_left(s: Segment, m: Point) -> bool
     let left = doubled(s.left);
     let right = doubled(s.right);
     left.x < m.x && m.x <= right.x && is_left_of(left, right, m)
+}
+
+// Does the line through s have p and q strictly on opposite sides?
+fn separates(s: Segment, p: Point, q: Point) -> bool
+    requires { ⌜ T (segmentInRange s) × T (inRange p) × T (inRange q) ⌝ }
+    ensures { λ r. ⌜ r ≡ opposite (side (s .left) (s .right) p) (side (s .left) (s .right) q) ⌝ }
+{
+    match turn_from(s.left, s.right, p) {
+        Turn::Left => is_right_of(s.left, s.right, q),
+        Turn::Straight => false,
+        Turn::Right => is_left_of(s.left, s.right, q),
+    }
+}
+
+fn crosses(s: Segment, t: Segment) -> bool
+    requires { ⌜ T (segmentInRange s) × T (segmentInRange t) ⌝ }
+    ensures { λ r. ⌜ r ≡ cross s t ⌝ }
+{
+    separates(s, t.left, t.right) && separates(t, s.left, s.right)
+}
+
+// Is p on s and no end of it?
+fn has_within(s: Segment, p: Point) -> bool
+    requires { ⌜ T (segmentInRange s) × T (inRange p) ⌝ }
+    ensures { λ r. ⌜ r ≡ endWithin s p ⌝ }
+{
+    is_on(s, p) && !is_end(s, p)
+}
+
+fn has_end_within(s: Segment, t: Segment) -> bool
+    requires { ⌜ T (segmentInRange s) × T (segmentInRange t) ⌝ }
+    ensures { λ r. ⌜ r ≡ (endWithin s (t .left) || endWithin s (t .right)) ⌝ }
+{
+    has_within(s, t.left) || has_within(s, t.right)
+}
+
+// Do s and t, if they are not the same, share a point that is not an end of both?
+pub fn touches(s: Segment, t: Segment) -> bool
+    requires { ⌜ T (segmentInRange s) × T (segmentInRange t) ⌝ }
+    ensures { λ r. ⌜ r ≡ touch s t ⌝ }
+{
+    if is_same_segment(s, t) {
+        return false;
+    }
+    crosses(s, t) || has_end_within(s, t) || has_end_within(t, s)
 }

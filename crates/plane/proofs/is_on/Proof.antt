@@ -2,14 +2,13 @@
 use mathlib.Core.Path.{_≡_, refl, sym, _∙_}
 use mathlib.Core.Bool.{not, _&&_}
 use borrow.Author.Needs.{needs}
-use Rattle.plane.proofs.Machine.{left-in-doubled, right-in-doubled, in-doubled, isStraight}
+use Rattle.plane.proofs.Machine.{turn-asks, isStraight}
 use Rattle.plane.proofs.Grid.{on-grid}
 use Rattle.plane.proofs.is_on.Statement.{statement}
 use Rattle.plane.proofs.is_on.Tie as tie
 
 turn-from-requires : tie.Need-turn-from-requires
-turn-from-requires c κs =
-    (left-in-doubled (c .args .s) (c .pre .0), right-in-doubled (c .args .s) (c .pre .0), in-doubled (c .args .p) (c .pre .1))
+turn-from-requires c κs = turn-asks (c .args .s) (c .args .p) (c .pre .0) (c .pre .1)
 
 enum-told : tie.Need-enum-told
 enum-told c = search needs
