@@ -1,6 +1,6 @@
 -- From machine integers to ℤ and back: a number that fits is read back from its bits, tests on bits are tests on numbers, and the bounds on
 -- sums, differences and products by which a side value fits 64 bits.
-use Prim.Native.Nat.{ℕ, zero, suc, _+_, _*_, _-_, _≤_, _<_, _^_}
+use Prim.Native.Nat.{ℕ, zero, suc, _+_, _*_, _-_, _≤_, _^_}
 use native.Mathlib.Nat.{mul-le-mul, le-trans, le-of-eq}
 use native.Mathlib.Omega.{arith}
 use mathlib.Core.Path.{_≡_, refl, sym, ap, ap₂, subst, _∙_}
@@ -26,18 +26,17 @@ natAbs-neg (pos zero) = refl
 natAbs-neg (pos (suc n)) = refl
 natAbs-neg (negsuc n) = refl
 
+natAbs-less : (a b : ℕ) → natAbs (subℕ a (suc b)) ≤ a + suc b
+natAbs-less a b = go (ltb a (suc b))
+  where
+    go : (t : Bool) → natAbs (cond t (negsuc (suc b - suc a)) (pos (a - suc b))) ≤ a + suc b
+    go true = omega arith
+    go false = omega arith
+
 pub natAbs-sum : (a b : ℤ) → natAbs (a +ℤ b) ≤ natAbs a + natAbs b
 natAbs-sum (pos a) (pos b) = omega arith
-natAbs-sum (pos a) (negsuc b) = go a b (ltb a (suc b))
-  where
-    go : (a b : ℕ) (t : Bool) → natAbs (cond t (negsuc (suc b - suc a)) (pos (a - suc b))) ≤ a + suc b
-    go a b true = omega arith
-    go a b false = omega arith
-natAbs-sum (negsuc a) (pos b) = go a b (ltb b (suc a))
-  where
-    go : (a b : ℕ) (t : Bool) → natAbs (cond t (negsuc (suc a - suc b)) (pos (b - suc a))) ≤ suc a + b
-    go a b true = omega arith
-    go a b false = omega arith
+natAbs-sum (pos a) (negsuc b) = natAbs-less a b
+natAbs-sum (negsuc a) (pos b) = omega (arith, natAbs-less b a)
 natAbs-sum (negsuc a) (negsuc b) = omega arith
 
 pub natAbs-difference : (a b : ℤ) → natAbs (a -ℤ b) ≤ natAbs a + natAbs b

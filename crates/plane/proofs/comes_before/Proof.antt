@@ -1,7 +1,7 @@
 -- `plane::comes_before` meets its contract: the order of halfsegments, by whether the dominating points are one and the sides the same.
 use Prim.Native.Nat.{_*_}
-use mathlib.Core.Path.{_≡_, refl, sym, ap₂, subst, _∙_}
-use mathlib.Core.Bool.{Bool, true, false, not, _&&_, _||_, or-false, Bool·beq, false≢true, true≢false, and-eq-true-iff}
+use mathlib.Core.Path.{_≡_, refl, sym, ap₂, _∙_}
+use mathlib.Core.Bool.{Bool, true, false, not, or-false, Bool·beq, false≢true, true≢false, and-eq-true-iff}
 use borrow.Author.Needs.{needs}
 use borrow.Author.Tests.{not-true, not-false}
 use lib.Dec.{T}

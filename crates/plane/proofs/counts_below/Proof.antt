@@ -1,5 +1,5 @@
 -- `plane::counts_below` meets its contract: the tests of the definition, at doubled coordinates.
-use mathlib.Core.Path.{_≡_, refl, sym, ap₂, _∙_}
+use mathlib.Core.Path.{_≡_, ap₂, _∙_}
 use mathlib.Core.Bool.{_&&_}
 use mathlib.Core.Logic.{⊎-elim, inl, inr}
 use borrow.Author.Needs.{needs}
@@ -8,7 +8,7 @@ use lib.Signed.{ltZ, leZ}
 use mir.Facts.{toZ-ofZ}
 use Rattle.plane.specs.Plane.{side, halved, countsBelow}
 use Rattle.plane.proofs.Machine.{and-met, doubled-held, left-in-range, right-in-range}
-use Rattle.plane.proofs.Grid.{Doubled, below-halved}
+use Rattle.plane.proofs.Grid.{below-halved}
 use Rattle.plane.proofs.counts_below.Statement.{statement}
 use Rattle.plane.proofs.counts_below.Tie as tie
 

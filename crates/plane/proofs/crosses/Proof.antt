@@ -1,6 +1,5 @@
 -- `plane::crosses` meets its contract, by that of `separates` both ways.
-use mathlib.Core.Path.{_≡_, refl, sym, _∙_}
-use mathlib.Core.Bool.{_&&_}
+use mathlib.Core.Path.{sym, _∙_}
 use Rattle.plane.specs.Plane.{cross}
 use Rattle.plane.proofs.Machine.{left-in-range, right-in-range}
 use Rattle.plane.proofs.crosses.Statement.{statement}

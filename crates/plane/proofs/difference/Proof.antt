@@ -1,9 +1,8 @@
 -- `plane::difference` meets its contract: two numbers of 32 bits differ by one that 64 bits hold.
 use native.Mathlib.Omega.{arith}
-use mathlib.Core.Path.{_≡_, refl}
 use lib.IntN.{ℤ, _-ℤ_}
 use mir.Syntax.{w32, w64}
-use mir.Val.{SFits, toZ, ofZ}
+use mir.Val.{SFits}
 use mir.Facts.{toZ-ofZ, sfits-widen}
 use Rattle.plane.proofs.Machine.{natAbs-difference, mag-natAbs, small-fits}
 use Rattle.plane.proofs.difference.Statement.{statement}

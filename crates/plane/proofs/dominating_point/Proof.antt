@@ -1,5 +1,4 @@
 -- `plane::dominating_point` meets its contract.
-use mathlib.Core.Path.{_≡_, refl}
 use Rattle.plane.specs.Plane.{dominating}
 use Rattle.plane.proofs.dominating_point.Statement.{statement}
 use Rattle.plane.proofs.dominating_point.Tie as tie

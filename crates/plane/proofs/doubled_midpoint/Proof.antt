@@ -1,5 +1,4 @@
 -- `plane::doubled_midpoint` meets its contract, by that of `sum` at the two ends.
-use mathlib.Core.Path.{_≡_}
 use lib.IntN.{pos}
 use Rattle.plane.proofs.Machine.{left-in-range, right-in-range}
 use Rattle.plane.proofs.doubled_midpoint.Statement.{statement}

@@ -1,5 +1,4 @@
 -- `plane::far_end` meets its contract.
-use mathlib.Core.Path.{_≡_, refl}
 use Rattle.plane.specs.Plane.{farEnd}
 use Rattle.plane.proofs.far_end.Statement.{statement}
 use Rattle.plane.proofs.far_end.Tie as tie

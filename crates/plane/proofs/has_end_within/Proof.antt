@@ -1,6 +1,5 @@
 -- `plane::has_end_within` meets its contract, by that of `has_within` at both ends.
-use mathlib.Core.Path.{_≡_, refl, sym, _∙_}
-use mathlib.Core.Bool.{_||_}
+use mathlib.Core.Path.{sym, _∙_}
 use Rattle.plane.proofs.Machine.{left-in-range, right-in-range}
 use Rattle.plane.proofs.has_end_within.Statement.{statement}
 use Rattle.plane.proofs.has_end_within.Tie as tie

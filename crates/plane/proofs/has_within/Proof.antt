@@ -1,6 +1,6 @@
 -- `plane::has_within` meets its contract, by those of `is_on` and `is_end`.
-use mathlib.Core.Path.{_≡_, refl, sym, ap, _∙_}
-use mathlib.Core.Bool.{not, _&&_}
+use mathlib.Core.Path.{sym, ap, _∙_}
+use mathlib.Core.Bool.{not}
 use borrow.Author.Needs.{needs}
 use Rattle.plane.specs.Plane.{endWithin}
 use Rattle.plane.proofs.has_within.Statement.{statement}

@@ -1,6 +1,6 @@
 -- `plane::is_before` meets its contract: the order of points, taken apart by whether the x are equal.
-use mathlib.Core.Path.{_≡_, refl, sym, ap, ap₂, _∙_}
-use mathlib.Core.Bool.{Bool, true, false, _&&_, _||_, or-false}
+use mathlib.Core.Path.{_≡_, sym, ap, ap₂, _∙_}
+use mathlib.Core.Bool.{or-false}
 use borrow.Author.Needs.{needs}
 use lib.Signed.{ltZ}
 use mir.Syntax.{w32}

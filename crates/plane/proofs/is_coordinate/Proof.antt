@@ -1,12 +1,12 @@
 -- `plane::is_coordinate` meets its contract: two tests for one on the size.
 use native.Mathlib.Omega.{arith}
-use Prim.Native.Nat.{suc}
-use mathlib.Core.Path.{_≡_, refl, sym, ap, _∙_}
+use Prim.Native.Nat.{suc, pred}
+use mathlib.Core.Path.{_≡_, refl, sym, _∙_}
 use mathlib.Core.Bool.{true, false, true≢false}
 use borrow.Author.Needs.{needs}
 use borrow.Author.Tests.{leb-true, leb-false, le-leb, lt-leb}
 use lib.Dec.{leb}
-use lib.IntN.{ℤ, pos, negsuc, natAbs}
+use lib.IntN.{ℤ, pos, negsuc, negℤ, natAbs}
 use lib.Signed.{leZ}
 use mir.Syntax.{w32}
 use mir.Val.{toZ, ofZ}
@@ -15,13 +15,13 @@ use Rattle.plane.specs.Plane.{limit}
 use Rattle.plane.proofs.is_coordinate.Statement.{statement}
 use Rattle.plane.proofs.is_coordinate.Tie as tie
 
-not-below : (z : ℤ) → leZ (negsuc 999999) z ≡ true → leZ z (pos limit) ≡ leb (natAbs z) limit
+not-below : (z : ℤ) → leZ (negℤ (pos limit)) z ≡ true → leZ z (pos limit) ≡ leb (natAbs z) limit
 not-below (pos n) e = refl
-not-below (negsuc n) e = sym (le-leb (suc n) limit (omega (arith, leb-true n 999999 e)))
+not-below (negsuc n) e = sym (le-leb (suc n) limit (omega (arith, leb-true n (pred limit) e)))
 
-below : (z : ℤ) → leZ (negsuc 999999) z ≡ false → leb (natAbs z) limit ≡ false
+below : (z : ℤ) → leZ (negℤ (pos limit)) z ≡ false → leb (natAbs z) limit ≡ false
 below (pos n) e = absurd (true≢false e)
-below (negsuc n) e = lt-leb (suc n) limit (omega (arith, leb-false n 999999 e))
+below (negsuc n) e = lt-leb (suc n) limit (omega (arith, leb-false n (pred limit) e))
 
 back : (s : tie.Start) → toZ w32 (ofZ w32 (s .args .v)) ≡ s .args .v
 back s = toZ-ofZ (s .fits .v)

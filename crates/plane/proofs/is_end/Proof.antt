@@ -1,6 +1,5 @@
 -- `plane::is_end` meets its contract, by that of `is_same_point` at both ends.
-use mathlib.Core.Path.{_≡_, refl, sym, _∙_}
-use mathlib.Core.Bool.{_||_}
+use mathlib.Core.Path.{sym}
 use borrow.Author.Needs.{needs}
 use Rattle.plane.proofs.Grid.{end-grid}
 use Rattle.plane.proofs.is_end.Statement.{statement}

@@ -1,6 +1,5 @@
 -- `plane::is_in_range` meets its contract, by that of `is_coordinate` at both coordinates.
-use mathlib.Core.Path.{_≡_, refl, sym, _∙_}
-use mathlib.Core.Bool.{_&&_}
+use mathlib.Core.Path.{_≡_, sym, _∙_}
 use borrow.Author.Needs.{needs}
 use lib.Dec.{leb}
 use lib.IntN.{natAbs}

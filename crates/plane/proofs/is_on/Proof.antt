@@ -1,8 +1,7 @@
 -- `plane::is_on` meets its contract: a grid point lies on a segment when there is no turn and it is neither before the left end nor after the right.
-use mathlib.Core.Path.{_≡_, refl, sym, _∙_}
-use mathlib.Core.Bool.{not, _&&_}
+use mathlib.Core.Path.{sym, _∙_}
 use borrow.Author.Needs.{needs}
-use Rattle.plane.proofs.Machine.{turn-asks, isStraight}
+use Rattle.plane.proofs.Machine.{turn-asks}
 use Rattle.plane.proofs.Grid.{on-grid}
 use Rattle.plane.proofs.is_on.Statement.{statement}
 use Rattle.plane.proofs.is_on.Tie as tie

@@ -1,5 +1,5 @@
 -- `plane::is_same_point` meets its contract: equal bits are equal numbers.
-use mathlib.Core.Path.{_≡_, refl, sym, _∙_}
+use mathlib.Core.Path.{sym}
 use borrow.Author.Needs.{needs}
 use borrow.Author.Tests.{ne-eqb}
 use mir.Syntax.{w32}

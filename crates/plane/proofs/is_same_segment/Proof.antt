@@ -1,6 +1,5 @@
 -- `plane::is_same_segment` meets its contract, by that of `is_same_point` at both ends.
-use mathlib.Core.Path.{_≡_, refl, sym, _∙_}
-use mathlib.Core.Bool.{_&&_}
+use mathlib.Core.Path.{sym, _∙_}
 use borrow.Author.Needs.{needs}
 use Rattle.plane.specs.Plane.{sameSegment}
 use Rattle.plane.proofs.is_same_segment.Statement.{statement}

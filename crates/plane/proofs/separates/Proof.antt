@@ -1,5 +1,5 @@
 -- `plane::separates` meets its contract: opposite turns are side values of opposite signs.
-use mathlib.Core.Path.{_≡_, refl, sym, ap, _∙_}
+use mathlib.Core.Path.{_≡_, sym, ap, _∙_}
 use mathlib.Core.Bool.{_&&_, _||_, or-false}
 use borrow.Author.Needs.{needs}
 use lib.IntN.{ℤ, pos}

@@ -1,5 +1,5 @@
 -- `plane::side` meets its contract: its four differences are those of the definition, and no product of two overflows.
-use mathlib.Core.Path.{_≡_, refl, ap₂, _∙_}
+use mathlib.Core.Path.{ap₂, _∙_}
 use borrow.Author.Needs.{needs}
 use lib.IntN.{_-ℤ_, _*ℤ_}
 use Rattle.plane.specs.Plane.{side}

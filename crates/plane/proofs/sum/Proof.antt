@@ -1,7 +1,5 @@
 -- `plane::sum` meets its contract: the coordinates' sums fit.
 use Prim.Native.Nat.{_*_}
-use mathlib.Core.Path.{_≡_}
-use lib.Dec.{T}
 use Rattle.plane.specs.Plane.{limit}
 use Rattle.plane.proofs.Machine.{within-x, within-y, is-within, total-fits, total-back, total-small}
 use Rattle.plane.proofs.sum.Statement.{statement}

@@ -1,6 +1,6 @@
 -- `plane::touches` meets its contract: the parts of the definition, two ends at a time.
-use mathlib.Core.Path.{_≡_, refl, sym, ap, ap₂, _∙_}
-use mathlib.Core.Bool.{Bool, true, false, not, _&&_, _||_}
+use mathlib.Core.Path.{_≡_, refl, sym, _∙_}
+use mathlib.Core.Bool.{Bool, true, false, _||_}
 use mathlib.Core.Logic.{⊎-elim, inl, inr}
 use borrow.Author.Needs.{needs}
 use Rattle.plane.specs.declared.Segment.{Segment}
