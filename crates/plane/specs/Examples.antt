@@ -1,5 +1,4 @@
 -- Examples of the definitions in Plane.antt, each computed by the checker: a triangle, points about a segment, pairs of segments, halfsegments.
-use Prim.Native.Nat.{ℕ}
 use mathlib.Core.Path.{_≡_, refl}
 use mathlib.Core.Bool.{Bool, true, false}
 use mathlib.Core.List.{List, [], _∷_, map}
