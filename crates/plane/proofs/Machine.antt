@@ -155,7 +155,9 @@ module _ (s : Segment) (t : T (segmentInRange s)) where
   right-in-doubled = in-doubled (s .right) (right-in-range s t)
 
 -- what a turn at a segment's ends and a point asks
-pub turn-asks : (s : Segment) (p : Point) → T (segmentInRange s) → T (inRange p) → T (within (2 * limit) (s .left)) × T (within (2 * limit) (s .right)) × T (within (2 * limit) p)
+pub turn-asks :
+    (s : Segment) (p : Point) → T (segmentInRange s) → T (inRange p) →
+    T (within (2 * limit) (s .left)) × T (within (2 * limit) (s .right)) × T (within (2 * limit) p)
 turn-asks s p t u = (left-in-doubled s t, right-in-doubled s t, in-doubled p u)
 
 near-fits : (z : ℤ) → natAbs z ≤ 2 * limit → SFits w32 z

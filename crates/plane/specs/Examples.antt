@@ -110,7 +110,8 @@ abbrev half : Segment → Bool → Halfsegment
 half s b = record { segment = s; «is_left» = b }
 
 order-at-the-corner :
-    map (λ (h : Halfsegment). comesBefore h (half bottom false)) (half slope false ∷ half (from (at (pos 4) (pos 0)) (at (pos 5) (pos 0))) true ∷ half bottom true ∷ [])
+    map (λ (h : Halfsegment). comesBefore h (half bottom false))
+    (half slope false ∷ half (from (at (pos 4) (pos 0)) (at (pos 5) (pos 0))) true ∷ half bottom true ∷ [])
     ≡ (true ∷ false ∷ true ∷ [])
 unfolding comesBefore before samePoint dominating farEnd side
 order-at-the-corner = refl

@@ -9,7 +9,8 @@ use Rattle.plane.proofs.Machine.{isLeft, left-is, told}
 use Rattle.plane.proofs.is_left_of.Statement.{statement}
 use Rattle.plane.proofs.is_left_of.Tie as tie
 
-arm : (c : tie.After-turn-from) (u : Turn) → c .turn-from .result ≡ u → isLeft u ≡ ltZ (pos 0) (side (c .before .args .a) (c .before .args .b) (c .before .args .c))
+arm : (c : tie.After-turn-from) (u : Turn) → c .turn-from .result ≡ u →
+    isLeft u ≡ ltZ (pos 0) (side (c .before .args .a) (c .before .args .b) (c .before .args .c))
 arm c u e = told isLeft (ltZ (pos 0)) left-is (c .before .args .a) (c .before .args .b) (c .before .args .c) (c .turn-from .ensures) e
 
 turn-from-requires : tie.Need-turn-from-requires

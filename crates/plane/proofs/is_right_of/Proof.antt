@@ -9,7 +9,8 @@ use Rattle.plane.proofs.Machine.{isRight, right-is, told}
 use Rattle.plane.proofs.is_right_of.Statement.{statement}
 use Rattle.plane.proofs.is_right_of.Tie as tie
 
-arm : (c : tie.After-turn-from) (u : Turn) → c .turn-from .result ≡ u → isRight u ≡ ltZ (side (c .before .args .a) (c .before .args .b) (c .before .args .c)) (pos 0)
+arm : (c : tie.After-turn-from) (u : Turn) → c .turn-from .result ≡ u →
+    isRight u ≡ ltZ (side (c .before .args .a) (c .before .args .b) (c .before .args .c)) (pos 0)
 arm c u e =
     told isRight (λ (z : ℤ). ltZ z (pos 0)) right-is (c .before .args .a) (c .before .args .b) (c .before .args .c) (c .turn-from .ensures) e
 
