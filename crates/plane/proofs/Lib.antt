@@ -1,4 +1,4 @@
--- The plane's lemmas, in the order in which they rest on each other.
+-- The plane's laws that belong to no one function, in the order in which they rest on each other.
 pub mod Homogeneous
 pub mod OnSegment
 pub mod Scale
@@ -11,3 +11,5 @@ pub mod AlongSegment
 pub mod Steps
 pub mod Flip
 pub mod Topmost
+pub mod Machine
+pub mod Grid

@@ -1,0 +1,5 @@
+-- Demand 3, pair by pair.
+pub mod Common
+pub mod PointsPoints
+pub mod PointsLine
+pub mod Beside

@@ -1,0 +1,1 @@
+// The nine-intersection matrix of two objects.
