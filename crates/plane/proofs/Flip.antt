@@ -223,7 +223,7 @@ module _ (s : Segment) where
   unfolding sideAt ends-of
   side-up = solve ends-of (sideAtᵉ (triple (con (pos 0)) (con (pos 1)) (con (pos 0)))) (var 2 :- var 0) tt
 
-  side-down : sideAt s downwards ≡ negℤ (s .right .x -ℤ s .left .x)
+  pub side-down : sideAt s downwards ≡ negℤ (s .right .x -ℤ s .left .x)
   unfolding sideAt ends-of
   side-down = solve ends-of (sideAtᵉ (triple (con (pos 0)) (con (negsuc 0)) (con (pos 0)))) (opp (var 2 :- var 0)) tt
 

@@ -13,3 +13,4 @@ pub mod Flip
 pub mod Topmost
 pub mod Machine
 pub mod Grid
+pub mod Accepted

@@ -199,6 +199,12 @@ middle s =
     at : (x y : ℤ) → pos 1 *ℤ (x +ℤ y) ≡ pos 1 *ℤ x +ℤ pos 1 *ℤ y
     at x y = solve (x ∷ y ∷ []) (con (pos 1) :* (var 0 :+ var 1)) (con (pos 1) :* var 0 :+ con (pos 1) :* var 1) tt
 
+-- it is no end
+pub middle-inner : (s : Segment) → Ordered s → EndOf s (midpoint s) → ⊥
+unfolding middle
+middle-inner s o (left-end e) = zero-pos (at-left s (midpoint s) o (middle s) e) (one-pos 0)
+middle-inner s o (right-end e) = zero-pos (at-right s (midpoint s) o (middle s) e) (one-pos 0)
+
 -- p and the midpoint of its segment: a mean of the two that is an end of the segment is a multiple of p
 pub end-beside-middle : (s : Segment) → Ordered s → {p z : HPoint} → Along s p → Between p (midpoint s) z → Pos (z .W) → EndOf s z → Multiple z p
 unfolding between-compose middle
