@@ -108,6 +108,7 @@ end-along s p h end = go end
   where
     there : (v : Point) → At v p → Multiple (grid v) p
     there v e = record { m = p .W; n = pos 1; m-pos = h; n-pos = one-pos 0; same = sym (at-multiple v p (at-make v p e)) ∙ sym (one-times p) }
+
     go : EndOf s p → Along s p
     go (left-end e) = between-multiple (there (s .left) e) (first-between (grid (s .left)) (grid (s .right)))
     go (right-end e) = between-multiple (there (s .right) e) (between-swap (first-between (grid (s .right)) (grid (s .left))))
@@ -193,16 +194,19 @@ module _ (e : Point) (p d : HPoint) where
       stayed : {z : ℤ} (n : ℕ) (w : ℤ) → z ≡ pos 0 → NotZero w → NotZero (pos n *ℤ z +ℤ w)
       stayed n w f (inl h) = inl (subst Pos (sym (stays n w f)) h)
       stayed n w f (inr h) = inr (subst Neg (sym (stays n w f)) h)
+
       by-dir : p .X -ℤ e .x *ℤ p .W ≡ pos 0 → p .Y -ℤ e .y *ℤ p .W ≡ pos 0 → Sign (d .X -ℤ e .x *ℤ d .W) → Sign (d .Y -ℤ e .y *ℤ d .W) → Large (λ n. isAt e (step d p n) ≡ false)
       by-dir f g (minus h) k = large-all (λ n. off-by-x n (stayed n _ f (inr h)))
       by-dir f g (plus h) k = large-all (λ n. off-by-x n (stayed n _ f (inl h)))
       by-dir f g (nought h) (minus k) = large-all (λ n. off-by-y n (stayed n _ g (inr k)))
       by-dir f g (nought h) (plus k) = large-all (λ n. off-by-y n (stayed n _ g (inl k)))
       by-dir f g (nought h) (nought k) = absurd (never (record { at-x = f; at-y = g }) (record { at-x = h; at-y = k }))
+
       by-y : p .X -ℤ e .x *ℤ p .W ≡ pos 0 → Sign (p .Y -ℤ e .y *ℤ p .W) → Large (λ n. isAt e (step d p n) ≡ false)
       by-y f (minus h) = large-map (λ n k. off-by-y n (inr k)) (shrinks _ h)
       by-y f (plus h) = large-map (λ n k. off-by-y n (inl k)) (grows _ h)
       by-y f (nought h) = by-dir f h (sign _) (sign _)
+
       by-x : Sign (p .X -ℤ e .x *ℤ p .W) → Large (λ n. isAt e (step d p n) ≡ false)
       by-x (minus h) = large-map (λ n k. off-by-x n (inr k)) (shrinks _ h)
       by-x (plus h) = large-map (λ n k. off-by-x n (inl k)) (grows _ h)
@@ -227,18 +231,19 @@ module _ (s : Segment) (o : Ordered s) where
 
   pub along-on-it : (n : ℕ) → Along s (along s n)
   along-on-it n =
-      record
-        { k = pos 1
-        ; a = pos n
-        ; b = pos n +ℤ pos 1
-        ; k-pos = one-pos 0
-        ; a-least = lit-nonneg n
-        ; b-least = nonneg-add (lit-nonneg n) (lit-nonneg 1)
-        ; mean = triple-eq (at (s .left .x) (s .right .x)) (at (s .left .y) (s .right .y)) ones
-        }
+      record {
+        k = pos 1;
+        a = pos n;
+        b = pos n +ℤ pos 1;
+        k-pos = one-pos 0;
+        a-least = lit-nonneg n;
+        b-least = nonneg-add (lit-nonneg n) (lit-nonneg 1);
+        mean = triple-eq (at (s .left .x) (s .right .x)) (at (s .left .y) (s .right .y)) ones;
+      }
     where
       at : (x y : ℤ) → pos 1 *ℤ (pos n *ℤ (x +ℤ y) +ℤ y) ≡ pos n *ℤ x +ℤ (pos n +ℤ pos 1) *ℤ y
       at x y = solve (pos n ∷ x ∷ y ∷ []) (con (pos 1) :* (var 0 :* (var 1 :+ var 2) :+ var 2)) (var 0 :* var 1 :+ (var 0 :+ con (pos 1)) :* var 2) tt
+
       ones : pos 1 *ℤ (pos n *ℤ pos 2 +ℤ pos 1) ≡ pos n *ℤ pos 1 +ℤ (pos n +ℤ pos 1) *ℤ pos 1
       ones = solve (pos n ∷ []) (con (pos 1) :* (var 0 :* con (pos 2) :+ con (pos 1))) (var 0 :* con (pos 1) :+ (var 0 :+ con (pos 1)) :* con (pos 1)) tt
 
@@ -274,6 +279,7 @@ far-segment s (slanting w) = large-map (λ n h. (beneath (below n h), none n (be
   where
     below : (n : ℕ) → Neg (pos n *ℤ sideAt s downwards +ℤ sideAt s origin) → Neg (sideAt s (far n))
     below n h = subst Neg (sym (side-moved s origin downwards n)) h
+
     none : (n : ℕ) → Neg (sideAt s (far n)) → countsBelow (far n) s ≡ false
     none n h = count-tests s (far n) ∙ and-never (inCount s (far n)) (positive (sideAt s (far n))) (λ t u. pos-clash (positive-is (sideAt s (far n)) u) h)
 far-segment s (upright e w) =
@@ -311,10 +317,10 @@ outside-both F G f g = let w = large-one (large-and (far-outside F f) (far-outsi
 pub points-cell : (F : List Point) (B : HPoint → Bool) → ScaleFree B → (b : Point → Bool) → ((v : Point) → b v ≡ B (grid v)) → Cell (some b F) (inInterior (Object.points F)) B
 unfolding inInterior
 points-cell F B free b is =
-    record
-      { found = λ t. let w = some-find b F t in (grid (w .0), one-pos 0, some-make (λ e. isAt e (grid (w .0))) (w .1) (at-itself (w .0)), subst T (is (w .0)) (w .2))
-      ; told = λ p h s t. let w = at-some F p s in some-make b (w .1) (subst T (sym (is (w .0))) (carry (w .0) p h (w .2) B free t))
-      }
+    record {
+      found = λ t. let w = some-find b F t in (grid (w .0), one-pos 0, some-make (λ e. isAt e (grid (w .0))) (w .1) (at-itself (w .0)), subst T (is (w .0)) (w .2));
+      told = λ p h s t. let w = at-some F p s in some-make b (w .1) (subst T (sym (is (w .0))) (carry (w .0) p h (w .2) B free t));
+    }
 
 -- whether a grid point is one of a list, by the point and by what stands there
 pub points-at : (l : List Point) (v : Point) → hasPoint l v ≡ some (λ e. isAt e (grid v)) l
@@ -338,20 +344,20 @@ end-give c l s m v (inl e) t = some-make (λ s. c s (s .left) || c s (s .right))
 end-give c l s m v (inr e) t = some-make (λ s. c s (s .left) || c s (s .right)) m (or-right (c s (s .left)) (c s (s .right)) (subst (λ v. T (c s v)) e t))
 
 pub bound-cell : (F : List Segment) (B : HPoint → Bool) → ScaleFree B → (c : Point → Bool)
-  → ((v : Point) → T (c v) → T (isBound F v) × T (B (grid v))) → ((v : Point) → T (isBound F v) → T (B (grid v)) → T (c v))
-  → Cell (someEnd (λ f. c) F) (inBoundary (Object.line F)) B
+    → ((v : Point) → T (c v) → T (isBound F v) × T (B (grid v))) → ((v : Point) → T (isBound F v) → T (B (grid v)) → T (c v))
+    → Cell (someEnd (λ f. c) F) (inBoundary (Object.line F)) B
 unfolding inBoundary
 bound-cell F B free c split join =
-    record
-      { found = λ t. let w = end-find (λ f. c) F t in let k = split (w .2 .0) (w .2 .2) in (grid (w .2 .0), one-pos 0, k .0, k .1)
-      ; told = λ p h s t. let w = bound-at F p s in end-give (λ f. c) F (w .0) (w .1) (w .2 .0) (w .2 .2) (join (w .2 .0) (carry (w .2 .0) p h (w .2 .1) (λ q. isBoundary (endsAt F q)) (λ k j q. ap isBoundary (endsAt-scale F k j q)) s) (carry (w .2 .0) p h (w .2 .1) B free t))
-      }
+    record {
+      found = λ t. let w = end-find (λ f. c) F t in let k = split (w .2 .0) (w .2 .2) in (grid (w .2 .0), one-pos 0, k .0, k .1);
+      told = λ p h s t. let w = bound-at F p s in end-give (λ f. c) F (w .0) (w .1) (w .2 .0) (w .2 .2) (join (w .2 .0) (carry (w .2 .0) p h (w .2 .1) (λ q. isBoundary (endsAt F q)) (λ k j q. ap isBoundary (endsAt-scale F k j q)) s) (carry (w .2 .0) p h (w .2 .1) B free t));
+    }
 
 -- ---- what a non-empty object has beside a finite set
 
 -- a segment's own points, off any points and no ends of any segments
 pub along-clear : (s : Segment) → Ordered s → (P : List Point) (l m : List Segment)
-  → (p : HPoint) × Pos (p .W) × Along s p × ((e : Point) → e ∈ P → isAt e p ≡ false) × ((t : Segment) → t ∈ l → isEnd t p ≡ false) × ((t : Segment) → t ∈ m → isEnd t p ≡ false)
+    → (p : HPoint) × Pos (p .W) × Along s p × ((e : Point) → e ∈ P → isAt e p ≡ false) × ((t : Segment) → t ∈ l → isEnd t p ≡ false) × ((t : Segment) → t ∈ m → isEnd t p ≡ false)
 along-clear s o P l m =
     let w = large-one (large-and (off-points (midpoint s) (grid (s .right)) P (along-free s o)) (large-and (off-ends (midpoint s) (grid (s .right)) l (along-free s o)) (off-ends (midpoint s) (grid (s .right)) m (along-free s o)))) in
     (along s (suc (w .0)), along-pos s o (suc (w .0)), along-on-it s o (suc (w .0)), w .1 .0, w .1 .1 .0, w .1 .1 .1)

@@ -34,10 +34,10 @@ module _ (F : List Point) (G : List Segment) (ord : (t : Segment) → t ∈ G �
   pub ei : Cell (filled G) (inExterior (Object.points F)) (inInterior (Object.line G))
   unfolding inInterior
   ei =
-      record
-        { found = λ t. let s = first-of G t in let w = along-clear (s .0) (ord (s .0) (s .1)) F G [] in (w .0, w .1, points-off F (w .0) (w .3), line-inner G ord (s .0) (s .1) (w .0) (w .2) (w .4))
-        ; told = λ p h s t. filled-of (on-find G ord p (and-left (onSome G p) (not (isBoundary (endsAt G p))) t) .1)
-        }
+      record {
+        found = λ t. let s = first-of G t in let w = along-clear (s .0) (ord (s .0) (s .1)) F G [] in (w .0, w .1, points-off F (w .0) (w .3), line-inner G ord (s .0) (s .1) (w .0) (w .2) (w .4));
+        told = λ p h s t. filled-of (on-find G ord p (and-left (onSome G p) (not (isBoundary (endsAt G p))) t) .1);
+      }
 
   pub eb : Cell (boundPoiDisjoint F G) (inExterior (Object.points F)) (inBoundary (Object.line G))
   unfolding inExterior inInterior inBoundary
