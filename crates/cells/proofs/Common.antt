@@ -75,6 +75,9 @@ module _ (v : Point) (p : HPoint) (h : Pos (p .W)) (t : T (isAt v p)) where
   pub carry-not : (f : HPoint → Bool) → ScaleFree f → T (not (f p)) → T (not (f (grid v)))
   carry-not f free u = subst (λ b. T (not b)) (at-grid f free v p h t) u
 
+pub bound-scale : (l : List Segment) → ScaleFree (λ q. isBoundary (endsAt l q))
+bound-scale l k h q = ap isBoundary (endsAt-scale l k h q)
+
 -- the points of a list
 pub at-some : (l : List Point) (p : HPoint) → T (some (λ e. isAt e p) l) → (v : Point) × (v ∈ l) × T (isAt v p)
 at-some l p t = some-find (λ e. isAt e p) l t
@@ -101,6 +104,16 @@ module _ (l : List Segment) (ord : (t : Segment) → t ∈ l → Ordered t) (p :
 pub inside-off : (l : List Segment) (p : HPoint) → T (inside l p) → T (not (onSome l p))
 unfolding inside
 inside-off l p t = and-left (not (onSome l p)) (odd (count (countsBelow p) l)) t
+
+-- something counts below an inside point
+pub inside-count : (l : List Segment) (p : HPoint) → T (inside l p) → (s : Segment) × (s ∈ l) × T (countsBelow p s)
+unfolding inside
+inside-count l p t =
+    ⊎-elim (λ h. some-find (countsBelow p) l h) (λ h. absurd (none h (and-right (not (onSome l p)) (odd (count (countsBelow p) l)) t))) (decide (some (countsBelow p) l))
+  where
+    none : T (not (some (countsBelow p) l)) → T (odd (count (countsBelow p) l)) → ⊥
+    none h u =
+        T-not (odd (count (countsBelow p) l)) (is-false (odd (count (countsBelow p) l)) (odd-count (countsBelow p) l ∙ parity-none (countsBelow p) l (λ s m. refute (countsBelow p s) (λ k. T-not (some (countsBelow p) l) h (some-make (countsBelow p) m k))))) u
 
 -- an end of a segment is on it
 pub end-along : (s : Segment) (p : HPoint) → Pos (p .W) → EndOf s p → Along s p
@@ -350,7 +363,7 @@ unfolding inBoundary
 bound-cell F B free c split join =
     record {
       found = λ t. let w = end-find (λ f. c) F t in let k = split (w .2 .0) (w .2 .2) in (grid (w .2 .0), one-pos 0, k .0, k .1);
-      told = λ p h s t. let w = bound-at F p s in end-give (λ f. c) F (w .0) (w .1) (w .2 .0) (w .2 .2) (join (w .2 .0) (carry (w .2 .0) p h (w .2 .1) (λ q. isBoundary (endsAt F q)) (λ k j q. ap isBoundary (endsAt-scale F k j q)) s) (carry (w .2 .0) p h (w .2 .1) B free t));
+      told = λ p h s t. let w = bound-at F p s in end-give (λ f. c) F (w .0) (w .1) (w .2 .0) (w .2 .2) (join (w .2 .0) (carry (w .2 .0) p h (w .2 .1) (λ q. isBoundary (endsAt F q)) (bound-scale F) s) (carry (w .2 .0) p h (w .2 .1) B free t));
     }
 
 -- ---- what a non-empty object has beside a finite set
@@ -379,3 +392,14 @@ first-of (a ∷ l) t = (a, here)
 pub filled-of : {A : Type 0} {a : A} {l : List A} → a ∈ l → T (filled l)
 filled-of here = tt
 filled-of (there m) = tt
+
+pub inside-filled : (l : List Segment) (p : HPoint) → T (inside l p) → T (filled l)
+inside-filled l p t = filled-of (inside-count l p t .1)
+
+-- a point that is an end of a segment stands at that end
+pub end-place : (s : Segment) (p : HPoint) → EndOf s p → (v : Point) × T (isAt v p) × ((v ≡ s .left) ⊎ (v ≡ s .right))
+end-place s p (left-end e) = (s .left, at-make (s .left) p e, inl refl)
+end-place s p (right-end e) = (s .right, at-make (s .right) p e, inr refl)
+
+pub across-swap : {l m : List Segment} → Across l m → Across m l
+across-swap f s t i k = ⊎-elim (λ e. inl (sym e)) (λ a. inr (λ p h x y. let w = a p h y x in (w .1, w .0))) (f t s k i)

@@ -3,3 +3,5 @@ pub mod Common
 pub mod PointsPoints
 pub mod PointsLine
 pub mod Beside
+pub mod PointsRegion
+pub mod LineLine

@@ -13,4 +13,3 @@ pub mod Flip
 pub mod Topmost
 pub mod Machine
 pub mod Grid
-pub mod Accepted
