@@ -11,3 +11,4 @@ pub mod AlongSegment
 pub mod Steps
 pub mod Flip
 pub mod Topmost
+pub mod Order
