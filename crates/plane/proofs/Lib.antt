@@ -12,3 +12,4 @@ pub mod Steps
 pub mod Flip
 pub mod Topmost
 pub mod Order
+pub mod Accepted

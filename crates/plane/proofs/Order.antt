@@ -5,7 +5,7 @@ use mathlib.Core.Logic.{⊎-elim}
 use mathlib.Core.Bool.{Bool, true, false, _&&_, _||_, true≢false}
 use mathlib.Core.List.{List, [], _∷_}
 use lib.Dec.{T}
-use lib.IntN.{ℤ, pos, _+ℤ_, _-ℤ_, _*ℤ_}
+use lib.IntN.{ℤ, pos, _+ℤ_, _-ℤ_, _*ℤ_, +ℤ-invr}
 use lib.Signed.{ltZ}
 use Rattle.whole.specs.Count.{eqZ, _∈_}
 use Rattle.whole.proofs.Solver.{var, con, opp, _:+_, _:-_, _:*_, solve}
@@ -29,9 +29,9 @@ ordered-make s (upright e h) =
     (and-make (eqZ (s .left .x) (s .right .x)) (ltZ (s .left .y) (s .right .y)) (zero-eqZ (s .left .x) (s .right .x) e) (pos-ltZ (s .left .y) (s .right .y) h))
 
 -- the ends of an ordered segment differ
-pub ends-differ {ℓ} : {A : Type ℓ} {s : Segment} → Ordered s → s .right .x -ℤ s .left .x ≡ pos 0 → s .right .y -ℤ s .left .y ≡ pos 0 → A
-ends-differ (slanting h) e f = zero-pos e h
-ends-differ (upright g h) e f = zero-pos f h
+pub ends-differ {ℓ} : {A : Type ℓ} {s : Segment} → Ordered s → s .left ≡ s .right → A
+ends-differ {s = s} (slanting h) e = zero-pos (ap (λ p. s .right .x -ℤ p .x) e ∙ +ℤ-invr (s .right .x)) h
+ends-differ {s = s} (upright f h) e = zero-pos (ap (λ p. s .right .y -ℤ p .y) e ∙ +ℤ-invr (s .right .y)) h
 
 abbrev from : Point → Point → Segment
 from p q = record { left = p; right = q }
@@ -45,10 +45,7 @@ unfolding ordered
 before-make p q o = ordered-make (from p q) o
 
 pub before-irreflexive : (p : Point) → T (before p p) → ⊥
-before-irreflexive p t = ends-differ (before-read p p t) (none (p .x)) (none (p .y))
-  where
-    none : (a : ℤ) → a -ℤ a ≡ pos 0
-    none a = solve (a ∷ []) (var 0 :- var 0) (con (pos 0)) tt
+before-irreflexive p t = ends-differ (before-read p p t) refl
 
 pub before-trans : (p q r : Point) → T (before p q) → T (before q r) → T (before p r)
 before-trans p q r t u = before-make p r (go (before-read p q t) (before-read q r u))

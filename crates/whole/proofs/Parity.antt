@@ -51,6 +51,12 @@ xor-none true true e = refl
 xor-none true false e = e
 xor-none false b e = sym e
 
+-- where not both hold, "or" is exclusive
+pub or-xor : (a b : Bool) → (T a → T b → ⊥) → a || b ≡ a ⊻ b
+or-xor true true f = absurd (f tt tt)
+or-xor true false f = refl
+or-xor false b f = refl
+
 -- b moves to the other side
 pub xor-move : (a b c : Bool) → a ⊻ b ≡ c → a ≡ b ⊻ c
 xor-move a b c e =
