@@ -87,10 +87,10 @@ region-inner P l R regular across l-ord s m = go (parity (countsBelow (midpoint 
     ord = regular .split .ordered
 
     l-others : (t : Segment) → t ∈ l → (s ≡ t) ⊎ Away t (midpoint s)
-    l-others t i = middle-away (ord s m) (l-ord t i) (across s t m i)
+    l-others t i = middle-away s t (ord s m) (l-ord t i) (across s t m i)
 
     R-others : (t : Segment) → t ∈ R → (s ≡ t) ⊎ Away t (midpoint s)
-    R-others t i = middle-away (ord s m) (ord t i) (regular .split .apart s t m i)
+    R-others t i = middle-away s t (ord s m) (ord t i) (regular .split .apart s t m i)
 
     none : (t : Segment) → t ∈ [] → (s ≡ t) ⊎ Away t (midpoint s)
     none t i = absurd (in-nil i)

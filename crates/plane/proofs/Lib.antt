@@ -13,3 +13,5 @@ pub mod Flip
 pub mod Topmost
 pub mod Machine
 pub mod Grid
+pub mod Order
+pub mod Accepted

@@ -1,9 +1,14 @@
 -- Tests as propositions: `T b` taken apart and put together at each Boolean operation, and "some" and "every" of a list with their witnesses.
+-- And lists whose elements rise in a strict order: from neighbours to any two.
+use Prim.Native.Nat.{ℕ, zero, suc, _<_}
+use native.Mathlib.Nat.{not-suc-le-zero, le-of-suc-le-suc, eq-or-lt-of-le}
+use native.Mathlib.Omega.{arith}
 use mathlib.Core.Path.{_≡_, refl, sym, ap, _∙_, subst}
 use mathlib.Core.Logic.{_⊎_, inl, inr, ⊎-elim}
 use mathlib.Core.Bool.{Bool, true, false, not, _&&_, _||_}
 use mathlib.Core.List.{List, [], _∷_, _++_}
 use lib.Dec.{T, T-not, not-T}
+use lib.ListN.{length, getD}
 use Rattle.whole.specs.Count.{_∈_, here, there, some, every}
 
 pub and-left : (a b : Bool) → T (a && b) → T a
@@ -108,3 +113,44 @@ module _ {A : Type 0} where
   in-append [] h = inr h
   in-append (b ∷ l) here = inl here
   in-append (b ∷ l) (there h) = ⊎-elim (λ k. inl (there k)) inr (in-append l h)
+
+  -- membership by index
+  pub in-at : (l : List A) (d : A) (i : ℕ) → i < length l → getD l i d ∈ l
+  in-at [] d i h = absurd (not-suc-le-zero h)
+  in-at (a ∷ l) d zero h = here
+  in-at (a ∷ l) d (suc i) h = there (in-at l d i (le-of-suc-le-suc h))
+
+  pub in-index : {l : List A} {a : A} (d : A) → a ∈ l → (i : ℕ) × (i < length l) × (getD l i d ≡ a)
+  in-index d here = (0, omega arith, refl)
+  in-index d (there m) = let w = in-index d m in (suc (w .0), omega arith, w .2)
+
+-- ---- lists in strict order
+
+-- each element is so related to every later one
+pub data Sorted {A : Type 0} (R : A → A → Type 0) : List A → Type 0 where
+  sorted-nil : Sorted R []
+  sorted-cons : {a : A} {l : List A} → ((b : A) → b ∈ l → R a b) → Sorted R l → Sorted R (a ∷ l)
+
+-- from neighbours to all, where R is transitive on what P holds of
+module _ {A : Type 0} (P : A → Type 0) (R : A → A → Type 0) (trans : (a b c : A) → P a → P b → P c → R a b → R b c → R a c) where
+  pub rising : (f : ℕ → A) (n : ℕ) → ((i : ℕ) → i < n → P (f i)) → ((i : ℕ) → suc i < n → R (f i) (f (suc i)))
+      → (i j : ℕ) → i < j → j < n → R (f i) (f j)
+  rising f n good next i zero h k = absurd (not-suc-le-zero h)
+  rising f n good next i (suc j) h k =
+      ⊎-elim (λ e. subst (λ m. R (f m) (f (suc j))) (sym e) (next j k)) (λ g. step g (rising f n good next i j g (omega arith))) (eq-or-lt-of-le (le-of-suc-le-suc h))
+    where
+      step : i < j → R (f i) (f j) → R (f i) (f (suc j))
+      step g r = trans (f i) (f j) (f (suc j)) (good i (omega arith)) (good j (omega arith)) (good (suc j) k) r (next j k)
+
+  module _ (l : List A) (d : A) (good : (a : A) → a ∈ l → P a) (next : (i : ℕ) → suc i < length l → R (getD l i d) (getD l (suc i) d)) where
+    pub rising-list : (i j : ℕ) → i < j → j < length l → R (getD l i d) (getD l j d)
+    rising-list = rising (λ i. getD l i d) (length l) (λ i h. good (getD l i d) (in-at l d i h)) next
+
+    pub rising-sorted : Sorted R l
+    rising-sorted = go l rising-list
+      where
+        go : (l : List A) → ((i j : ℕ) → i < j → j < length l → R (getD l i d) (getD l j d)) → Sorted R l
+        go [] h = sorted-nil
+        go (a ∷ l) h =
+            sorted-cons {l = l} (λ b m. let w = in-index d m in subst (R a) (w .2) (h 0 (suc (w .0)) (omega arith) (omega arith)))
+            (go l (λ i j p q. h (suc i) (suc j) (omega arith) (omega arith)))

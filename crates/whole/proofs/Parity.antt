@@ -1,5 +1,5 @@
 -- Parity as exclusive or over a list, tied to an odd count; and the lemma on even multisets: where every value occurs an even number of times
--- in a list, any test holds for evenly many of its elements.
+-- in a list, any test holds for evenly many of its elements. In a list that rises in a strict order each element occurs once.
 use Prim.Native.Nat.{ℕ, zero, suc, _+_, _%_, _≤_, _<_}
 use native.Mathlib.Omega.{arith}
 use mathlib.Core.Path.{_≡_, refl, sym, ap, ap₂, _∙_, subst}
@@ -7,9 +7,10 @@ use mathlib.Core.Logic.{_⊎_, inl, inr, ⊎-elim}
 use mathlib.Core.Bool.{Bool, true, false, not, _&&_, _||_}
 use mathlib.Core.List.{List, [], _∷_, _++_}
 use lib.Dec.{T, eqb}
+use lib.ListN.{length, getD}
 use borrow.Author.Tests.{eq-eqb, ne-eqb, eqb-true, eqb-false}
 use Rattle.whole.specs.Count.{_∈_, here, there, some, every, count, bit, odd}
-use Rattle.whole.proofs.Logic.{true-is, refute, false-is, some-make, is-true}
+use Rattle.whole.proofs.Logic.{true-is, refute, false-is, some-make, is-true, in-nil, in-cons, Sorted, sorted-nil, sorted-cons, rising-sorted}
 
 infixl 32 _⊻_
 abbrev pub _⊻_ : Bool → Bool → Bool
@@ -49,6 +50,12 @@ pub xor-none : (a b : Bool) → a ⊻ b ≡ false → a ≡ b
 xor-none true true e = refl
 xor-none true false e = e
 xor-none false b e = sym e
+
+-- where not both hold, "or" is exclusive
+pub or-xor : (a b : Bool) → (T a → T b → ⊥) → a || b ≡ a ⊻ b
+or-xor true true f = absurd (f tt tt)
+or-xor true false f = refl
+or-xor false b f = refl
 
 -- b moves to the other side
 pub xor-move : (a b c : Bool) → a ⊻ b ≡ c → a ≡ b ⊻ c
@@ -175,3 +182,25 @@ module _ {A : Type 0} (eq : A → A → Bool) (eq-is : (a b : A) → T (eq a b) 
 
       gone : (x : A) → some (λ a. eq a x) l ≡ true → f x && not (some (λ a. eq a x) l) ≡ false
       gone x e = ap (λ b. f x && not b) e ∙ off (f x)
+
+-- ---- lists in strict order: each element occurs once
+
+module _ {A : Type 0} (eq : A → A → Bool) (eq-is : (a b : A) → T (eq a b) → a ≡ b) (eq-refl : (a : A) → T (eq a a)) (R : A → A → Type 0) where
+  pub sorted-once : {l : List A} → Sorted R l → ((a : A) → a ∈ l → R a a → ⊥) → (a : A) → a ∈ l → parity (eq a) l ≡ true
+  sorted-once sorted-nil irr a m = absurd (in-nil m)
+  sorted-once (sorted-cons {a = b} {l = l} first rest) irr a m =
+      parity-cons (eq a) b l ∙ ⊎-elim same (λ k. later k (sorted-once rest (λ c n. irr c (there n)) a k)) (in-cons m)
+    where
+      same : a ≡ b → eq a b ⊻ parity (eq a) l ≡ true
+      same e =
+          ap₂ (λ x y. x ⊻ y) (true-is (eq a b) (subst (λ c. T (eq a c)) e (eq-refl a)))
+          (parity-none (eq a) l (λ c k. refute (eq a c) (λ t. irr b here (subst (R b) (sym (eq-is a c t) ∙ e) (first c k)))))
+
+      later : a ∈ l → parity (eq a) l ≡ true → eq a b ⊻ parity (eq a) l ≡ true
+      later k = ap₂ (λ x y. x ⊻ y) (refute (eq a b) (λ t. irr b here (subst (R b) (eq-is a b t) (first a k))))
+
+  -- where neighbours are so related, and R is a strict order on what P holds of
+  pub rising-once : (P : A → Type 0) → ((a : A) → P a → R a a → ⊥) → ((a b c : A) → P a → P b → P c → R a b → R b c → R a c)
+      → (l : List A) (d : A) → ((a : A) → a ∈ l → P a) → ((i : ℕ) → suc i < length l → R (getD l i d) (getD l (suc i) d))
+      → (a : A) → a ∈ l → parity (eq a) l ≡ true
+  rising-once P irr trans l d good next = sorted-once (rising-sorted P R trans l d good next) (λ a m. irr a (good a m))
