@@ -4,7 +4,7 @@ use Prim.Native.Nat.{ℕ, zero, suc, _+_}
 use native.Mathlib.Omega.{arith}
 use mathlib.Core.Path.{_≡_, refl, sym, ap, ap₂, _∙_, subst}
 use mathlib.Core.Logic.{_⊎_, inl, inr, ⊎-elim}
-use mathlib.Core.Bool.{Bool, true, false, not, _&&_, _||_}
+use mathlib.Core.Bool.{Bool, true, false, not, _&&_, _||_, false≢true}
 use mathlib.Core.List.{List, [], _∷_}
 use lib.Dec.{T, T-not, not-T}
 use lib.IntN.{ℤ, pos, negsuc, negℤ, _+ℤ_, _-ℤ_, _*ℤ_}
@@ -12,11 +12,11 @@ use Rattle.whole.specs.Count.{_∈_, here, there, some, count, bit, odd}
 use Rattle.whole.proofs.Solver.{var, con, opp, _:+_, _:-_, _:*_, solve}
 use Rattle.whole.proofs.Sign.{Pos, NonNeg, Neg, Sign, minus, nought, plus, sign, pos-nonneg, zero-nonneg, neg-pos, pos-neg, neg-of-pos, pos-clash, zero-pos, zero-neg, pos-mul, pos-add-nonneg, nonneg-add, nonneg-add-pos, nonneg-mul, cancel-zero, cancel-zero-right, one-pos, lit-nonneg, sub-zero-eq}
 use Rattle.whole.proofs.Logic.{and-left, and-right, and-make, or-cases, or-left, or-right, decide, is-true, is-false, true-is, false-is, refute, same-test, and-never, some-find, some-make}
-use Rattle.whole.proofs.Parity.{parity, parity-none, odd-count}
+use Rattle.whole.proofs.Parity.{_⊻_, parity, parity-same, parity-none, odd-count}
 use Rattle.plane.specs.declared.Point.{Point}
 use Rattle.plane.specs.declared.Segment.{Segment}
 use Rattle.plane.specs.Plane.{HPoint, grid, midpoint, sideAt, samePoint, sameSegment, isAt, isEnd, on, onSome, countsBelow, inside, isBoundary, endsAt, Object, inInterior, inBoundary, inExterior}
-use Rattle.features.specs.Flags.{hasPoint, someEnd, isBound}
+use Rattle.features.specs.Flags.{hasPoint, hasSegment, joins, someEnd, isBound}
 use Rattle.plane.proofs.Homogeneous.{_⋆_, _⊞_, triple-eq, one-times}
 use Rattle.plane.proofs.OnSegment.{Ordered, slanting, upright, Between, Along, Away, over, beneath, leftward, rightward, short, past, on-or-away, on-away, along-on, on-along, away-off}
 use Rattle.plane.proofs.Equal.{samePoint-read, samePoint-refl, sameSegment-read, sameSegment-refl, point-eq}
@@ -24,10 +24,10 @@ use Rattle.plane.proofs.Scale.{ScaleFree, isAt-scale, isEnd-scale, onSome-scale
 use Rattle.plane.proofs.Touch.{at-grid, at-multiple, isEnd-read, first-between}
 use Rattle.plane.proofs.Meeting.{between-swap}
 use Rattle.plane.proofs.Means.{Multiple, between-multiple, At, at-read, at-make, EndOf, left-end, right-end, end-read, end-make, middle, middle-inner}
-use Rattle.plane.proofs.AlongSegment.{Apart}
+use Rattle.plane.proofs.AlongSegment.{Apart, along-segment}
 use Rattle.plane.proofs.Steps.{Large, large-all, large-map, large-and, large-each, large-one, step, grows, shrinks, stays, side-moved, over-left-moved, upright-never, positive, positive-is, count-tests, inCount}
 use Rattle.plane.proofs.Flip.{upperWay, lowerWay, downwards, seen-x, side-down}
-use Rattle.plane.proofs.Accepted.{Split, Regular, Across}
+use Rattle.plane.proofs.Accepted.{Split, Regular, Across, ends-parity}
 
 -- ---- a cell
 
@@ -403,3 +403,58 @@ end-place s p (right-end e) = (s .right, at-make (s .right) p e, inr refl)
 
 pub across-swap : {l m : List Segment} → Across l m → Across m l
 across-swap f s t i k = ⊎-elim (λ e. inl (sym e)) (λ a. inr (λ p h x y. let w = a p h y x in (w .1, w .0))) (f t s k i)
+
+-- ---- one line, and a segment apart from it
+
+-- a segment of the list, or not
+pub is-in : (l : List Segment) (s : Segment) → T (hasSegment l s) → s ∈ l
+is-in l s t = let w = some-find (sameSegment s) l t in subst (λ r. r ∈ l) (sym (sameSegment-read s (w .0) (w .2))) (w .1)
+
+pub in-has : (l : List Segment) (s : Segment) → s ∈ l → T (hasSegment l s)
+in-has l s m = some-make (sameSegment s) m (sameSegment-refl s)
+
+-- the midpoint of a segment that is none of l, and only has ends in common with l's, is off l
+pub middle-off : (l : List Segment) → ((t : Segment) → t ∈ l → Ordered t) → (s : Segment) → Ordered s → ((t : Segment) → t ∈ l → (s ≡ t) ⊎ Apart s t) → T (not (hasSegment l s))
+    → T (not (onSome l (midpoint s)))
+middle-off l ord s o across t = not-T (onSome l (midpoint s)) (λ u. let w = on-find l ord (midpoint s) u in ⊎-elim (λ e. T-not (hasSegment l s) t (in-has l s (subst (λ r. r ∈ l) (sym e) (w .1)))) (λ a. middle-inner s o (a (midpoint s) (one-pos 1) (middle s) (w .2) .0)) (across (w .0) (w .1)))
+
+-- the midpoint of a line's own segment is in its interior
+pub middle-in : (l : List Segment) → Split l → (s : Segment) → s ∈ l → T (inInterior (Object.line l) (midpoint s))
+middle-in l split s m = line-inner l (split .ordered) s m (midpoint s) (middle s) (λ t i. refute (isEnd t (midpoint s)) (λ u. no-end t i (split .apart s t m i) u))
+  where
+    no-end : (t : Segment) → t ∈ l → (s ≡ t) ⊎ Apart s t → T (isEnd t (midpoint s)) → ⊥
+    no-end t i (inl e) u = middle-inner s (split .ordered s m) (end-read s (midpoint s) (subst (λ r. T (isEnd r (midpoint s))) (sym e) u))
+    no-end t i (inr a) u = middle-inner s (split .ordered s m) (a (midpoint s) (one-pos 1) (middle s) (end-along t (midpoint s) (one-pos 1) (end-read t (midpoint s) u)) .0)
+
+-- a point in the interior of a line is on one of its segments
+pub line-on : (l : List Segment) → ((t : Segment) → t ∈ l → Ordered t) → (p : HPoint) → T (inInterior (Object.line l) p) → (s : Segment) × (s ∈ l) × Along s p
+unfolding inInterior
+line-on l ord p t = on-find l ord p (and-left (onSome l p) (not (isBoundary (endsAt l p))) t)
+
+-- a point of s off a region that s is none of is inside or outside it as s's midpoint is
+pub moving : (R : List Segment) → Regular R → (s : Segment) → Ordered s → ((t : Segment) → t ∈ R → (s ≡ t) ⊎ Apart s t) → T (not (hasSegment R s))
+    → (p : HPoint) → Pos (p .W) → Along s p → T (not (onSome R p)) → inside R p ≡ inside R (midpoint s)
+moving R regular s o across none p p-pos h off =
+    inside-parity R ord p (false-is (onSome R p) off)
+    ∙ along-segment s o p p-pos h R (regular .even) ord (λ t m. inr (λ k. T-not (onSome R p) off (on-make R ord p t m k), apart t m (across t m)))
+    ∙ sym (inside-parity R ord (midpoint s) (false-is (onSome R (midpoint s)) (middle-off R ord s o across none)))
+  where
+    ord : (t : Segment) → t ∈ R → Ordered t
+    ord = regular .split .ordered
+
+    apart : (t : Segment) → t ∈ R → (s ≡ t) ⊎ Apart s t → Apart s t
+    apart t m (inl e) = absurd (T-not (hasSegment R s) none (in-has R s (subst (λ r. r ∈ R) (sym e) m)))
+    apart t m (inr a) = a
+
+-- where one segment of a region ends, another does
+pub another-end : (R : List Segment) → Regular R → (s : Segment) → s ∈ R → (v : Point) → T (isEnd s (grid v)) → T (joins R s v)
+another-end R regular s m v h = ⊎-elim (λ t. t) (λ t. absurd (alone t)) (decide (joins R s v))
+  where
+    only : T (not (joins R s v)) → (t : Segment) → t ∈ R → isEnd t (grid v) ≡ sameSegment s t
+    only no-join t i = same-test (isEnd t (grid v)) (sameSegment s t) (λ k. ⊎-elim (λ u. u) (λ u. absurd (T-not (joins R s v) no-join (some-make (λ r. not (sameSegment s r) && isEnd r (grid v)) i (and-make (not (sameSegment s t)) (isEnd t (grid v)) u k)))) (decide (sameSegment s t))) (λ k. subst (λ r. T (isEnd r (grid v))) (sameSegment-read s t k) h)
+
+    alone : T (not (joins R s v)) → ⊥
+    alone t =
+        let odd-one : parity (λ r. isEnd r (grid v)) R ≡ true = parity-same (λ r. isEnd r (grid v)) (sameSegment s) R (only t) ∙ regular .split .once s m in
+        let even-one : parity (λ r. isEnd r (grid v)) R ≡ false = parity-same (λ r. isEnd r (grid v)) (λ r. samePoint (r .left) v ⊻ samePoint (r .right) v) R (λ r i. ends-parity r (regular .split .ordered r i) v) ∙ regular .even v in
+        false≢true (sym even-one ∙ odd-one)

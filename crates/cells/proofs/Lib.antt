@@ -5,3 +5,4 @@ pub mod PointsLine
 pub mod Beside
 pub mod PointsRegion
 pub mod LineLine
+pub mod LineRegion

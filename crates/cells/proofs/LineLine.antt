@@ -17,34 +17,7 @@ use Rattle.plane.proofs.Means.{EndOf, middle, end-read, end-make, middle-inner}
 use Rattle.plane.proofs.AlongSegment.{Apart}
 use Rattle.plane.proofs.Accepted.{Split, Across}
 use Rattle.features.specs.Flags.{hasSegment, onObject, hasEnd, isBound, someEnd, segShared, segUnshared, interiorPoiShared, boundOnInterior, boundShared, boundDisjoint}
-use Rattle.cells.proofs.Common.{Cell, cell-swap, across-swap, bound-scale, carry, carry-not, on-find, on-make, end-along, no-bound, bound-cell, end-find, end-give, end-place, line-outside, outside-line, outside-both, along-clear, line-inner}
-
--- ---- one line, and a segment apart from it
-
--- a segment of the list, or not
-pub is-in : (l : List Segment) (s : Segment) → T (hasSegment l s) → s ∈ l
-is-in l s t = let w = some-find (sameSegment s) l t in subst (λ r. r ∈ l) (sym (sameSegment-read s (w .0) (w .2))) (w .1)
-
-pub in-has : (l : List Segment) (s : Segment) → s ∈ l → T (hasSegment l s)
-in-has l s m = some-make (sameSegment s) m (sameSegment-refl s)
-
--- the midpoint of a segment that is none of l, and only has ends in common with l's, is off l
-pub middle-off : (l : List Segment) → ((t : Segment) → t ∈ l → Ordered t) → (s : Segment) → Ordered s → ((t : Segment) → t ∈ l → (s ≡ t) ⊎ Apart s t) → T (not (hasSegment l s))
-  → T (not (onSome l (midpoint s)))
-middle-off l ord s o across t = not-T (onSome l (midpoint s)) (λ u. let w = on-find l ord (midpoint s) u in ⊎-elim (λ e. T-not (hasSegment l s) t (in-has l s (subst (λ r. r ∈ l) (sym e) (w .1)))) (λ a. middle-inner s o (a (midpoint s) (one-pos 1) (middle s) (w .2) .0)) (across (w .0) (w .1)))
-
--- the midpoint of a line's own segment is in its interior
-pub middle-in : (l : List Segment) → Split l → (s : Segment) → s ∈ l → T (inInterior (Object.line l) (midpoint s))
-middle-in l split s m = line-inner l (split .ordered) s m (midpoint s) (middle s) (λ t i. refute (isEnd t (midpoint s)) (λ u. no-end t i (split .apart s t m i) u))
-  where
-    no-end : (t : Segment) → t ∈ l → (s ≡ t) ⊎ Apart s t → T (isEnd t (midpoint s)) → ⊥
-    no-end t i (inl e) u = middle-inner s (split .ordered s m) (end-read s (midpoint s) (subst (λ r. T (isEnd r (midpoint s))) (sym e) u))
-    no-end t i (inr a) u = middle-inner s (split .ordered s m) (a (midpoint s) (one-pos 1) (middle s) (end-along t (midpoint s) (one-pos 1) (end-read t (midpoint s) u)) .0)
-
--- a point in the interior of a line is on one of its segments
-pub line-on : (l : List Segment) → ((t : Segment) → t ∈ l → Ordered t) → (p : HPoint) → T (inInterior (Object.line l) p) → (s : Segment) × (s ∈ l) × Along s p
-unfolding inInterior
-line-on l ord p t = on-find l ord p (and-left (onSome l p) (not (isBoundary (endsAt l p))) t)
+use Rattle.cells.proofs.Common.{Cell, cell-swap, across-swap, bound-scale, carry, carry-not, on-find, on-make, end-along, no-bound, bound-cell, end-find, end-give, end-place, line-outside, outside-line, outside-both, along-clear, line-inner, is-in, in-has, middle-off, middle-in, line-on}
 
 -- ---- the rows
 
@@ -59,15 +32,19 @@ module _ (F G : List Segment) (f : Split F) (g : Split G) (across : Across F G) 
           let k = is-in G (w .0) (w .2) in
           let q = along-clear (w .0) (f .ordered (w .0) (w .1)) [] F G in
           (q .0, q .1, line-inner F (f .ordered) (w .0) (w .1) (q .0) (q .2) (q .4), line-inner G (g .ordered) (w .0) k (q .0) (q .2) (q .5))
+
       by-end : T (interiorPoiShared F G) → (p : HPoint) × Pos (p .W) × T (inInterior (Object.line F) p) × T (inInterior (Object.line G) p)
       by-end t =
           let w = end-find (λ f v. hasEnd G v && not (isBound F v) && not (isBound G v)) F t in
           let v = w .2 .0 in
           let both = and-left (hasEnd G v && not (isBound F v)) (not (isBound G v)) (w .2 .2) in
-          let e = some-find (λ t. isEnd t (grid v)) G (and-left (hasEnd G v) (not (isBound F v)) both) in
-          (grid v, one-pos 0
-          , and-make (onSome F (grid v)) (not (isBound F v)) (on-make F (f .ordered) (grid v) (w .0) (w .1) (end-along (w .0) (grid v) (one-pos 0) (end-read (w .0) (grid v) (w .2 .1)))) (and-right (hasEnd G v) (not (isBound F v)) both)
-          , and-make (onSome G (grid v)) (not (isBound G v)) (on-make G (g .ordered) (grid v) (e .0) (e .1) (end-along (e .0) (grid v) (one-pos 0) (end-read (e .0) (grid v) (e .2)))) (and-right (hasEnd G v && not (isBound F v)) (not (isBound G v)) (w .2 .2)))
+          let e = some-find (λ t. isEnd t (grid v)) G (and-left (hasEnd G v) (not (isBound F v)) both) in (
+            grid v,
+            one-pos 0,
+            and-make (onSome F (grid v)) (not (isBound F v)) (on-make F (f .ordered) (grid v) (w .0) (w .1) (end-along (w .0) (grid v) (one-pos 0) (end-read (w .0) (grid v) (w .2 .1)))) (and-right (hasEnd G v) (not (isBound F v)) both),
+            and-make (onSome G (grid v)) (not (isBound G v)) (on-make G (g .ordered) (grid v) (e .0) (e .1) (end-along (e .0) (grid v) (one-pos 0) (end-read (e .0) (grid v) (e .2)))) (and-right (hasEnd G v && not (isBound F v)) (not (isBound G v)) (w .2 .2)),
+          )
+
       told : (p : HPoint) → Pos (p .W) → T (inInterior (Object.line F) p) → T (inInterior (Object.line G) p) → T (segShared F G || interiorPoiShared F G)
       told p h s t =
           let a = on-find F (f .ordered) p (and-left (onSome F p) (not (isBoundary (endsAt F p))) s) in
@@ -87,10 +64,10 @@ module _ (F G : List Segment) (f : Split F) (g : Split G) (across : Across F G) 
 
   pub ie : Cell (segUnshared F G) (inInterior (Object.line F)) (inExterior (Object.line G))
   ie =
-      record
-        { found = λ t. let w = some-find (λ r. not (hasSegment G r)) F t in (midpoint (w .0), one-pos 1, middle-in F f (w .0) (w .1), outside-line G (g .ordered) (midpoint (w .0)) (one-pos 1) (middle-off G (g .ordered) (w .0) (f .ordered (w .0) (w .1)) (λ r k. across (w .0) r (w .1) k) (w .2)))
-        ; told = λ p h s t. let w = line-on F (f .ordered) p s in some-make (λ r. not (hasSegment G r)) (w .1) (not-T (hasSegment G (w .0)) (λ u. T-not (onSome G p) (line-outside G (g .ordered) p h t) (on-make G (g .ordered) p (w .0) (is-in G (w .0) u) (w .2))))
-        }
+      record {
+        found = λ t. let w = some-find (λ r. not (hasSegment G r)) F t in (midpoint (w .0), one-pos 1, middle-in F f (w .0) (w .1), outside-line G (g .ordered) (midpoint (w .0)) (one-pos 1) (middle-off G (g .ordered) (w .0) (f .ordered (w .0) (w .1)) (λ r k. across (w .0) r (w .1) k) (w .2)));
+        told = λ p h s t. let w = line-on F (f .ordered) p s in some-make (λ r. not (hasSegment G r)) (w .1) (not-T (hasSegment G (w .0)) (λ u. T-not (onSome G p) (line-outside G (g .ordered) p h t) (on-make G (g .ordered) p (w .0) (is-in G (w .0) u) (w .2))));
+      }
 
   pub bi : Cell (boundOnInterior F G) (inBoundary (Object.line F)) (inInterior (Object.line G))
   unfolding inInterior

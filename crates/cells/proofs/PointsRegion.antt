@@ -34,18 +34,18 @@ module _ (F : List Point) (G : List Segment) (regular : Regular G) where
   pub ei : Cell (filled G) (inExterior (Object.points F)) (inInterior (Object.region G))
   unfolding inInterior
   ei =
-      record
-        { found = λ t. let s = first-of G t in let w = region-inner F [] G regular (λ s t i k. absurd (in-nil k)) (λ t k. absurd (in-nil k)) (s .0) (s .1) in (w .at, w .at-pos, points-off F (w .at) (w .off), w .within)
-        ; told = λ p h s t. inside-filled G p t
-        }
+      record {
+        found = λ t. let s = first-of G t in let w = region-inner F [] G regular (λ s t i k. absurd (in-nil k)) (λ t k. absurd (in-nil k)) (s .0) (s .1) in (w .at, w .at-pos, points-off F (w .at) (w .off), w .within);
+        told = λ p h s t. inside-filled G p t;
+      }
 
   pub eb : Cell (filled G) (inExterior (Object.points F)) (inBoundary (Object.region G))
   unfolding inBoundary
   eb =
-      record
-        { found = λ t. let s = first-of G t in let w = along-clear (s .0) (regular .split .ordered (s .0) (s .1)) F [] [] in (w .0, w .1, points-off F (w .0) (w .3), on-make G (regular .split .ordered) (w .0) (s .0) (s .1) (w .2))
-        ; told = λ p h s t. filled-of (on-find G (regular .split .ordered) p t .1)
-        }
+      record {
+        found = λ t. let s = first-of G t in let w = along-clear (s .0) (regular .split .ordered (s .0) (s .1)) F [] [] in (w .0, w .1, points-off F (w .0) (w .3), on-make G (regular .split .ordered) (w .0) (s .0) (s .1) (w .2));
+        told = λ p h s t. filled-of (on-find G (regular .split .ordered) p t .1);
+      }
 
   pub ee : Cell true (inExterior (Object.points F)) (inExterior (Object.region G))
   ee = outside-both (Object.points F) (Object.region G) (λ t m. absurd (in-nil m)) (regular .split .ordered)
