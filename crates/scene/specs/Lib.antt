@@ -1,0 +1,4 @@
+-- The specification of reading a scene, or turning it away.
+pub mod Read
+pub mod Conditions
+pub mod Examples
