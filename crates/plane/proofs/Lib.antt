@@ -1,0 +1,2 @@
+-- The plane's laws that belong to no one function.
+pub mod Machine

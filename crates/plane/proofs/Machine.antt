@@ -1,0 +1,170 @@
+-- From machine integers to ℤ and back: a number that fits is read back from its bits, tests on bits are tests on numbers, and the bounds on
+-- sums, differences and products by which a side value fits 64 bits.
+use Prim.Native.Nat.{ℕ, zero, suc, _+_, _*_, _-_, _≤_, _<_, _^_}
+use native.Mathlib.Nat.{mul-le-mul, le-trans, le-of-eq}
+use native.Mathlib.Omega.{arith}
+use mathlib.Core.Path.{_≡_, refl, sym, ap, ap₂, subst, _∙_}
+use mathlib.Core.Bool.{Bool, true, false, cond, _&&_, _||_, false≢true, or-false}
+use lib.Dec.{T, leb, ltb, eqb, leb→le, lit≤}
+use lib.IntN.{ℤ, pos, negsuc, negℤ, natAbs, subℕ, _+ℤ_, _-ℤ_, _*ℤ_}
+use lib.Signed.{mag, ltZ}
+use mir.Syntax.{Width, w32, w64}
+use mir.Val.{SFits, toZ, ofZ}
+use mir.Facts.{toZ-ofZ, and-yes}
+use borrow.Author.Tests.{eqb-true, eqb-false, eq-eqb, le-ltb}
+use Rattle.whole.specs.Count.{eqZ}
+use Rattle.plane.specs.declared.Point.{Point}
+use Rattle.plane.specs.Plane.{limit, within, before}
+
+-- ---- sizes
+natAbs-neg : (z : ℤ) → natAbs (negℤ z) ≡ natAbs z
+natAbs-neg (pos zero) = refl
+natAbs-neg (pos (suc n)) = refl
+natAbs-neg (negsuc n) = refl
+
+pub natAbs-sum : (a b : ℤ) → natAbs (a +ℤ b) ≤ natAbs a + natAbs b
+natAbs-sum (pos a) (pos b) = omega arith
+natAbs-sum (pos a) (negsuc b) = go a b (ltb a (suc b))
+  where
+    go : (a b : ℕ) (t : Bool) → natAbs (cond t (negsuc (suc b - suc a)) (pos (a - suc b))) ≤ a + suc b
+    go a b true = omega arith
+    go a b false = omega arith
+natAbs-sum (negsuc a) (pos b) = go a b (ltb b (suc a))
+  where
+    go : (a b : ℕ) (t : Bool) → natAbs (cond t (negsuc (suc a - suc b)) (pos (b - suc a))) ≤ suc a + b
+    go a b true = omega arith
+    go a b false = omega arith
+natAbs-sum (negsuc a) (negsuc b) = omega arith
+
+pub natAbs-difference : (a b : ℤ) → natAbs (a -ℤ b) ≤ natAbs a + natAbs b
+natAbs-difference a b = omega (arith, natAbs-sum a (negℤ b), natAbs-neg b)
+
+pub natAbs-product : (a b : ℤ) → natAbs (a *ℤ b) ≡ natAbs a * natAbs b
+natAbs-product (pos a) (pos b) = refl
+natAbs-product (pos a) (negsuc b) = natAbs-neg (pos (a * suc b))
+natAbs-product (negsuc a) (pos b) = natAbs-neg (pos (suc a * b))
+natAbs-product (negsuc a) (negsuc b) = refl
+
+mag-small : (z : ℤ) → mag z ≤ natAbs z
+mag-small (pos n) = omega arith
+mag-small (negsuc n) = omega arith
+
+pub mag-natAbs : (z : ℤ) → natAbs z ≤ suc (mag z)
+mag-natAbs (pos n) = omega arith
+mag-natAbs (negsuc n) = omega arith
+
+-- what is at most 2 ^ 62 in size fits 64 bits
+pub small-fits : (z : ℤ) → natAbs z ≤ 2 ^ 62 → SFits w64 z
+small-fits z h = record { sfits = omega (arith, mag-small z) }
+
+-- ---- tests
+pub eqZ-true : (a b : ℤ) → eqZ a b ≡ true → a ≡ b
+eqZ-true (pos a) (pos b) e = ap pos (eqb-true a b e)
+eqZ-true (pos a) (negsuc b) e = absurd (false≢true e)
+eqZ-true (negsuc a) (pos b) e = absurd (false≢true e)
+eqZ-true (negsuc a) (negsuc b) e = ap negsuc (eqb-true a b e)
+
+eqZ-refl : (a : ℤ) → eqZ a a ≡ true
+eqZ-refl (pos a) = eq-eqb a a refl
+eqZ-refl (negsuc a) = eq-eqb a a refl
+
+pub eqZ-yes : (a b : ℤ) → a ≡ b → eqZ a b ≡ true
+eqZ-yes a b e = subst (λ (z : ℤ). eqZ a z ≡ true) e (eqZ-refl a)
+
+pub eqZ-no : (a b : ℤ) → (a ≡ b → ⊥) → eqZ a b ≡ false
+eqZ-no a b h = go (eqZ a b) refl
+  where
+    go : (t : Bool) → eqZ a b ≡ t → eqZ a b ≡ false
+    go true e = absurd (h (eqZ-true a b e))
+    go false e = e
+
+ltZ-irrefl : (a : ℤ) → ltZ a a ≡ false
+ltZ-irrefl (pos a) = le-ltb a a (omega arith)
+ltZ-irrefl (negsuc a) = le-ltb a a (omega arith)
+
+pub ltZ-no : (a b : ℤ) → a ≡ b → ltZ a b ≡ false
+ltZ-no a b e = subst (λ (z : ℤ). ltZ a z ≡ false) e (ltZ-irrefl a)
+
+-- a point whose coordinates 32 bits hold, as every point of the program's is
+pub record Held (p : Point) : Type 0 where
+  pub x-fits : SFits w32 (p .x)
+  pub y-fits : SFits w32 (p .y)
+
+-- equal bits are equal numbers
+module _ {w : Width} {a b : ℤ} (f : SFits w a) (g : SFits w b) where
+  pub bits-eq : ofZ w a ≡ ofZ w b → a ≡ b
+  bits-eq e = sym (toZ-ofZ f) ∙ ap (toZ w) e ∙ toZ-ofZ g
+
+  pub bits-eqb : eqb (ofZ w a) (ofZ w b) ≡ eqZ a b
+  bits-eqb = go (eqb (ofZ w a) (ofZ w b)) refl
+    where
+      go : (t : Bool) → eqb (ofZ w a) (ofZ w b) ≡ t → eqb (ofZ w a) (ofZ w b) ≡ eqZ a b
+      go true e = e ∙ sym (eqZ-yes a b (bits-eq (eqb-true (ofZ w a) (ofZ w b) e)))
+      go false e = e ∙ sym (eqZ-no a b (λ q. eqb-false (ofZ w a) (ofZ w b) e (ap (ofZ w) q)))
+
+-- ---- points within a range
+pub within-x : (n : ℕ) (p : Point) → T (within n p) → natAbs (p .x) ≤ n
+unfolding within
+within-x n p t = leb→le (natAbs (p .x)) n (and-yes (leb (natAbs (p .x)) n) (leb (natAbs (p .y)) n) t .0)
+
+pub within-y : (n : ℕ) (p : Point) → T (within n p) → natAbs (p .y) ≤ n
+unfolding within
+within-y n p t = leb→le (natAbs (p .y)) n (and-yes (leb (natAbs (p .x)) n) (leb (natAbs (p .y)) n) t .1)
+
+-- ---- the side value: a difference of coordinates, a product of two and a difference of products
+pub record Factor (z : ℤ) : Type 0 where
+  pub small : natAbs z ≤ 4 * limit
+
+near-fits : (z : ℤ) → natAbs z ≤ 2 * limit → SFits w32 z
+near-fits z h = record { sfits = omega (arith, mag-small z) }
+
+-- what a call that is handed two coordinates by their bits gives back: their difference, and it is small
+abbrev pub Difference : ℤ → ℤ → ℤ → Type 0
+Difference a b r = (r ≡ a -ℤ b) × Factor r
+
+difference-of : (a b r : ℤ) → natAbs a ≤ 2 * limit → natAbs b ≤ 2 * limit → r ≡ toZ w32 (ofZ w32 a) -ℤ toZ w32 (ofZ w32 b) → Difference a b r
+difference-of a b r h k e =
+    (is, record { small = subst (λ (z : ℤ). natAbs z ≤ 4 * limit) (sym is) (omega (arith, natAbs-difference a b)) })
+  where
+    is : r ≡ a -ℤ b
+    is = e ∙ ap₂ _-ℤ_ (toZ-ofZ (near-fits a h)) (toZ-ofZ (near-fits b k))
+
+module _ (p q : Point) (r : ℤ) (hp : T (within (2 * limit) p)) (hq : T (within (2 * limit) q)) where
+  pub difference-x : r ≡ toZ w32 (ofZ w32 (p .x)) -ℤ toZ w32 (ofZ w32 (q .x)) → Difference (p .x) (q .x) r
+  difference-x = difference-of (p .x) (q .x) r (within-x (2 * limit) p hp) (within-x (2 * limit) q hq)
+
+  pub difference-y : r ≡ toZ w32 (ofZ w32 (p .y)) -ℤ toZ w32 (ofZ w32 (q .y)) → Difference (p .y) (q .y) r
+  difference-y = difference-of (p .y) (q .y) r (within-y (2 * limit) p hp) (within-y (2 * limit) q hq)
+
+factor-fits : {z : ℤ} → Factor z → SFits w64 z
+factor-fits {z} f = small-fits z (omega arith)
+
+product-small : (u v : ℤ) → Factor u → Factor v → natAbs (u *ℤ v) ≤ 2 ^ 61
+product-small u v f g = le-trans (le-of-eq (natAbs-product u v)) (le-trans (mul-le-mul (f .small) (g .small)) (lit≤ tt))
+
+-- the product and the value as the machine has them, each factor and each product read from its bits
+abbrev pub product : ℤ → ℤ → ℤ
+product u v = toZ w64 (ofZ w64 u) *ℤ toZ w64 (ofZ w64 v)
+
+abbrev pub value : ℤ → ℤ → ℤ → ℤ → ℤ
+value u v w z = toZ w64 (ofZ w64 (product u v)) -ℤ toZ w64 (ofZ w64 (product w z))
+
+product-is : (u v : ℤ) → Factor u → Factor v → product u v ≡ u *ℤ v
+product-is u v f g = ap₂ _*ℤ_ (toZ-ofZ (factor-fits f)) (toZ-ofZ (factor-fits g))
+
+pub product-fits : (u v : ℤ) → Factor u → Factor v → SFits w64 (product u v)
+product-fits u v f g = rw (product-is u v f g) (small-fits (u *ℤ v) (omega (arith, product-small u v f g)))
+
+module _ (u v w z : ℤ) (f : Factor u) (g : Factor v) (h : Factor w) (k : Factor z) where
+  value-is : value u v w z ≡ u *ℤ v -ℤ w *ℤ z
+  value-is =
+      ap₂ _-ℤ_ (toZ-ofZ (product-fits u v f g) ∙ product-is u v f g) (toZ-ofZ (product-fits w z h k) ∙ product-is w z h k)
+
+  pub value-fits : SFits w64 (value u v w z)
+  value-fits =
+      rw value-is
+      (small-fits (u *ℤ v -ℤ w *ℤ z)
+      (omega (arith, natAbs-difference (u *ℤ v) (w *ℤ z), product-small u v f g, product-small w z h k)))
+
+  pub value-back : toZ w64 (ofZ w64 (value u v w z)) ≡ u *ℤ v -ℤ w *ℤ z
+  value-back = toZ-ofZ value-fits ∙ value-is
