@@ -33,8 +33,11 @@ byte s at = getD s at 0
 unfoldable pub signed : ℕ → ℤ
 signed n = cond (ltb n (2 ^ 31)) (pos n) (pos n -ℤ pos (2 ^ 32))
 
+abbrev pub word : List ℕ → ℕ → ℕ
+word s at = byte s at + 256 * byte s (at + 1) + 65536 * byte s (at + 2) + 16777216 * byte s (at + 3)
+
 unfoldable pub coordinate : List ℕ → ℕ → ℤ
-coordinate s at = signed (byte s at + 256 * byte s (at + 1) + 65536 * byte s (at + 2) + 16777216 * byte s (at + 3))
+coordinate s at = signed (word s at)
 
 abbrev pub pointFrom : List ℕ → ℕ → Point
 pointFrom s at = record { x = coordinate s at; y = coordinate s (at + 4) }

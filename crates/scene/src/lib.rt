@@ -55,3 +55,5 @@ pub enum CheckedScene {
     Taken(Scene),
     Refused(Refusal),
 }
+
+pub mod bytes;
