@@ -6,7 +6,7 @@ use lib.IntN.{ℤ, pos, negsuc}
 use Rattle.whole.specs.Count.{odd}
 use Rattle.plane.specs.Plane.{within, before, samePoint, sameSegment, ordered, side, dominating, farEnd, comesBefore, sideAt, isAt, notBefore, notAfter, on, isEnd, countsBelow, countsBelowLeft, interiorAbove, endsAt, opposite, cross, endWithin, touch}
 use Rattle.scene.specs.declared.Shape.the-variants.{Points}
-use Rattle.scene.specs.Read.{signed, coordinate, kindOf, shapeOf, recordAt, place, elementsFrom, readObject, readScene, readAlone, Values, sceneValues, objectValues}
+use Rattle.scene.specs.Read.{signed, coordinate, kindOf, shapeOf, recordAt, elementsFrom, readObject, readScene, readAlone, Values, sceneValues, objectValues}
 use Rattle.scene.specs.Conditions.{segments, inOrder, outOfOrder, partner, unpaired, touching, touchingItself, oddEnd, wrongIa, checkSceneBy, checkScene, checkObject}
 
 -- ---- records, as document 01 writes them
@@ -104,7 +104,7 @@ scenes =
     ∷ []
 
 verdict : List ℕ → List ℕ
-unfolding checkScene checkSceneBy readScene readObject elementsFrom recordAt kindOf shapeOf place coordinate signed segments outOfOrder inOrder unpaired partner touchingItself touching oddEnd wrongIa within before samePoint sameSegment ordered side dominating farEnd comesBefore sideAt isAt notBefore notAfter on isEnd countsBelow countsBelowLeft interiorAbove endsAt opposite cross endWithin touch odd
+unfolding checkScene checkSceneBy readScene readObject elementsFrom recordAt kindOf shapeOf coordinate signed segments outOfOrder inOrder unpaired partner touchingItself touching oddEnd wrongIa within before samePoint sameSegment ordered side dominating farEnd comesBefore sideAt isAt notBefore notAfter on isEnd countsBelow countsBelowLeft interiorAbove endsAt opposite cross endWithin touch odd
 verdict s = answer (sceneValues (checkScene s))
 
 scenes-answered : map (λ e. verdict (e .bytes)) scenes ≡ map expected scenes

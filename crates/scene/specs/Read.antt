@@ -160,16 +160,20 @@ module _ (s : List ℕ) (at : ℕ) where
 
   -- "Within a record: 1 for no byte, 2, 6, 1 for a cut body, 3, 4, 5." "The place is the record at fault"; "For 1 it is the cut record, or the
   -- length if none began."
+  abbrev pub fieldConditions : Kind → List Condition
+  fieldConditions k =
+      condition 3 (unless (fieldsGood k) at)
+      ∷ condition 4 (unless (coordinatesGood k) at)
+      ∷ condition 5 (unless (endsGood k) at)
+      ∷ []
+
   abbrev pub recordConditions : (Kind → Bool) → Bool → Kind → List Condition
   recordConditions allowed full k =
       condition 1 (unless (ltb at (length s)) (length s))
       ∷ condition 2 (unless (allowed k) at)
       ∷ condition 6 (unless (hasRoom full k) at)
       ∷ condition 1 (unless (leb (at + 1 + bodyLength k) (length s)) at)
-      ∷ condition 3 (unless (fieldsGood k) at)
-      ∷ condition 4 (unless (coordinatesGood k) at)
-      ∷ condition 5 (unless (endsGood k) at)
-      ∷ []
+      ∷ fieldConditions k
 
   unfoldable pub recordAt : (Kind → Bool) → Bool → Record
   recordAt allowed full = judge Bad (Good (kindAt s at)) (recordConditions allowed full (kindAt s at))
@@ -180,7 +184,7 @@ module _ (s : List ℕ) (at : ℕ) where
 abbrev pub size : Shape → ℕ
 size k = 1 + bodyLength (Element k)
 
-unfoldable pub place : Layout → ℕ → ℕ
+abbrev pub place : Layout → ℕ → ℕ
 place l i = l .start + 2 + i * size (l .shape)
 
 abbrev pub endPlace : Layout → ℕ

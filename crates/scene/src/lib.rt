@@ -57,3 +57,4 @@ pub enum CheckedScene {
 }
 
 pub mod bytes;
+pub mod records;
