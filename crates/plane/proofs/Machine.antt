@@ -4,17 +4,21 @@ use Prim.Native.Nat.{ℕ, zero, suc, _+_, _*_, _-_, _≤_, _<_, _^_}
 use native.Mathlib.Nat.{mul-le-mul, le-trans, le-of-eq}
 use native.Mathlib.Omega.{arith}
 use mathlib.Core.Path.{_≡_, refl, sym, ap, ap₂, subst, _∙_}
-use mathlib.Core.Bool.{Bool, true, false, cond, _&&_, _||_, false≢true, or-false}
-use lib.Dec.{T, leb, ltb, eqb, leb→le, lit≤}
+use mathlib.Core.Logic.{_⊎_, inl, inr}
+use mathlib.Core.Bool.{Bool, true, false, cond, _&&_, false≢true, true≢false}
+use lib.Dec.{T, leb, ltb, eqb, leb→le, le→leb, lit≤, eqb·suc-zero}
 use lib.IntN.{ℤ, pos, negsuc, negℤ, natAbs, subℕ, _+ℤ_, _-ℤ_, _*ℤ_}
 use lib.Signed.{mag, ltZ}
 use mir.Syntax.{Width, w32, w64}
 use mir.Val.{SFits, toZ, ofZ}
-use mir.Facts.{toZ-ofZ, and-yes}
-use borrow.Author.Tests.{eqb-true, eqb-false, eq-eqb, le-ltb}
+use mir.Facts.{toZ-ofZ, and-yes, yes-and}
+use borrow.Author.Tests.{eqb-true, eqb-false, eq-eqb, lt-ltb, le-ltb}
 use Rattle.whole.specs.Count.{eqZ}
 use Rattle.plane.specs.declared.Point.{Point}
-use Rattle.plane.specs.Plane.{limit, within, before}
+use Rattle.plane.specs.declared.Segment.{Segment}
+use Rattle.plane.specs.declared.Turn.{Turn}
+use Rattle.plane.specs.declared.Turn.the-variants.{Left, Straight, Right}
+use Rattle.plane.specs.Plane.{limit, within, inRange, segmentInRange, turnOf}
 
 -- ---- sizes
 natAbs-neg : (z : ℤ) → natAbs (negℤ z) ≡ natAbs z
@@ -71,12 +75,22 @@ eqZ-refl (negsuc a) = eq-eqb a a refl
 pub eqZ-yes : (a b : ℤ) → a ≡ b → eqZ a b ≡ true
 eqZ-yes a b e = subst (λ (z : ℤ). eqZ a z ≡ true) e (eqZ-refl a)
 
+pub eqZ-false : (a b : ℤ) → eqZ a b ≡ false → a ≡ b → ⊥
+eqZ-false a b e q = true≢false (sym (eqZ-yes a b q) ∙ e)
+
 pub eqZ-no : (a b : ℤ) → (a ≡ b → ⊥) → eqZ a b ≡ false
 eqZ-no a b h = go (eqZ a b) refl
   where
     go : (t : Bool) → eqZ a b ≡ t → eqZ a b ≡ false
     go true e = absurd (h (eqZ-true a b e))
     go false e = e
+
+pub eqZ-sym : (a b : ℤ) → eqZ a b ≡ eqZ b a
+eqZ-sym a b = go (eqZ b a) refl
+  where
+    go : (t : Bool) → eqZ b a ≡ t → eqZ a b ≡ t
+    go true e = eqZ-yes a b (sym (eqZ-true b a e))
+    go false e = eqZ-no a b (λ q. eqZ-false b a e (sym q))
 
 ltZ-irrefl : (a : ℤ) → ltZ a a ≡ false
 ltZ-irrefl (pos a) = le-ltb a a (omega arith)
@@ -102,6 +116,11 @@ module _ {w : Width} {a b : ℤ} (f : SFits w a) (g : SFits w b) where
       go true e = e ∙ sym (eqZ-yes a b (bits-eq (eqb-true (ofZ w a) (ofZ w b) e)))
       go false e = e ∙ sym (eqZ-no a b (λ q. eqb-false (ofZ w a) (ofZ w b) e (ap (ofZ w) q)))
 
+-- the flag t where the ways of `a && b` meet
+pub and-met : {t a b : Bool} → ((a ≡ true) × (t ≡ b)) ⊎ ((a ≡ false) × (t ≡ a)) → t ≡ (a && b)
+and-met {t} {a} {b} (inl w) = w .1 ∙ ap (λ (x : Bool). x && b) (sym (w .0))
+and-met {t} {a} {b} (inr w) = w .1 ∙ w .0 ∙ ap (λ (x : Bool). x && b) (sym (w .0))
+
 -- ---- points within a range
 pub within-x : (n : ℕ) (p : Point) → T (within n p) → natAbs (p .x) ≤ n
 unfolding within
@@ -111,12 +130,57 @@ pub within-y : (n : ℕ) (p : Point) → T (within n p) → natAbs (p .y) ≤ n
 unfolding within
 within-y n p t = leb→le (natAbs (p .y)) n (and-yes (leb (natAbs (p .x)) n) (leb (natAbs (p .y)) n) t .1)
 
--- ---- the side value: a difference of coordinates, a product of two and a difference of products
-pub record Factor (z : ℤ) : Type 0 where
-  pub small : natAbs z ≤ 4 * limit
+pub is-within : (n : ℕ) (p : Point) → natAbs (p .x) ≤ n → natAbs (p .y) ≤ n → T (within n p)
+unfolding within
+is-within n p h k = yes-and (leb (natAbs (p .x)) n) (leb (natAbs (p .y)) n) (le→leb (natAbs (p .x)) n h) (le→leb (natAbs (p .y)) n k)
+
+pub left-in-range : (s : Segment) → T (segmentInRange s) → T (inRange (s .left))
+left-in-range s t = and-yes (inRange (s .left)) (inRange (s .right)) t .0
+
+pub right-in-range : (s : Segment) → T (segmentInRange s) → T (inRange (s .right))
+right-in-range s t = and-yes (inRange (s .left)) (inRange (s .right)) t .1
+
+-- what is in range is within the range of doubled coordinates
+pub in-doubled : (p : Point) → T (inRange p) → T (within (2 * limit) p)
+in-doubled p t = is-within (2 * limit) p (omega (arith, within-x limit p t)) (omega (arith, within-y limit p t))
+
+module _ (s : Segment) (t : T (segmentInRange s)) where
+  pub left-in-doubled : T (within (2 * limit) (s .left))
+  left-in-doubled = in-doubled (s .left) (left-in-range s t)
+
+  pub right-in-doubled : T (within (2 * limit) (s .right))
+  right-in-doubled = in-doubled (s .right) (right-in-range s t)
 
 near-fits : (z : ℤ) → natAbs z ≤ 2 * limit → SFits w32 z
 near-fits z h = record { sfits = omega (arith, mag-small z) }
+
+pub doubled-held : (p : Point) → T (within (2 * limit) p) → Held p
+doubled-held p t =
+    record { x-fits = near-fits (p .x) (within-x (2 * limit) p t); y-fits = near-fits (p .y) (within-y (2 * limit) p t) }
+
+-- ---- the sum of two coordinates in range, as the machine has it, each read from its bits
+abbrev pub total : ℤ → ℤ → ℤ
+total a b = toZ w32 (ofZ w32 a) +ℤ toZ w32 (ofZ w32 b)
+
+module _ (a b : ℤ) (h : natAbs a ≤ limit) (k : natAbs b ≤ limit) where
+  sum-small : natAbs (a +ℤ b) ≤ 2 * limit
+  sum-small = omega (arith, natAbs-sum a b)
+
+  total-is : total a b ≡ a +ℤ b
+  total-is = ap₂ _+ℤ_ (toZ-ofZ (near-fits a (omega arith))) (toZ-ofZ (near-fits b (omega arith)))
+
+  pub total-fits : SFits w32 (total a b)
+  total-fits = rw total-is (near-fits (a +ℤ b) sum-small)
+
+  pub total-back : toZ w32 (ofZ w32 (total a b)) ≡ a +ℤ b
+  total-back = toZ-ofZ total-fits ∙ total-is
+
+  pub total-small : natAbs (toZ w32 (ofZ w32 (total a b))) ≤ 2 * limit
+  total-small = rw total-back sum-small
+
+-- ---- the side value: a difference of coordinates, a product of two and a difference of products
+pub record Factor (z : ℤ) : Type 0 where
+  pub small : natAbs z ≤ 4 * limit
 
 -- what a call that is handed two coordinates by their bits gives back: their difference, and it is small
 abbrev pub Difference : ℤ → ℤ → ℤ → Type 0
@@ -168,3 +232,34 @@ module _ (u v w z : ℤ) (f : Factor u) (g : Factor v) (h : Factor w) (k : Facto
 
   pub value-back : toZ w64 (ofZ w64 (value u v w z)) ≡ u *ℤ v -ℤ w *ℤ z
   value-back = toZ-ofZ value-fits ∙ value-is
+
+-- ---- what a turn says of the side value's sign
+abbrev pub isLeft : Turn → Bool
+isLeft Left = true
+isLeft Straight = false
+isLeft Right = false
+
+abbrev pub isStraight : Turn → Bool
+isStraight Left = false
+isStraight Straight = true
+isStraight Right = false
+
+abbrev pub isRight : Turn → Bool
+isRight Left = false
+isRight Straight = false
+isRight Right = true
+
+pub left-is : (z : ℤ) → isLeft (turnOf z) ≡ ltZ (pos 0) z
+left-is (pos zero) = refl
+left-is (pos (suc n)) = sym (lt-ltb 0 (suc n) (omega arith))
+left-is (negsuc n) = refl
+
+pub straight-is : (z : ℤ) → isStraight (turnOf z) ≡ eqZ z (pos 0)
+straight-is (pos zero) = refl
+straight-is (pos (suc n)) = sym (eqb·suc-zero n)
+straight-is (negsuc n) = refl
+
+pub right-is : (z : ℤ) → isRight (turnOf z) ≡ ltZ z (pos 0)
+right-is (pos zero) = refl
+right-is (pos (suc n)) = sym (le-ltb (suc n) 0 (omega arith))
+right-is (negsuc n) = refl

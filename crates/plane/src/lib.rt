@@ -1,9 +1,16 @@
 // The plane of document 01, exactly: its types, and the tests on them in 64 bits, each proved equal to its definition in specs/Plane.antt.
+// Every sign of a side value is read off `turn_from`.
 ghost use mathlib.Core.Path.{_≡_};
 ghost use Prim.Native.Nat.{_*_};
-ghost use lib.Dec.{T};
-ghost use lib.IntN.{_-ℤ_};
-ghost use Rattle.plane.specs.Plane.{limit, within, side, turn, before, samePoint, sameSegment};
+ghost use lib.Dec.{T, leb};
+ghost use lib.IntN.{pos, natAbs, _+ℤ_, _-ℤ_};
+ghost use lib.Signed.{ltZ};
+ghost use Rattle.plane.specs.Plane.{limit, within, inRange, segmentInRange, before, samePoint, sameSegment, side, turn};
+ghost use Rattle.plane.specs.Plane.{dominating, farEnd, comesBefore, grid, halved, midpoint, on, isEnd, countsBelow, countsBelowLeft};
+ghost use Rattle.plane.specs.Plane.{opposite, cross, endWithin, touch};
+
+// The largest coordinate, and minus the smallest.
+pub const LIMIT: i32 = 1_000_000;
 
 // A grid point.
 pub struct Point {
@@ -30,13 +37,43 @@ pub enum Turn {
     Right,
 }
 
+pub fn is_coordinate(v: i32) -> bool
+    ensures { λ r. ⌜ r ≡ leb (natAbs v) limit ⌝ }
+{
+    -LIMIT <= v && v <= LIMIT
+}
+
+pub fn is_in_range(p: Point) -> bool
+    ensures { λ r. ⌜ r ≡ inRange p ⌝ }
+{
+    is_coordinate(p.x) && is_coordinate(p.y)
+}
+
+pub fn is_before(p: Point, q: Point) -> bool
+    ensures { λ r. ⌜ r ≡ before p q ⌝ }
+{
+    if p.x == q.x { p.y < q.y } else { p.x < q.x }
+}
+
+pub fn is_same_point(p: Point, q: Point) -> bool
+    ensures { λ r. ⌜ r ≡ samePoint p q ⌝ }
+{
+    p.x == q.x && p.y == q.y
+}
+
+pub fn is_same_segment(s: Segment, t: Segment) -> bool
+    ensures { λ r. ⌜ r ≡ sameSegment s t ⌝ }
+{
+    is_same_point(s.left, t.left) && is_same_point(s.right, t.right)
+}
+
 fn difference(a: i32, b: i32) -> i64
     ensures { λ r. ⌜ r ≡ a -ℤ b ⌝ }
 {
     (a as i64) - (b as i64)
 }
 
-// The side value, which 64 bits hold for points with doubled coordinates too.
+// The side value. It fits for points with doubled coordinates too.
 pub fn side(a: Point, b: Point, c: Point) -> i64
     requires { ⌜ T (within (2 * limit) a) × T (within (2 * limit) b) × T (within (2 * limit) c) ⌝ }
     ensures { λ r. ⌜ r ≡ side a b c ⌝ }
@@ -44,8 +81,125 @@ pub fn side(a: Point, b: Point, c: Point) -> i64
     difference(b.x, a.x) * difference(c.y, a.y) - difference(b.y, a.y) * difference(c.x, a.x)
 }
 
-pub fn is_before(p: Point, q: Point) -> bool
-    ensures { λ r. ⌜ r ≡ before p q ⌝ }
+// The turn at b of the path from a through b to c.
+pub fn turn_from(a: Point, b: Point, c: Point) -> Turn
+    requires { ⌜ T (within (2 * limit) a) × T (within (2 * limit) b) × T (within (2 * limit) c) ⌝ }
+    ensures { λ r. ⌜ r ≡ turn a b c ⌝ }
 {
-    if p.x == q.x { p.y < q.y } else { p.x < q.x }
+    let value = side(a, b, c);
+    if value > 0 {
+        Turn::Left
+    } else if value < 0 {
+        Turn::Right
+    } else {
+        Turn::Straight
+    }
+}
+
+pub fn is_left_of(a: Point, b: Point, c: Point) -> bool
+    requires { ⌜ T (within (2 * limit) a) × T (within (2 * limit) b) × T (within (2 * limit) c) ⌝ }
+    ensures { λ r. ⌜ r ≡ ltZ (pos 0) (side a b c) ⌝ }
+{
+    match turn_from(a, b, c) {
+        Turn::Left => true,
+        Turn::Straight => false,
+        Turn::Right => false,
+    }
+}
+
+pub fn dominating_point(h: Halfsegment) -> Point
+    ensures { λ r. ⌜ r ≡ dominating h ⌝ }
+{
+    if h.is_left {
+        h.segment.left
+    } else {
+        h.segment.right
+    }
+}
+
+pub fn far_end(h: Halfsegment) -> Point
+    ensures { λ r. ⌜ r ≡ farEnd h ⌝ }
+{
+    if h.is_left {
+        h.segment.right
+    } else {
+        h.segment.left
+    }
+}
+
+pub fn comes_before(h: Halfsegment, k: Halfsegment) -> bool
+    requires { ⌜ T (segmentInRange (h .segment)) × T (segmentInRange (k .segment)) ⌝ }
+    ensures { λ r. ⌜ r ≡ comesBefore h k ⌝ }
+{
+    let p = dominating_point(h);
+    let q = dominating_point(k);
+    if !is_same_point(p, q) {
+        is_before(p, q)
+    } else if h.is_left != k.is_left {
+        k.is_left
+    } else {
+        is_left_of(p, far_end(h), far_end(k))
+    }
+}
+
+pub fn is_on(s: Segment, p: Point) -> bool
+    requires { ⌜ T (segmentInRange s) × T (inRange p) ⌝ }
+    ensures { λ r. ⌜ r ≡ on s (grid p) ⌝ }
+{
+    match turn_from(s.left, s.right, p) {
+        Turn::Left => false,
+        Turn::Straight => !is_before(p, s.left) && !is_before(s.right, p),
+        Turn::Right => false,
+    }
+}
+
+pub fn is_end(s: Segment, p: Point) -> bool
+    ensures { λ r. ⌜ r ≡ isEnd s (grid p) ⌝ }
+{
+    is_same_point(s.left, p) || is_same_point(s.right, p)
+}
+
+fn sum(p: Point, q: Point) -> Point
+    requires { ⌜ T (inRange p) × T (inRange q) ⌝ }
+    ensures { λ r. ⌜ (r .x ≡ p .x +ℤ q .x) × (r .y ≡ p .y +ℤ q .y) × T (within (2 * limit) r) ⌝ }
+{
+    Point {
+        x: p.x + q.x,
+        y: p.y + q.y,
+    }
+}
+
+// A grid point by its doubled coordinates.
+pub fn doubled(p: Point) -> Point
+    requires { ⌜ T (inRange p) ⌝ }
+    ensures { λ r. ⌜ (r .x ≡ p .x +ℤ p .x) × (r .y ≡ p .y +ℤ p .y) × T (within (2 * limit) r) ⌝ }
+{
+    sum(p, p)
+}
+
+// A midpoint by its doubled coordinates.
+pub fn doubled_midpoint(s: Segment) -> Point
+    requires { ⌜ T (segmentInRange s) ⌝ }
+    ensures { λ r. ⌜ (halved r ≡ midpoint s) × T (within (2 * limit) r) ⌝ }
+{
+    sum(s.left, s.right)
+}
+
+// Does s count below the point whose doubled coordinates are m's?
+pub fn counts_below(s: Segment, m: Point) -> bool
+    requires { ⌜ T (segmentInRange s) × T (within (2 * limit) m) ⌝ }
+    ensures { λ r. ⌜ r ≡ countsBelow (halved m) s ⌝ }
+{
+    let left = doubled(s.left);
+    let right = doubled(s.right);
+    left.x <= m.x && m.x < right.x && is_left_of(left, right, m)
+}
+
+pub fn counts_below_left(s: Segment, m: Point) -> bool
+    requires { ⌜ T (segmentInRange s) × T (within (2 * limit) m) ⌝ }
+    ensures { λ r. ⌜ r ≡ countsBelowLeft (halved m) s ⌝ }
+{
+    let left = doubled(s.left);
+    let right = doubled(s.right);
+    left.x < m.x && m.x <= right.x && is_left_of(left, right, m)
 }
