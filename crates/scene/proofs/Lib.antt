@@ -1,2 +1,3 @@
 -- Laws of reading that the proofs of the functions and of other crates cite.
+mod Flags
 pub mod Passed

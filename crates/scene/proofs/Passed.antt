@@ -6,7 +6,7 @@ use mathlib.Core.Bool.{Bool, true, false, not, cond, _&&_}
 use mathlib.Core.List.{List, [], _∷_}
 use lib.ListN.{length, getD}
 use lib.Dec.{T, leb, ltb, eqb, leb→le, ltb→lt, eqb→eq}
-use borrow.Author.Tests.{lt-ltb, le-ltb, le-leb, lt-leb}
+use borrow.Author.Tests.{lt-ltb, le-ltb, le-leb, lt-leb, eqb-false}
 use Rattle.scene.specs.declared.Shape.{Shape}
 use Rattle.scene.specs.declared.Shape.the-variants.{Points, Line, Region}
 use Rattle.scene.specs.declared.Kind.{Kind}
@@ -14,10 +14,21 @@ use Rattle.scene.specs.declared.Kind.the-variants.{Start, Element, End, 
 use Rattle.scene.specs.declared.Refusal.{Refusal}
 use Rattle.scene.specs.declared.Record.{Record}
 use Rattle.scene.specs.declared.Record.the-variants.{Good, Bad}
-use Rattle.scene.specs.Read.{kindAt, bodyLength, unless, decide, judge, hasRoom, fieldsGood, coordinatesGood, endsGood, fieldConditions, recordConditions, recordAt}
+use Rattle.scene.specs.Read.{kindAt, shapeNumber, bodyLength, unless, decide, judge, hasRoom, fieldsGood, coordinatesGood, endsGood, fieldConditions, recordConditions, recordAt}
 
 abbrev pub refusal : ℕ → ℕ → Refusal
 refusal n p = record { number = n; place = p }
+
+pub same-shape : (e k : Shape) → shapeNumber e ≡ shapeNumber k → e ≡ k
+same-shape Points Points q = refl
+same-shape Points Line q = absurd (eqb-false 1 2 refl q)
+same-shape Points Region q = absurd (eqb-false 1 3 refl q)
+same-shape Line Points q = absurd (eqb-false 2 1 refl q)
+same-shape Line Line q = refl
+same-shape Line Region q = absurd (eqb-false 2 3 refl q)
+same-shape Region Points q = absurd (eqb-false 3 1 refl q)
+same-shape Region Line q = absurd (eqb-false 3 2 refl q)
+same-shape Region Region q = refl
 
 -- ---- from the tests to the answer
 module _ (s : List ℕ) (at : ℕ) (allowed : Kind → Bool) (full : Bool) where

@@ -2,7 +2,6 @@
 use plane::Halfsegment;
 use plane::Point;
 use plane::Segment;
-
 ghost use mathlib.Core.Path.{_≡_};
 ghost use Prim.Native.Nat.{_+_, _<_, _≤_};
 ghost use lib.ListN.{length};

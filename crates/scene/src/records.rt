@@ -1,5 +1,4 @@
 // The refusals 1 to 7, found record by record.
-use crate::bytes;
 use crate::CheckedObject;
 use crate::CheckedScene;
 use crate::Kind;
@@ -8,11 +7,14 @@ use crate::Record;
 use crate::Refusal;
 use crate::Scene;
 use crate::Shape;
-
+use crate::bytes;
+use plane::Segment;
 ghost use mathlib.Core.Path.{_≡_};
 ghost use Prim.Native.Nat.{_+_, _<_, _≤_};
+ghost use mathlib.Core.Bool.{Bool};
 ghost use lib.ListN.{length};
-ghost use Rattle.scene.specs.Read.{kindOf, shapeOf, size, judge, fieldConditions, recordAt, startsObject, standsIn};
+ghost use Rattle.scene.specs.Read.{kindOf, shapeNumber, shapeOf, size, recordAt, startsObject, standsIn};
+ghost use Rattle.scene.specs.Inner.{fieldsAt, segmentFields};
 
 pub fn kind(b: u8) -> Kind
     ensures { λ r. ⌜ r ≡ kindOf b ⌝ }
@@ -37,6 +39,16 @@ pub fn shape(n: u8) -> Shape
     }
 }
 
+pub fn shape_number(k: Shape) -> u8
+    ensures { λ r. ⌜ r ≡ shapeNumber k ⌝ }
+{
+    match k {
+        Shape::Points => 1,
+        Shape::Line => 2,
+        Shape::Region => 3,
+    }
+}
+
 // How many bytes the record of an element takes.
 pub fn size(k: Shape) -> usize
     ensures { λ r. ⌜ r ≡ size k ⌝ }
@@ -52,4 +64,106 @@ fn bad(number: u8, place: usize) -> Record
     ensures { λ r. ⌜ r ≡ Record.Bad (record { number = number; place = place }) ⌝ }
 {
     Record::Bad(Refusal { number, place })
+}
+
+// 4 and 5 of a halfsegment record.
+fn segment_fields(segment: Segment, at: usize, k: Shape) -> Record
+    ensures { λ r. ⌜ r ≡ segmentFields segment at k ⌝ }
+{
+    if !plane::is_in_range(segment.left) {
+        return bad(4, at);
+    }
+    if !plane::is_in_range(segment.right) {
+        return bad(4, at);
+    }
+    if !plane::is_before(segment.left, segment.right) {
+        return bad(5, at);
+    }
+    Record::Good(Kind::Element(k))
+}
+
+// The fields of an element whose body is there.
+fn fields(s: &[u8], at: usize, k: Shape) -> Record
+    requires { ⌜ at + size k ≤ length (now s) ⌝ }
+    ensures { λ r. ⌜ r ≡ fieldsAt (now (s .entry)) at (Kind.Element k) ⌝ }
+{
+    match k {
+        Shape::Points => {
+            if plane::is_in_range(bytes::point(s, at)) {
+                Record::Good(Kind::Element(k))
+            } else {
+                bad(4, at)
+            }
+        }
+        Shape::Line => {
+            if 1 < s[at + 17] {
+                bad(3, at)
+            } else {
+                segment_fields(bytes::segment(s, at), at, k)
+            }
+        }
+        Shape::Region => {
+            if 1 < s[at + 17] {
+                return bad(3, at);
+            }
+            if 1 < s[at + 18] {
+                bad(3, at)
+            } else {
+                segment_fields(bytes::segment(s, at), at, k)
+            }
+        }
+    }
+}
+
+// The record at an offset where an element of an object or its end is due; full where no more elements may follow.
+fn element_record(s: &[u8], at: usize, k: Shape, full: bool) -> Record
+    ensures { λ r. ⌜ r ≡ recordAt (now (s .entry)) at (standsIn k) full ⌝ }
+{
+    if s.len() <= at {
+        return bad(1, s.len());
+    }
+    match kind(s[at]) {
+        Kind::Element(e) => {
+            if shape_number(e) != shape_number(k) {
+                return bad(2, at);
+            }
+            if full {
+                return bad(6, at);
+            }
+            if s.len() - at < size(k) {
+                return bad(1, at);
+            }
+            fields(s, at, k)
+        }
+        Kind::End => Record::Good(Kind::End),
+        Kind::Start => bad(2, at),
+        Kind::Unknown => bad(2, at),
+    }
+}
+
+// The record at an offset where an object is due.
+fn type_record(s: &[u8], at: usize) -> Record
+    ensures { λ r. ⌜ r ≡ recordAt (now (s .entry)) at startsObject Bool.false ⌝ }
+{
+    if s.len() <= at {
+        return bad(1, s.len());
+    }
+    match kind(s[at]) {
+        Kind::Start => {
+            if s.len() - at < 2 {
+                return bad(1, at);
+            }
+            let n = s[at + 1];
+            if n < 1 {
+                return bad(3, at);
+            }
+            if 3 < n {
+                return bad(3, at);
+            }
+            Record::Good(Kind::Start)
+        }
+        Kind::Element(_) => bad(2, at),
+        Kind::End => bad(2, at),
+        Kind::Unknown => bad(2, at),
+    }
 }

@@ -30,12 +30,13 @@ unfolding kindOf
 returns-6 c =
     let b = c .before .args .b in
     let not = c .match .rest in
-    rw
-    (ne-eqb b 84 (not .0 .0 .0 .0 .1),
-    ne-eqb b 80 (not .0 .0 .0 .1),
-    ne-eqb b 76 (not .0 .0 .1),
-    ne-eqb b 82 (not .0 .1),
-    ne-eqb b 69 (not .1))
+    rw (
+      ne-eqb b 84 (not .0 .0 .0 .0 .1),
+      ne-eqb b 80 (not .0 .0 .0 .1),
+      ne-eqb b 76 (not .0 .0 .1),
+      ne-eqb b 82 (not .0 .1),
+      ne-eqb b 69 (not .1),
+    )
 
 pub kind-spec : {M : Type 1} → statement M
 kind-spec = tie.close (tie.spec returns returns-2 returns-3 returns-4 returns-5 returns-6)
