@@ -1,3 +1,4 @@
 -- Laws of reading that the proofs of the functions and of other crates cite.
 mod Flags
 pub mod Passed
+pub mod Taken
