@@ -79,10 +79,10 @@ module _ (s : List ℕ) (k : Shape) (start : ℕ) where
 
   pub goes-on : (n : ℕ) → n ≤ most → (j : Kind) → recordOf n ≡ Good j → isEnd j ≡ false → GoesOn n
   goes-on n h j e b = record {
-        tests = subst (λ (f : Bool). Passed s (place (layout k start n) n) (standsIn k) f (Element k)) (ne-eqb n most not-full) at-element;
-        room = room;
-        on = step n h .is ∙ rw (e, b) (step n h .goes room);
-      }
+    tests = subst (λ (f : Bool). Passed s (place (layout k start n) n) (standsIn k) f (Element k)) (ne-eqb n most not-full) at-element;
+    room = room;
+    on = step n h .is ∙ rw (e, b) (step n h .goes room);
+  }
     where
       tested : Passed s (place (layout k start n) n) (standsIn k) (eqb n most) j
       tested = passed s (place (layout k start n) n) (standsIn k) (eqb n most) j e

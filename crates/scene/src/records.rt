@@ -13,7 +13,7 @@ ghost use mathlib.Core.Path.{_≡_};
 ghost use Prim.Native.Nat.{_+_, _<_, _≤_};
 ghost use mathlib.Core.Bool.{Bool};
 ghost use lib.ListN.{length};
-ghost use Rattle.scene.specs.Read.{kindOf, shapeNumber, shapeOf, size, recordAt, startsObject, standsIn};
+ghost use Rattle.scene.specs.Read.{kindOf, shapeNumber, shapeOf, size, recordAt, startsObject, standsIn, isEnd, most, elementsFrom};
 ghost use Rattle.scene.specs.Inner.{fieldsAt, segmentFields};
 
 pub fn kind(b: u8) -> Kind
@@ -165,5 +165,44 @@ fn type_record(s: &[u8], at: usize) -> Record
         Kind::Element(_) => bad(2, at),
         Kind::End => bad(2, at),
         Kind::Unknown => bad(2, at),
+    }
+}
+
+fn is_end(k: Kind) -> bool
+    ensures { λ r. ⌜ r ≡ isEnd k ⌝ }
+{
+    match k {
+        Kind::Start => false,
+        Kind::Element(_) => false,
+        Kind::End => true,
+        Kind::Unknown => false,
+    }
+}
+
+// The elements and the end of an object whose type record stands at start.
+fn elements(s: &[u8], k: Shape, start: usize) -> CheckedObject
+    requires { ⌜ start + 2 ≤ length (now s) ⌝ }
+    ensures { λ r. ⌜ r ≡ elementsFrom (now (s .entry)) most (record { shape = k; start = start; count = 0 }) ⌝ }
+{
+    let size = size(k);
+    let mut at = start + 2;
+    let mut count: usize = 0;
+    loop {
+        match element_record(s, at, k, count == 1024) {
+            Record::Bad(r) => {
+                return CheckedObject::Refused(r);
+            }
+            Record::Good(j) => {
+                if is_end(j) {
+                    return CheckedObject::Taken(Layout {
+                        shape: k,
+                        start,
+                        count,
+                    });
+                }
+            }
+        }
+        at += size;
+        count += 1;
     }
 }
