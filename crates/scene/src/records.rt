@@ -10,10 +10,10 @@ use crate::Shape;
 use crate::bytes;
 use plane::Segment;
 ghost use mathlib.Core.Path.{_≡_};
-ghost use Prim.Native.Nat.{_+_, _<_, _≤_};
+ghost use Prim.Native.Nat.{_+_, _<_, _≤_, _^_};
 ghost use mathlib.Core.Bool.{Bool};
 ghost use lib.ListN.{length};
-ghost use Rattle.scene.specs.Read.{kindOf, shapeNumber, shapeOf, size, recordAt, startsObject, standsIn, isEnd, most, elementsFrom};
+ghost use Rattle.scene.specs.Read.{kindOf, shapeNumber, shapeOf, size, recordAt, startsObject, standsIn, isEnd, most, elementsFrom, readObject, place, after, readScene, readAlone};
 ghost use Rattle.scene.specs.Inner.{fieldsAt, segmentFields};
 
 pub fn kind(b: u8) -> Kind
@@ -204,5 +204,74 @@ fn elements(s: &[u8], k: Shape, start: usize) -> CheckedObject
         }
         at += size;
         count += 1;
+    }
+}
+
+pub fn read_object(s: &[u8], at: usize) -> CheckedObject
+    ensures { λ r. ⌜ r ≡ readObject (now (s .entry)) at ⌝ }
+{
+    match type_record(s, at) {
+        Record::Bad(r) => CheckedObject::Refused(r),
+        Record::Good(_) => elements(s, shape(s[at + 1]), at),
+    }
+}
+
+// Where the record of an element stands.
+pub fn place(l: Layout, i: usize) -> usize
+    requires { ⌜ place l i < 2 ^ 64 ⌝ }
+    ensures { λ r. ⌜ r ≡ place l i ⌝ }
+{
+    let k = l.shape;
+    l.start + 2 + i * size(k)
+}
+
+// The first offset after an object.
+pub fn after(l: Layout) -> usize
+    requires { ⌜ after l < 2 ^ 64 ⌝ }
+    ensures { λ r. ⌜ r ≡ after l ⌝ }
+{
+    place(l, l.count) + 1
+}
+
+// The refusals 1 to 7 of a scene.
+pub fn read_scene(s: &[u8]) -> CheckedScene
+    ensures { λ r. ⌜ r ≡ readScene (now (s .entry)) ⌝ }
+{
+    match read_object(s, 0) {
+        CheckedObject::Refused(r) => CheckedScene::Refused(r),
+        CheckedObject::Taken(f) => match read_object(s, after(f)) {
+            CheckedObject::Refused(r) => CheckedScene::Refused(r),
+            CheckedObject::Taken(g) => {
+                let end = after(g);
+                if s.len() <= end {
+                    CheckedScene::Taken(Scene { f, g })
+                } else {
+                    CheckedScene::Refused(Refusal {
+                        number: 7,
+                        place: end,
+                    })
+                }
+            }
+        },
+    }
+}
+
+// The refusals 1 to 7 of one object's bytes alone.
+pub fn read_alone(s: &[u8]) -> CheckedObject
+    ensures { λ r. ⌜ r ≡ readAlone (now (s .entry)) ⌝ }
+{
+    match read_object(s, 0) {
+        CheckedObject::Refused(r) => CheckedObject::Refused(r),
+        CheckedObject::Taken(l) => {
+            let end = after(l);
+            if s.len() <= end {
+                CheckedObject::Taken(l)
+            } else {
+                CheckedObject::Refused(Refusal {
+                    number: 7,
+                    place: end,
+                })
+            }
+        }
     }
 }
