@@ -2,3 +2,4 @@
 mod Flags
 pub mod Passed
 pub mod Taken
+pub mod Prefix

@@ -6,19 +6,22 @@ use native.Mathlib.Decide.{decLt, ℕ-discrete}
 use native.Mathlib.Omega.{arith}
 use mathlib.Core.Path.{_≡_, refl, sym, ap, subst, _∙_}
 use mathlib.Core.Bool.{Bool, true, false, not, cond, false≢true, true≢false}
-use mathlib.Core.List.{List}
+use mathlib.Core.List.{List, [], _∷_}
 use lib.ListN.{length}
-use lib.Dec.{T, eqb, eqb→eq}
-use borrow.Author.Tests.{eq-eqb, ne-eqb}
+use lib.Dec.{T, leb, eqb, eqb→eq}
+use borrow.Author.Tests.{eq-eqb, ne-eqb, leb-true}
 use Rattle.scene.specs.declared.Shape.{Shape}
+use Rattle.scene.specs.declared.Shape.the-variants.{Points, Line, Region}
 use Rattle.scene.specs.declared.Kind.{Kind}
 use Rattle.scene.specs.declared.Kind.the-variants.{Start, Element, End, Unknown}
 use Rattle.scene.specs.declared.Layout.{Layout}
+use Rattle.scene.specs.declared.Scene.{Scene}
 use Rattle.scene.specs.declared.Refusal.{Refusal}
 use Rattle.scene.specs.declared.Record.{Record}
 use Rattle.scene.specs.declared.Record.the-variants.{Good, Bad}
 use Rattle.scene.specs.declared.CheckedObject.{CheckedObject}
-use Rattle.scene.specs.Read.{shapeNumber, bodyLength, standsIn, startsObject, isEnd, recordAt, size, place, endPlace, after, next, most, elementsFrom, begun, readObject, shapeOf, byte}
+use Rattle.scene.specs.declared.CheckedScene.{CheckedScene}
+use Rattle.scene.specs.Read.{shapeNumber, bodyLength, standsIn, startsObject, isEnd, recordAt, size, place, endPlace, after, next, most, elementsFrom, begun, readObject, shapeOf, byte, unless, decide, judge, endsWith, alone, readAlone, withG, withF, readScene}
 use Rattle.scene.proofs.Passed.{Passed, passed, same-shape}
 
 abbrev pub layout : Shape → ℕ → ℕ → Layout
@@ -186,3 +189,73 @@ taken-object s at l e = go (recordAt s at startsObject false) e
     go : (r : Record) → begun r (rest s k at 0) ≡ CheckedObject.Taken l → TakenObject s at l
     go (Bad r) q = absurd (not-taken q)
     go (Good j) q = read q
+
+-- ---- one object's bytes taken alone, and a taken scene: the bytes end where the last object does
+pub record TakenAlone (s : List ℕ) (at : ℕ) (l : Layout) : Type 0 where
+  pub object : TakenObject s at l
+  pub all : length s ≡ after l
+
+pub record TakenScene (s : List ℕ) (sc : Scene) : Type 0 where
+  pub f-taken : TakenObject s 0 (sc .f)
+  pub g-taken : TakenAlone s (after (sc .f)) (sc .g)
+
+never-taken : {r : Refusal} {sc : Scene} → CheckedScene.Refused r ≡ CheckedScene.Taken sc → ⊥
+never-taken e = let z : _≡_ {A = ℕ} 0 1 = cc in omega arith
+
+same-scene : {sc sc′ : Scene} → CheckedScene.Taken sc ≡ CheckedScene.Taken sc′ → sc ≡ sc′
+same-scene e = cc
+
+module _ (s : List ℕ) (at : ℕ) (l : Layout) (e : readObject s at ≡ CheckedObject.Taken l) where
+  -- 7 did not refuse
+  not-seven : {A : Type 0} (refuse : Refusal → A) (a a′ : A) → ((r : Refusal) → refuse r ≡ a′ → ⊥) → judge refuse a (endsWith s l ∷ []) ≡ a′ → TakenAlone s at l × (a ≡ a′)
+  not-seven refuse a a′ never q = go (leb (length s) (after l)) refl q
+    where
+      taken : TakenObject s at l
+      taken = taken-object s at l e
+
+      go : (b : Bool) → leb (length s) (after l) ≡ b → decide refuse 7 (unless b (after l)) a ≡ a′ → TakenAlone s at l × (a ≡ a′)
+      go true x q = (record { object = taken; all = omega (arith, taken .ends, leb-true (length s) (after l) x) }, q)
+      go false x q = absurd (never (record { number = 7; place = after l }) q)
+
+pub taken-alone : (s : List ℕ) (l : Layout) → readAlone s ≡ CheckedObject.Taken l → TakenAlone s 0 l
+unfolding readAlone
+taken-alone s l e = go (readObject s 0) refl e
+  where
+    go : (o : CheckedObject) → readObject s 0 ≡ o → alone s o ≡ CheckedObject.Taken l → TakenAlone s 0 l
+    go (CheckedObject.Refused r) q x = absurd (not-taken x)
+    go (CheckedObject.Taken l′) q x =
+        let y = not-seven s 0 l′ q CheckedObject.Refused (CheckedObject.Taken l′) (CheckedObject.Taken l) (λ r. not-taken) x in
+        subst (TakenAlone s 0) (same-layout (y .1)) (y .0)
+
+pub taken-scene : (s : List ℕ) (sc : Scene) → readScene s ≡ CheckedScene.Taken sc → TakenScene s sc
+unfolding readScene
+taken-scene s sc e = of-f (readObject s 0) refl e
+  where
+    of-g : (f : Layout) → readObject s 0 ≡ CheckedObject.Taken f → (o : CheckedObject) → readObject s (after f) ≡ o → withG s f o ≡ CheckedScene.Taken sc → TakenScene s sc
+    of-g f p (CheckedObject.Refused r) q x = absurd (never-taken x)
+    of-g f p (CheckedObject.Taken g) q x =
+        let y = not-seven s (after f) g q CheckedScene.Refused (CheckedScene.Taken (record { f = f; g = g })) (CheckedScene.Taken sc) (λ r. never-taken) x in
+        subst (TakenScene s) (same-scene (y .1)) (record { f-taken = taken-object s 0 f p; g-taken = y .0 })
+
+    of-f : (o : CheckedObject) → readObject s 0 ≡ o → withF s o ≡ CheckedScene.Taken sc → TakenScene s sc
+    of-f (CheckedObject.Refused r) q x = absurd (never-taken x)
+    of-f (CheckedObject.Taken f) q x = of-g f q (readObject s (after f)) refl x
+
+-- no object takes more than 19,459 bytes, and no scene more than 38,918
+abbrev pub longest : ℕ
+longest = 19459
+
+short : (l : Layout) → l .count ≤ most → after l ≤ l .start + longest
+short l h = go (l .shape)
+  where
+    go : (k : Shape) → after (layout k (l .start) (l .count)) ≤ l .start + longest
+    go Points = omega arith
+    go Line = omega arith
+    go Region = omega arith
+
+pub object-short : (s : List ℕ) (at : ℕ) (l : Layout) → TakenObject s at l → after l ≤ at + longest
+object-short s at l t = omega (arith, short l (t .few), t .starts)
+
+pub scene-short : (s : List ℕ) (sc : Scene) → TakenScene s sc → length s ≤ 38918
+scene-short s sc t =
+    omega (arith, object-short s 0 (sc .f) (t .f-taken), object-short s (after (sc .f)) (sc .g) (t .g-taken .object), t .g-taken .all)
