@@ -1,14 +1,14 @@
 -- Only the first bytes matter: no taken scene is longer than 38,918 bytes, and what a scene's bytes are answered turns on their first 38,919.
-use Prim.Native.Nat.{ℕ, zero, suc, _+_, _*_, _<_, _≤_}
+use Prim.Native.Nat.{ℕ, zero, suc, _+_, _*_, _<_, _≤_, min}
 use native.Mathlib.Decide.{decLe}
 use native.Mathlib.Omega.{arith}
 use mathlib.Core.Path.{_≡_, refl, sym, ap, ap₂, subst, _∙_}
 use mathlib.Core.Bool.{Bool, true, false, not, _&&_, true≢false, false≢true}
 use mathlib.Core.List.{List}
-use lib.ListN.{length, take}
-use lib.Seq.{getD-take, take-all, length-take-le}
+use lib.ListN.{length, take, length-take}
+use lib.Seq.{getD-take, take-all}
 use lib.Dec.{T, leb, eqb, eqb→eq}
-use borrow.Author.Tests.{eqb-true, not-true}
+use borrow.Author.Tests.{eqb-true, not-true, lt-leb}
 use Rattle.plane.specs.Plane.{inRange, segmentInRange, ordered}
 use Rattle.plane.specs.declared.Point.{Point}
 use Rattle.plane.specs.declared.Segment.{Segment}
@@ -17,13 +17,17 @@ use Rattle.scene.specs.declared.Shape.the-variants.{Points, Line, Region
 use Rattle.scene.specs.declared.Kind.{Kind}
 use Rattle.scene.specs.declared.Kind.the-variants.{Start, Element, End, Unknown}
 use Rattle.scene.specs.declared.Layout.{Layout}
+use Rattle.scene.specs.declared.Scene.{Scene}
+use Rattle.scene.specs.declared.Refusal.{Refusal}
 use Rattle.scene.specs.declared.Record.{Record}
 use Rattle.scene.specs.declared.Record.the-variants.{Good, Bad}
 use Rattle.scene.specs.declared.CheckedObject.{CheckedObject}
 use Rattle.scene.specs.declared.CheckedScene.{CheckedScene}
-use Rattle.scene.specs.Read.{byte, word, signed, coordinate, pointFrom, segmentAt, kindOf, kindAt, shapeNumber, shapeOf, bodyLength, hasRoom, standsIn, startsObject, unless, decide, recordAt, size, place, endPlace, after, oneMore, next, most, elementsFrom, begun, readObject}
+use Rattle.scene.specs.Read.{byte, word, signed, coordinate, pointFrom, segmentAt, kindOf, kindAt, shapeNumber, shapeOf, bodyLength, hasRoom, standsIn, startsObject, unless, decide, recordAt, size, place, endPlace, after, oneMore, next, most, elementsFrom, begun, readObject, readScene}
 use Rattle.scene.specs.Inner.{fieldsAt, segmentFields}
+use Rattle.scene.specs.Conditions.{Rule, checkedScene, checkSceneBy}
 use Rattle.scene.proofs.Passed.{not-allowed, no-room, whole-body, same-shape}
+use Rattle.scene.proofs.Taken.{layout, longest, taken-object, object-short}
 
 -- two byte strings that agree in their first n bytes, both at least so long
 record Agree (n : ℕ) (s t : List ℕ) : Type 0 where
@@ -110,3 +114,70 @@ module _ (n : ℕ) (s t : List ℕ) (g : Agree n s t) where
   same-elements zero l h = rw (same-element (endPlace l) (l .shape) true (omega arith) (λ x. absurd (true≢false x)))
   same-elements (suc left) l h =
       ap₂ (λ (r : Record) (o : CheckedObject). next r l o) (same-element (endPlace l) (l .shape) false (omega arith) (λ x. omega arith)) (same-elements left (oneMore l) (omega arith))
+
+  same-object : (at : ℕ) → at + longest ≤ n → readObject s at ≡ readObject t at
+  unfolding readObject
+  same-object at h =
+      ap₂ begun (same-type at (omega arith))
+      (same-elements most (layout (shapeOf (byte s (at + 1))) at 0) (reach (shapeOf (byte s (at + 1))))
+      ∙ ap (λ (b : ℕ). elementsFrom t most (layout (shapeOf b) at 0)) (g .same (at + 1) (omega arith)))
+    where
+      reach : (k : Shape) → endPlace (layout k at 0) + most * size k < n
+      reach Points = omega arith
+      reach Line = omega arith
+      reach Region = omega arith
+
+-- ---- a scene
+abbrev pub enough : ℕ
+enough = 38919
+
+record BothRefused (s t : List ℕ) : Type 0 where
+  refusal : Refusal
+  of-s : readScene s ≡ CheckedScene.Refused refusal
+  of-t : readScene t ≡ CheckedScene.Refused refusal
+
+module _ (s t : List ℕ) (g : Agree enough s t) where
+  both-refused : BothRefused s t
+  unfolding readScene
+  both-refused = of-f (readObject s 0) refl
+    where
+      of-g : (f : Layout) → readObject s 0 ≡ CheckedObject.Taken f → readObject t 0 ≡ CheckedObject.Taken f
+          → (o : CheckedObject) → readObject s (after f) ≡ o → readObject t (after f) ≡ o → BothRefused s t
+      of-g f e e′ (CheckedObject.Refused r) q q′ = record { refusal = r; of-s = rw (e, q); of-t = rw (e′, q′) }
+      of-g f e e′ (CheckedObject.Taken o) q q′ = record {
+        refusal = record { number = 7; place = after o };
+        of-s = rw (e, q, lt-leb (length s) (after o) (omega (arith, g .long-s, short)));
+        of-t = rw (e′, q′, lt-leb (length t) (after o) (omega (arith, g .long-t, short)));
+      }
+        where
+          short : after o < enough
+          short = omega (arith, object-short s 0 f (taken-object s 0 f e), object-short s (after f) o (taken-object s (after f) o q))
+
+      of-f : (o : CheckedObject) → readObject s 0 ≡ o → BothRefused s t
+      of-f (CheckedObject.Refused r) e = record { refusal = r; of-s = rw e; of-t = rw (sym (same-object enough s t g 0 (omega arith)) ∙ e) }
+      of-f (CheckedObject.Taken f) e =
+          of-g f e (sym (same-object enough s t g 0 (omega arith)) ∙ e) (readObject s (after f)) refl
+          (sym (same-object enough s t g (after f) (omega (arith, object-short s 0 f (taken-object s 0 f e)))))
+
+-- "two byte strings that agree in their first 38,919 bytes": whatever further conditions a question has, they are answered alike
+pub only-first-bytes : (rules : List (Rule Scene)) (s t : List ℕ) → take enough s ≡ take enough t → checkSceneBy rules s ≡ checkSceneBy rules t
+unfolding checkSceneBy
+only-first-bytes rules s t e = go (decLe enough (length s))
+  where
+    lengths : min enough (length s) ≡ min enough (length t)
+    lengths = sym (length-take enough s) ∙ ap length e ∙ length-take enough t
+
+    agree : enough ≤ length s → Agree enough s t
+    agree h = record {
+      long-s = h;
+      long-t = omega (arith, lengths);
+      same = λ i b. sym (getD-take enough s i 0 b) ∙ ap (λ (x : List ℕ). byte x i) e ∙ getD-take enough t i 0 b;
+    }
+
+    go : Dec (enough ≤ length s) → checkedScene rules s (readScene s) ≡ checkedScene rules t (readScene t)
+    go (yes h) =
+        let b = both-refused s t (agree h) in
+        rw (b .of-s, b .of-t)
+    go (no h) =
+        let same : s ≡ t = sym (take-all enough s (omega arith)) ∙ e ∙ take-all enough t (omega (arith, lengths)) in
+        ap (checkSceneBy rules) same
