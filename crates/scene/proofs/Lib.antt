@@ -2,4 +2,5 @@
 mod Flags
 pub mod Passed
 pub mod Taken
+pub mod Given
 pub mod Prefix

@@ -3,14 +3,12 @@ use Prim.Native.Nat.{ℕ, zero, suc, _+_, _*_, _<_, _≤_, min}
 use native.Mathlib.Decide.{decLe}
 use native.Mathlib.Omega.{arith}
 use mathlib.Core.Path.{_≡_, refl, sym, ap, ap₂, subst, _∙_}
-use mathlib.Core.Bool.{Bool, true, false, not, _&&_, true≢false, false≢true}
+use mathlib.Core.Bool.{Bool, true, false, _&&_, true≢false, false≢true}
 use mathlib.Core.List.{List}
 use lib.ListN.{length, take, length-take}
 use lib.Seq.{getD-take, take-all}
-use lib.Dec.{T, leb, eqb, eqb→eq}
+use lib.Dec.{leb}
 use borrow.Author.Tests.{eqb-true, not-true, lt-leb}
-use Rattle.plane.specs.Plane.{inRange, segmentInRange, ordered}
-use Rattle.plane.specs.declared.Point.{Point}
 use Rattle.plane.specs.declared.Segment.{Segment}
 use Rattle.scene.specs.declared.Shape.{Shape}
 use Rattle.scene.specs.declared.Shape.the-variants.{Points, Line, Region}
@@ -20,10 +18,10 @@ use Rattle.scene.specs.declared.Layout.{Layout}
 use Rattle.scene.specs.declared.Scene.{Scene}
 use Rattle.scene.specs.declared.Refusal.{Refusal}
 use Rattle.scene.specs.declared.Record.{Record}
-use Rattle.scene.specs.declared.Record.the-variants.{Good, Bad}
+use Rattle.scene.specs.declared.Record.the-variants.{Bad}
 use Rattle.scene.specs.declared.CheckedObject.{CheckedObject}
 use Rattle.scene.specs.declared.CheckedScene.{CheckedScene}
-use Rattle.scene.specs.Read.{byte, word, signed, coordinate, pointFrom, segmentAt, kindOf, kindAt, shapeNumber, shapeOf, bodyLength, hasRoom, standsIn, startsObject, unless, decide, recordAt, size, place, endPlace, after, oneMore, next, most, elementsFrom, begun, readObject, readScene}
+use Rattle.scene.specs.Read.{byte, coordinate, pointFrom, segmentAt, kindOf, kindAt, shapeNumber, shapeOf, bodyLength, hasRoom, standsIn, startsObject, unless, decide, recordAt, size, place, endPlace, after, oneMore, next, most, elementsFrom, begun, readObject, readScene}
 use Rattle.scene.specs.Inner.{fieldsAt, segmentFields}
 use Rattle.scene.specs.Conditions.{Rule, checkedScene, checkSceneBy}
 use Rattle.scene.proofs.Passed.{not-allowed, no-room, whole-body, same-shape}

@@ -1,11 +1,10 @@
 -- Reading an object, step by step; and what a taken object gives: its element records, one after the other, each with its tests passed, and its end.
-use Prim.Native.Nat.{ℕ, zero, suc, _+_, _*_, _-_, _<_, _≤_, zero-le}
+use Prim.Native.Nat.{ℕ, zero, suc, _+_, _-_, _<_, _≤_, zero-le}
 use native.Mathlib.Nat.{lt-irrefl}
-use native.Mathlib.Numerals.{add-one}
 use native.Mathlib.Decide.{decLt, ℕ-discrete}
 use native.Mathlib.Omega.{arith}
 use mathlib.Core.Path.{_≡_, refl, sym, ap, subst, _∙_}
-use mathlib.Core.Bool.{Bool, true, false, not, cond, false≢true, true≢false}
+use mathlib.Core.Bool.{Bool, true, false, not, true≢false}
 use mathlib.Core.List.{List, [], _∷_}
 use lib.ListN.{length}
 use lib.Dec.{T, leb, eqb, eqb→eq}
@@ -21,7 +20,7 @@ use Rattle.scene.specs.declared.Record.{Record}
 use Rattle.scene.specs.declared.Record.the-variants.{Good, Bad}
 use Rattle.scene.specs.declared.CheckedObject.{CheckedObject}
 use Rattle.scene.specs.declared.CheckedScene.{CheckedScene}
-use Rattle.scene.specs.Read.{shapeNumber, bodyLength, standsIn, startsObject, isEnd, recordAt, size, place, endPlace, after, next, most, elementsFrom, begun, readObject, shapeOf, byte, unless, decide, judge, endsWith, alone, readAlone, withG, withF, readScene}
+use Rattle.scene.specs.Read.{shapeNumber, standsIn, startsObject, isEnd, recordAt, place, endPlace, after, next, most, elementsFrom, begun, readObject, shapeOf, byte, unless, decide, judge, endsWith, alone, readAlone, withG, withF, readScene}
 use Rattle.scene.proofs.Passed.{Passed, passed, same-shape}
 
 abbrev pub layout : Shape → ℕ → ℕ → Layout
@@ -106,10 +105,10 @@ pub record TakenObject (s : List ℕ) (at : ℕ) (l : Layout) : Type 0 where
   pub ends : after l ≤ length s
   pub elements : (i : ℕ) → i < l .count → Passed s (place l i) (standsIn (l .shape)) false (Element (l .shape))
 
-not-taken : {r : Refusal} {l : Layout} → CheckedObject.Refused r ≡ CheckedObject.Taken l → ⊥
+pub not-taken : {r : Refusal} {l : Layout} → CheckedObject.Refused r ≡ CheckedObject.Taken l → ⊥
 not-taken e = let z : _≡_ {A = ℕ} 0 1 = cc in omega arith
 
-same-layout : {l l′ : Layout} → CheckedObject.Taken l ≡ CheckedObject.Taken l′ → l ≡ l′
+pub same-layout : {l l′ : Layout} → CheckedObject.Taken l ≡ CheckedObject.Taken l′ → l ≡ l′
 same-layout e = cc
 
 module _ (s : List ℕ) (k : Shape) (start : ℕ) (l : Layout) where
@@ -199,10 +198,10 @@ pub record TakenScene (s : List ℕ) (sc : Scene) : Type 0 where
   pub f-taken : TakenObject s 0 (sc .f)
   pub g-taken : TakenAlone s (after (sc .f)) (sc .g)
 
-never-taken : {r : Refusal} {sc : Scene} → CheckedScene.Refused r ≡ CheckedScene.Taken sc → ⊥
+pub never-taken : {r : Refusal} {sc : Scene} → CheckedScene.Refused r ≡ CheckedScene.Taken sc → ⊥
 never-taken e = let z : _≡_ {A = ℕ} 0 1 = cc in omega arith
 
-same-scene : {sc sc′ : Scene} → CheckedScene.Taken sc ≡ CheckedScene.Taken sc′ → sc ≡ sc′
+pub same-scene : {sc sc′ : Scene} → CheckedScene.Taken sc ≡ CheckedScene.Taken sc′ → sc ≡ sc′
 same-scene e = cc
 
 module _ (s : List ℕ) (at : ℕ) (l : Layout) (e : readObject s at ≡ CheckedObject.Taken l) where

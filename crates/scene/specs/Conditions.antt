@@ -7,7 +7,6 @@ use lib.Dec.{leb, ltb}
 use Rattle.whole.specs.Count.{odd, some}
 use Rattle.plane.specs.declared.Segment.{Segment}
 use Rattle.plane.specs.declared.Halfsegment.{Halfsegment}
-use Rattle.plane.specs.declared.Point.{Point}
 use Rattle.plane.specs.Plane.{before, comesBefore, dominating, endsAt, grid, interiorAbove, sameSegment, touch, Object, points, line, region}
 use Rattle.scene.specs.declared.Shape.{Shape}
 use Rattle.scene.specs.declared.Shape.the-variants.{Points, Line, Region}
@@ -17,7 +16,7 @@ use Rattle.scene.specs.declared.Fault.{Fault}
 use Rattle.scene.specs.declared.Fault.the-variants.{At, Nothing}
 use Rattle.scene.specs.declared.CheckedObject.{CheckedObject}
 use Rattle.scene.specs.declared.CheckedScene.{CheckedScene}
-use Rattle.scene.specs.Read.{pointAt, segmentAt, halfsegmentAt, iaAt, shapeNumber, place, unless, Condition, condition, judge, readScene, readAlone}
+use Rattle.scene.specs.Read.{pointAt, halfsegmentAt, iaAt, shapeNumber, place, unless, Condition, condition, judge, readScene, readAlone}
 
 -- ---- the elements of an object, by their index
 

@@ -15,7 +15,6 @@ use Rattle.scene.specs.declared.Shape.the-variants.{Points, Line, Region
 use Rattle.scene.specs.declared.Kind.{Kind}
 use Rattle.scene.specs.declared.Kind.the-variants.{Start, Element, End, Unknown}
 use Rattle.scene.specs.declared.Layout.{Layout}
-use Rattle.scene.specs.declared.Scene.{Scene}
 use Rattle.scene.specs.declared.Refusal.{Refusal}
 use Rattle.scene.specs.declared.Fault.{Fault}
 use Rattle.scene.specs.declared.Fault.the-variants.{At, Nothing}

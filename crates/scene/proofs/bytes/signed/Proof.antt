@@ -1,10 +1,10 @@
 -- `scene::bytes::signed` meets its contract: from 2 ^ 31 on a word stands for itself less 2 ^ 32, which 32 bits hold.
 use Prim.Native.Nat.{ℕ, suc, _-_, _<_, _≤_, _^_}
 use native.Mathlib.Omega.{arith}
-use mathlib.Core.Path.{_≡_, refl, sym, ap, _∙_}
-use lib.IntN.{ℤ, pos, negsuc, _-ℤ_}
+use mathlib.Core.Path.{_≡_}
+use lib.IntN.{pos, negsuc, _-ℤ_}
 use mir.Syntax.{w32, w64}
-use mir.Val.{SFits, toZ, ofZ}
+use mir.Val.{SFits, toZ}
 use mir.Facts.{toZ-ofZ}
 use borrow.Author.Needs.{needs}
 use borrow.Author.Tests.{lt-ltb, le-ltb}

@@ -1,6 +1,6 @@
 -- `scene::records::element_record` meets its contract: the tests that led to each return decide the definition.
 use borrow.Author.Needs.{needs}
-use Prim.Native.Nat.{ℕ, _+_, _≤_, _<_}
+use Prim.Native.Nat.{ℕ, _<_}
 use native.Mathlib.Omega.{arith}
 use mathlib.Core.Path.{_≡_, refl, sym, ap, _∙_}
 use mathlib.Core.Bool.{true, false, not}

@@ -1,9 +1,9 @@
 -- `scene::records::elements` meets its contract. The loop's invariant: `at` is where the next record stands, and the answer is the one that the
 -- definition gives from there on. The measure is the number of elements that may follow.
-use Prim.Native.Nat.{ℕ, _+_, _*_, _-_, _≤_, _<_}
+use Prim.Native.Nat.{ℕ, _-_, _≤_}
 use native.Mathlib.Omega.{arith}
-use mathlib.Core.Path.{_≡_, refl, sym, ap, subst, _∙_}
-use mathlib.Core.Bool.{true, false}
+use mathlib.Core.Path.{_≡_, refl, sym, ap, _∙_}
+use mathlib.Core.Bool.{true}
 use lib.Dec.{eqb}
 use borrow.Author.Needs.{needs}
 use Rattle.scene.specs.declared.Kind.{Kind}

@@ -1,5 +1,4 @@
 -- `scene::records::kind` meets its contract: in each arm the byte is the arm's number, and in the last it is none of them.
-use mathlib.Core.Path.{_≡_, refl}
 use borrow.Author.Tests.{ne-eqb}
 use Rattle.scene.specs.Read.{kindOf}
 use Rattle.scene.proofs.records.kind.Statement.{statement}

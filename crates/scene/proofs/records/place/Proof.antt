@@ -1,7 +1,7 @@
 -- `scene::records::place` meets its contract: the product fits where the offset does.
 use Prim.Native.Nat.{ℕ, _+_, _*_}
 use native.Mathlib.Omega.{arith}
-use mathlib.Core.Path.{_≡_, ap}
+use mathlib.Core.Path.{ap}
 use borrow.Author.Needs.{needs}
 use Rattle.scene.proofs.records.place.Statement.{statement}
 use Rattle.scene.proofs.records.place.Tie as tie

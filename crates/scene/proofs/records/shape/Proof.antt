@@ -1,5 +1,4 @@
 -- `scene::records::shape` meets its contract: in each arm the byte is the arm's number, and in the last it is none of them.
-use mathlib.Core.Path.{_≡_, refl}
 use borrow.Author.Tests.{ne-eqb}
 use Rattle.scene.specs.Read.{shapeOf}
 use Rattle.scene.proofs.records.shape.Statement.{statement}

@@ -1,5 +1,4 @@
 -- `scene::records::size` meets its contract: the number of each arm is its type's.
-use mathlib.Core.Path.{_≡_, refl}
 use borrow.Author.Needs.{needs}
 use Rattle.scene.proofs.records.size.Statement.{statement}
 use Rattle.scene.proofs.records.size.Tie as tie
