@@ -25,7 +25,8 @@ use Rattle.scene.specs.Read.{byte, coordinate, pointFrom, segmentAt, kin
 use Rattle.scene.specs.Inner.{fieldsAt, segmentFields}
 use Rattle.scene.specs.Conditions.{Rule, checkedScene, checkSceneBy}
 use Rattle.scene.proofs.Passed.{not-allowed, no-room, whole-body, same-shape}
-use Rattle.scene.proofs.Taken.{layout, longest, taken-object, object-short}
+use Rattle.scene.proofs.Taken.{layout, longest, taken-object, object-short, scene-short}
+use Rattle.scene.proofs.Given.{checked-scene}
 
 -- two byte strings that agree in their first n bytes, both at least so long
 record Agree (n : ℕ) (s t : List ℕ) : Type 0 where
@@ -179,3 +180,6 @@ only-first-bytes rules s t e = go (decLe enough (length s))
     go (no h) =
         let same : s ≡ t = sym (take-all enough s (omega arith)) ∙ e ∙ take-all enough t (omega (arith, lengths)) in
         ap (checkSceneBy rules) same
+
+pub taken-short : (rules : List (Rule Scene)) (s : List ℕ) (sc : Scene) → checkSceneBy rules s ≡ CheckedScene.Taken sc → length s ≤ 38918
+taken-short rules s sc e = scene-short s sc (checked-scene rules s sc e .0)

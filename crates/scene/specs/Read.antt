@@ -192,8 +192,7 @@ endPlace l = place l (l .count)
 abbrev pub after : Layout → ℕ
 after l = endPlace l + 1
 
--- "An object is a type record, 0 to 1,024 elements of its kind, and an end." Numbers 1 to 7 "are found record by record": l is what has been read
--- of the object, and as many elements as are left may follow.
+-- "An object is a type record, 0 to 1,024 elements of its kind, and an end."
 abbrev pub most : ℕ
 most = 1024
 
@@ -206,6 +205,8 @@ isEnd (Element e) = false
 isEnd End = true
 isEnd Unknown = false
 
+-- Numbers 1 to 7 "are found record by record": l is what has been read of the object, and as many elements as are left may follow. An end closes
+-- the object; any other good record is an element, and the rest follows. Where none is left, no good record is an element.
 abbrev pub next : Record → Layout → CheckedObject → CheckedObject
 next (Bad r) l rest = CheckedObject.Refused r
 next (Good k) l rest = cond (isEnd k) (CheckedObject.Taken l) rest
