@@ -1,0 +1,6 @@
+-- Laws of reading that the proofs of the functions and of other crates cite.
+mod Flags
+pub mod Passed
+pub mod Taken
+pub mod Given
+pub mod Prefix

@@ -1,0 +1,260 @@
+-- Reading an object, step by step; and what a taken object gives: its element records, one after the other, each with its tests passed, and its end.
+use Prim.Native.Nat.{ℕ, zero, suc, _+_, _-_, _<_, _≤_, zero-le}
+use native.Mathlib.Nat.{lt-irrefl}
+use native.Mathlib.Decide.{decLt, ℕ-discrete}
+use native.Mathlib.Omega.{arith}
+use mathlib.Core.Path.{_≡_, refl, sym, ap, subst, _∙_}
+use mathlib.Core.Bool.{Bool, true, false, not, true≢false}
+use mathlib.Core.List.{List, [], _∷_}
+use lib.ListN.{length}
+use lib.Dec.{T, leb, eqb, eqb→eq}
+use borrow.Author.Tests.{eq-eqb, ne-eqb, leb-true}
+use Rattle.scene.specs.declared.Shape.{Shape}
+use Rattle.scene.specs.declared.Shape.the-variants.{Points, Line, Region}
+use Rattle.scene.specs.declared.Kind.{Kind}
+use Rattle.scene.specs.declared.Kind.the-variants.{Start, Element, End, Unknown}
+use Rattle.scene.specs.declared.Layout.{Layout}
+use Rattle.scene.specs.declared.Scene.{Scene}
+use Rattle.scene.specs.declared.Refusal.{Refusal}
+use Rattle.scene.specs.declared.Record.{Record}
+use Rattle.scene.specs.declared.Record.the-variants.{Good, Bad}
+use Rattle.scene.specs.declared.CheckedObject.{CheckedObject}
+use Rattle.scene.specs.declared.CheckedScene.{CheckedScene}
+use Rattle.scene.specs.Read.{shapeNumber, standsIn, startsObject, isEnd, recordAt, place, endPlace, after, next, most, elementsFrom, begun, readObject, shapeOf, byte, unless, decide, judge, endsWith, alone, readAlone, withG, withF, readScene}
+use Rattle.scene.proofs.Passed.{Passed, passed, same-shape}
+
+abbrev pub layout : Shape → ℕ → ℕ → Layout
+layout k start n = record { shape = k; start = start; count = n }
+
+-- the kinds that stand in an object
+pub element-kind : (k : Shape) (j : Kind) → T (standsIn k j) → isEnd j ≡ false → j ≡ Element k
+element-kind k Start a e = absurd a
+element-kind k (Element x) a e = ap Element (same-shape x k (eqb→eq (shapeNumber x) (shapeNumber k) a))
+element-kind k End a e = absurd (true≢false e)
+element-kind k Unknown a e = absurd a
+
+-- ---- one step, n elements having been read
+module _ (s : List ℕ) (k : Shape) (start : ℕ) where
+  abbrev pub rest : ℕ → CheckedObject
+  rest n = elementsFrom s (most - n) (layout k start n)
+
+  abbrev pub recordOf : ℕ → Record
+  recordOf n = recordAt s (endPlace (layout k start n)) (standsIn k) (eqb n most)
+
+  -- the answer after n elements, by their next record
+  record Step (n : ℕ) : Type 0 where
+    other : CheckedObject
+    is : rest n ≡ next (recordOf n) (layout k start n) other
+    goes : n < most → other ≡ rest (n + 1)
+
+  step : (n : ℕ) → n ≤ most → Step n
+  unfolding elementsFrom
+  step n h = go (decLt n most)
+    where
+      more : n < most → rest n ≡ next (recordOf n) (layout k start n) (rest (n + 1))
+      more l = rw (ne-eqb n most (λ q. omega arith), left)
+        where
+          left : most - n ≡ suc (most - (n + 1))
+          left = omega arith
+
+      full : rest most ≡ next (recordOf most) (layout k start most) (CheckedObject.Taken (layout k start most))
+      full = refl
+
+      at-most : ¬ (n < most) → most ≡ n
+      at-most l = omega arith
+
+      go : Dec (n < most) → Step n
+      go (yes l) = record { other = rest (n + 1); is = more l; goes = λ _. refl }
+      go (no l) = subst Step (at-most l) (record { other = CheckedObject.Taken (layout k start most); is = full; goes = λ g. absurd (lt-irrefl most g) })
+
+  -- what that record decides
+  pub stops : (n : ℕ) → n ≤ most → (r : Refusal) → recordOf n ≡ Bad r → rest n ≡ CheckedObject.Refused r
+  stops n h r e = step n h .is ∙ rw e
+
+  pub ends-here : (n : ℕ) → n ≤ most → (j : Kind) → recordOf n ≡ Good j → isEnd j ≡ true → rest n ≡ CheckedObject.Taken (layout k start n)
+  ends-here n h j e b = step n h .is ∙ rw (e, b)
+
+  pub record GoesOn (n : ℕ) : Type 0 where
+    pub tests : Passed s (place (layout k start n) n) (standsIn k) false (Element k)
+    pub room : n < most
+    pub on : rest n ≡ rest (n + 1)
+
+  pub goes-on : (n : ℕ) → n ≤ most → (j : Kind) → recordOf n ≡ Good j → isEnd j ≡ false → GoesOn n
+  goes-on n h j e b = record {
+    tests = subst (λ (f : Bool). Passed s (place (layout k start n) n) (standsIn k) f (Element k)) (ne-eqb n most not-full) at-element;
+    room = room;
+    on = step n h .is ∙ rw (e, b) (step n h .goes room);
+  }
+    where
+      tested : Passed s (place (layout k start n) n) (standsIn k) (eqb n most) j
+      tested = passed s (place (layout k start n) n) (standsIn k) (eqb n most) j e
+
+      at-element : Passed s (place (layout k start n) n) (standsIn k) (eqb n most) (Element k)
+      at-element = subst (Passed s (place (layout k start n) n) (standsIn k) (eqb n most)) (element-kind k j (tested .allows) b) tested
+
+      not-full : n ≡ most → ⊥
+      not-full q = subst (λ (f : Bool). T (not f)) (eq-eqb n most q) (at-element .room)
+
+      room : n < most
+      room = omega (arith, not-full)
+
+-- ---- a taken object
+pub record TakenObject (s : List ℕ) (at : ℕ) (l : Layout) : Type 0 where
+  pub starts : l .start ≡ at
+  pub few : l .count ≤ most
+  pub ends : after l ≤ length s
+  pub elements : (i : ℕ) → i < l .count → Passed s (place l i) (standsIn (l .shape)) false (Element (l .shape))
+
+pub not-taken : {r : Refusal} {l : Layout} → CheckedObject.Refused r ≡ CheckedObject.Taken l → ⊥
+not-taken e = let z : _≡_ {A = ℕ} 0 1 = cc in omega arith
+
+pub same-layout : {l l′ : Layout} → CheckedObject.Taken l ≡ CheckedObject.Taken l′ → l ≡ l′
+same-layout e = cc
+
+module _ (s : List ℕ) (k : Shape) (start : ℕ) (l : Layout) where
+  -- from n elements on
+  record ReadTo (n : ℕ) : Type 0 where
+    last : ℕ
+    is : layout k start last ≡ l
+    few : last ≤ most
+    ends : endPlace (layout k start last) + 1 ≤ length s
+    elements : (i : ℕ) → n ≤ i → i < last → Passed s (place (layout k start i) i) (standsIn k) false (Element k)
+
+  read-one : (n : ℕ) → n ≤ most → (n < most → rest s k start (n + 1) ≡ CheckedObject.Taken l → ReadTo (n + 1)) → rest s k start n ≡ CheckedObject.Taken l → ReadTo n
+  read-one n h later e = go (recordOf s k start n) refl
+    where
+      ended : (j : Kind) → recordOf s k start n ≡ Good j → isEnd j ≡ true → ReadTo n
+      ended j q x = record {
+        last = n;
+        is = same-layout (sym (ends-here s k start n h j q x) ∙ e);
+        few = h;
+        ends = omega (arith, passed s (place (layout k start n) n) (standsIn k) (eqb n most) j q .whole);
+        elements = λ i f t. absurd (omega arith);
+      }
+
+      further : GoesOn s k start n → ReadTo n
+      further g = record {
+        last = r .last;
+        is = r .is;
+        few = r .few;
+        ends = r .ends;
+        elements = λ i f t. which i t (ℕ-discrete n i) f;
+      }
+        where
+          r : ReadTo (n + 1)
+          r = later (g .room) (sym (g .on) ∙ e)
+
+          which : (i : ℕ) → i < r .last → Dec (n ≡ i) → n ≤ i → Passed s (place (layout k start i) i) (standsIn k) false (Element k)
+          which i t (yes q) f = subst (λ (i : ℕ). Passed s (place (layout k start i) i) (standsIn k) false (Element k)) q (g .tests)
+          which i t (no q) f = r .elements i (omega arith) t
+
+      good : (j : Kind) → recordOf s k start n ≡ Good j → (b : Bool) → isEnd j ≡ b → ReadTo n
+      good j q true x = ended j q x
+      good j q false x = further (goes-on s k start n h j q x)
+
+      go : (r : Record) → recordOf s k start n ≡ r → ReadTo n
+      go (Bad r) q = absurd (not-taken (sym (stops s k start n h r q) ∙ e))
+      go (Good j) q = good j q (isEnd j) refl
+
+  read-to : (m n : ℕ) → n + m ≡ most → rest s k start n ≡ CheckedObject.Taken l → ReadTo n
+  read-to zero n b e = read-one n (omega arith) (λ h. absurd (omega arith)) e
+  read-to (suc m) n b e = read-one n (omega arith) (λ h. read-to m (n + 1) (omega arith)) e
+
+-- the type record that an object begins with
+pub type-record : (s : List ℕ) (at : ℕ) (j : Kind) → recordAt s at startsObject false ≡ Good j → at + 2 ≤ length s
+type-record s at j e = go j (passed s at startsObject false j e)
+  where
+    go : (j : Kind) → Passed s at startsObject false j → at + 2 ≤ length s
+    go Start p = omega (arith, p .whole)
+    go (Element x) p = absurd (p .allows)
+    go End p = absurd (p .allows)
+    go Unknown p = absurd (p .allows)
+
+pub taken-object : (s : List ℕ) (at : ℕ) (l : Layout) → readObject s at ≡ CheckedObject.Taken l → TakenObject s at l
+unfolding readObject
+taken-object s at l e = go (recordAt s at startsObject false) e
+  where
+    k : Shape
+    k = shapeOf (byte s (at + 1))
+
+    read : rest s k at 0 ≡ CheckedObject.Taken l → TakenObject s at l
+    read q =
+        subst (TakenObject s at) (r .is)
+        (record { starts = refl; few = r .few; ends = r .ends; elements = λ i t. r .elements i zero-le t })
+      where
+        r : ReadTo s k at l 0
+        r = read-to s k at l most 0 refl q
+
+    go : (r : Record) → begun r (rest s k at 0) ≡ CheckedObject.Taken l → TakenObject s at l
+    go (Bad r) q = absurd (not-taken q)
+    go (Good j) q = read q
+
+-- ---- one object's bytes taken alone, and a taken scene: the bytes end where the last object does
+pub record TakenAlone (s : List ℕ) (at : ℕ) (l : Layout) : Type 0 where
+  pub object : TakenObject s at l
+  pub all : length s ≡ after l
+
+pub record TakenScene (s : List ℕ) (sc : Scene) : Type 0 where
+  pub f-taken : TakenObject s 0 (sc .f)
+  pub g-taken : TakenAlone s (after (sc .f)) (sc .g)
+
+pub never-taken : {r : Refusal} {sc : Scene} → CheckedScene.Refused r ≡ CheckedScene.Taken sc → ⊥
+never-taken e = let z : _≡_ {A = ℕ} 0 1 = cc in omega arith
+
+pub same-scene : {sc sc′ : Scene} → CheckedScene.Taken sc ≡ CheckedScene.Taken sc′ → sc ≡ sc′
+same-scene e = cc
+
+module _ (s : List ℕ) (at : ℕ) (l : Layout) (e : readObject s at ≡ CheckedObject.Taken l) where
+  -- 7 did not refuse
+  not-seven : {A : Type 0} (refuse : Refusal → A) (a a′ : A) → ((r : Refusal) → refuse r ≡ a′ → ⊥) → judge refuse a (endsWith s l ∷ []) ≡ a′ → TakenAlone s at l × (a ≡ a′)
+  not-seven refuse a a′ never q = go (leb (length s) (after l)) refl q
+    where
+      taken : TakenObject s at l
+      taken = taken-object s at l e
+
+      go : (b : Bool) → leb (length s) (after l) ≡ b → decide refuse 7 (unless b (after l)) a ≡ a′ → TakenAlone s at l × (a ≡ a′)
+      go true x q = (record { object = taken; all = omega (arith, taken .ends, leb-true (length s) (after l) x) }, q)
+      go false x q = absurd (never (record { number = 7; place = after l }) q)
+
+pub taken-alone : (s : List ℕ) (l : Layout) → readAlone s ≡ CheckedObject.Taken l → TakenAlone s 0 l
+unfolding readAlone
+taken-alone s l e = go (readObject s 0) refl e
+  where
+    go : (o : CheckedObject) → readObject s 0 ≡ o → alone s o ≡ CheckedObject.Taken l → TakenAlone s 0 l
+    go (CheckedObject.Refused r) q x = absurd (not-taken x)
+    go (CheckedObject.Taken l′) q x =
+        let y = not-seven s 0 l′ q CheckedObject.Refused (CheckedObject.Taken l′) (CheckedObject.Taken l) (λ r. not-taken) x in
+        subst (TakenAlone s 0) (same-layout (y .1)) (y .0)
+
+pub taken-scene : (s : List ℕ) (sc : Scene) → readScene s ≡ CheckedScene.Taken sc → TakenScene s sc
+unfolding readScene
+taken-scene s sc e = of-f (readObject s 0) refl e
+  where
+    of-g : (f : Layout) → readObject s 0 ≡ CheckedObject.Taken f → (o : CheckedObject) → readObject s (after f) ≡ o → withG s f o ≡ CheckedScene.Taken sc → TakenScene s sc
+    of-g f p (CheckedObject.Refused r) q x = absurd (never-taken x)
+    of-g f p (CheckedObject.Taken g) q x =
+        let y = not-seven s (after f) g q CheckedScene.Refused (CheckedScene.Taken (record { f = f; g = g })) (CheckedScene.Taken sc) (λ r. never-taken) x in
+        subst (TakenScene s) (same-scene (y .1)) (record { f-taken = taken-object s 0 f p; g-taken = y .0 })
+
+    of-f : (o : CheckedObject) → readObject s 0 ≡ o → withF s o ≡ CheckedScene.Taken sc → TakenScene s sc
+    of-f (CheckedObject.Refused r) q x = absurd (never-taken x)
+    of-f (CheckedObject.Taken f) q x = of-g f q (readObject s (after f)) refl x
+
+-- no object takes more than 19,459 bytes, and no scene more than 38,918
+abbrev pub longest : ℕ
+longest = 19459
+
+short : (l : Layout) → l .count ≤ most → after l ≤ l .start + longest
+short l h = go (l .shape)
+  where
+    go : (k : Shape) → after (layout k (l .start) (l .count)) ≤ l .start + longest
+    go Points = omega arith
+    go Line = omega arith
+    go Region = omega arith
+
+pub object-short : (s : List ℕ) (at : ℕ) (l : Layout) → TakenObject s at l → after l ≤ at + longest
+object-short s at l t = omega (arith, short l (t .few), t .starts)
+
+pub scene-short : (s : List ℕ) (sc : Scene) → TakenScene s sc → length s ≤ 38918
+scene-short s sc t =
+    omega (arith, object-short s 0 (sc .f) (t .f-taken), object-short s (after (sc .f)) (sc .g) (t .g-taken .object), t .g-taken .all)
