@@ -6,3 +6,4 @@ pub mod Beside
 pub mod PointsRegion
 pub mod LineLine
 pub mod LineRegion
+pub mod RegionRegion
