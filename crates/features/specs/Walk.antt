@@ -12,7 +12,7 @@ use Rattle.scene.specs.declared.Shape.{Shape}
 use Rattle.scene.specs.declared.Shape.the-variants.{Points, Line, Region}
 use Rattle.scene.specs.declared.Layout.{Layout}
 use Rattle.scene.specs.Read.{pointAt, place}
-use Rattle.scene.specs.Conditions.{elements, keep, half, ia, isLeft, segments}
+use Rattle.scene.specs.Conditions.{indices, elements, keep, half, ia, isLeft, segments}
 use Rattle.features.specs.declared.Found.{Found}
 use Rattle.features.specs.Flags.{Edge, Elements, points, line, region, outline, hasPoint, hasSegment, onObject, hasEnd, isBound, joins, midInside, midOutside, flagsOfF, flagsOfG}
 
@@ -60,6 +60,10 @@ either a b = bitwise (λ k. flag k (bits a) || flag k (bits b))
 -- a flag not wanted is 0
 abbrev pub masked : Found → Found → Found
 masked want a = bitwise (λ k. flag k (bits want) && flag k (bits a))
+
+-- some wanted flag is not set
+abbrev pub lacks : Found → Found → Bool
+lacks want a = some (λ k. flag k (bits want) && not (flag k (bits a))) (indices 8 0)
 
 -- where a test fails there are no flags
 abbrev pub given : Bool → Found → Found

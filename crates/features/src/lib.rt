@@ -11,3 +11,5 @@ pub struct Found {
     pub b6: bool,
     pub b7: bool,
 }
+
+pub mod bits;
