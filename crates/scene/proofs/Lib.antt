@@ -1,5 +1,5 @@
 -- Laws of reading that the proofs of the functions and of other crates cite.
-mod Flags
+pub mod Flags
 pub mod Passed
 pub mod Taken
 pub mod Given

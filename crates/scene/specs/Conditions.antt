@@ -82,8 +82,11 @@ module _ (s : List ℕ) (l : Layout) where
       of Line = comesBefore (half s l i) (half s l j)
       of Region = comesBefore (half s l i) (half s l j)
 
+  abbrev pub isMisplaced : ℕ → Bool
+  isMisplaced i = ltb 0 i && not (inOrder (i - 1) i)
+
   unfoldable pub outOfOrder : Fault
-  outOfOrder = earliest l (λ i. ltb 0 i && not (inOrder (i - 1) i)) (elements l)
+  outOfOrder = earliest l isMisplaced (elements l)
 
   -- 11: "halfsegment with no partner of opposite d, equal ends and ia"
   unfoldable pub partner : ℕ → ℕ → Bool
@@ -92,26 +95,37 @@ module _ (s : List ℕ) (l : Layout) where
       && sameSegment (half s l i .segment) (half s l j .segment)
       && Bool·beq (ia s l i) (ia s l j)
 
+  abbrev pub isUnpaired : ℕ → Bool
+  isUnpaired i = hasSegments (l .shape) && not (some (partner i) (elements l))
+
   unfoldable pub unpaired : Fault
-  unpaired = earliest l (λ i. hasSegments (l .shape) && not (some (partner i) (elements l))) (elements l)
+  unpaired = earliest l isUnpaired (elements l)
 
   -- 12 and 15: "share a point that is not an end of both". The place is the earliest record of l whose segment touches one of the others: of a
   -- segment's two records the left one comes first, and of a pair the one that comes first is the place, as touching goes both ways
+  abbrev pub isTouching : List Segment → ℕ → Bool
+  isTouching others i = isLeft s l i && some (touch (half s l i .segment)) others
+
   unfoldable pub touching : List Segment → Fault
-  touching others = earliest l (λ i. isLeft s l i && some (touch (half s l i .segment)) others) (elements l)
+  touching others = earliest l (isTouching others) (elements l)
 
   -- 12: "two segments of one object share a point that is not an end of both"
   unfoldable pub touchingItself : Fault
   touchingItself = touching (segments s l)
 
   -- 13: "region end in an odd number of its segments", and its place is a record "whose dominating point is such an end"
+  abbrev pub endsOddly : ℕ → Bool
+  endsOddly i = isRegion (l .shape) && odd (endsAt (segments s l) (grid (dominating (half s l i))))
+
   unfoldable pub oddEnd : Fault
-  oddEnd = earliest l (λ i. isRegion (l .shape) && odd (endsAt (segments s l) (grid (dominating (half s l i))))) (elements l)
+  oddEnd = earliest l endsOddly (elements l)
 
   -- 14: "wrong ia"
+  abbrev pub hasWrongIa : ℕ → Bool
+  hasWrongIa i = isRegion (l .shape) && not (Bool·beq (ia s l i) (interiorAbove (segments s l) (half s l i .segment)))
+
   unfoldable pub wrongIa : Fault
-  wrongIa =
-      earliest l (λ i. isRegion (l .shape) && not (Bool·beq (ia s l i) (interiorAbove (segments s l) (half s l i .segment)))) (elements l)
+  wrongIa = earliest l hasWrongIa (elements l)
 
 -- ---- the order of the conditions: "Then 8 to 17 in order, each over the whole scene."
 

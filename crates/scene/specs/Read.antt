@@ -1,6 +1,7 @@
 -- Reading a scene: document 01's section "Scene bytes", and the refusals 1 to 7 of "What is turned away".
 -- Bytes are a list of numbers, an offset counts from 0, and nothing is decoded: an element is read where its record stands.
 use Prim.Native.Nat.{ℕ, zero, suc, _+_, _*_, _^_}
+use mathlib.Core.Path.{_≡_}
 use mathlib.Core.Bool.{Bool, true, false, not, _&&_, cond}
 use mathlib.Core.List.{List, [], _∷_}
 use lib.ListN.{length, getD}
@@ -15,6 +16,7 @@ use Rattle.scene.specs.declared.Shape.the-variants.{Points, Line, Region
 use Rattle.scene.specs.declared.Kind.{Kind}
 use Rattle.scene.specs.declared.Kind.the-variants.{Start, Element, End, Unknown}
 use Rattle.scene.specs.declared.Layout.{Layout}
+use Rattle.scene.specs.declared.Scene.{Scene}
 use Rattle.scene.specs.declared.Refusal.{Refusal}
 use Rattle.scene.specs.declared.Fault.{Fault}
 use Rattle.scene.specs.declared.Fault.the-variants.{At, Nothing}
@@ -250,6 +252,14 @@ alone s (CheckedObject.Taken l) = judge CheckedObject.Refused (CheckedObject.Tak
 
 unfoldable pub readAlone : List ℕ → CheckedObject
 readAlone s = alone s (readObject s 0)
+
+-- ---- a layout of these bytes: what the functions on a layout require, and reading gives
+
+abbrev pub IsObject : List ℕ → Layout → Type 0
+IsObject s l = readObject s (l .start) ≡ CheckedObject.Taken l
+
+abbrev pub IsScene : List ℕ → Scene → Type 0
+IsScene s sc = readScene s ≡ CheckedScene.Taken sc
 
 -- ---- the numbers and values of an answer
 

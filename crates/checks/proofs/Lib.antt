@@ -1,0 +1,2 @@
+-- Laws of the conditions that the proofs of the functions and of other crates cite.
+pub mod Walk

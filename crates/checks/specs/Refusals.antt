@@ -1,0 +1,40 @@
+-- The conditions 10 to 15 by their numbers, as tests of one element, and the first of several conditions that refuses: what the functions of this
+-- crate promise, from the definitions in scene's Conditions.antt.
+use Prim.Native.Nat.{ℕ}
+use mathlib.Core.Bool.{Bool, cond}
+use mathlib.Core.List.{List, [], _∷_, _++_, map}
+use lib.Dec.{eqb}
+use Rattle.scene.specs.declared.Layout.{Layout}
+use Rattle.scene.specs.declared.Scene.{Scene}
+use Rattle.scene.specs.declared.Fault.{Fault}
+use Rattle.scene.specs.Read.{Condition, judge}
+use Rattle.scene.specs.Conditions.{elements, segments, earliest, isMisplaced, isUnpaired, isTouching, endsOddly, hasWrongIa, Rule, rule, conditions, objectRules, overBoth, touchingAcross}
+use Rattle.checks.specs.declared.Verdict.{Verdict}
+
+-- is the element i of l at fault under the condition n? For 15, other is the scene's other object
+module _ (s : List ℕ) (l other : Layout) where
+  abbrev pub isAtFault : ℕ → ℕ → Bool
+  isAtFault n i =
+      cond (eqb n 10) (isMisplaced s l i)
+      (cond (eqb n 11) (isUnpaired s l i)
+      (cond (eqb n 12) (isTouching s l (segments s l) i)
+      (cond (eqb n 13) (endsOddly s l i)
+      (cond (eqb n 14) (hasWrongIa s l i) (isTouching s l (segments s other) i)))))
+
+  abbrev pub faultUnder : ℕ → Fault
+  faultUnder n = earliest l (isAtFault n) (elements l)
+
+-- the first of several conditions that refuses, if any does
+abbrev pub verdict : List Condition → Verdict
+verdict = judge Verdict.Refused Verdict.Sound
+
+-- 10 to 14 over one object
+unfoldable pub objectVerdict : List ℕ → Layout → Verdict
+objectVerdict s l = verdict (conditions objectRules s l)
+
+-- 10 to 15 over a scene
+abbrev pub geometryRules : List (Rule Scene)
+geometryRules = map overBoth objectRules ++ (rule 15 touchingAcross ∷ [])
+
+unfoldable pub geometryVerdict : List ℕ → Scene → Verdict
+geometryVerdict s sc = verdict (conditions geometryRules s sc)
