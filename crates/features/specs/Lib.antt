@@ -1,2 +1,3 @@
 -- What the topological feature vectors are.
 pub mod Flags
+pub mod Sentences
