@@ -137,9 +137,13 @@ module _ {A : Type 0} {same : A → A → Bool} (equal : (a b : A) → Means (sa
   unshared : Means (some (λ f. not (some (same f) G)) F) (Unshared F G)
   unshared = some-is F λ f. none-is G λ g. equal f g
 
--- three tests, the first against the other two
-and-both : {a b c : Bool} {P Q R : Type 0} → Means a P → Means b Q → Means c R → Means (a && b && c) (P × (Q × R))
-and-both h k m = restate (and-is (and-is h k) m) (λ w. (w .0 .0, (w .0 .1, w .1))) (λ w. ((w .0, w .1 .0), w .1 .1))
+-- three tests, with the first or the second sentence in front
+module _ {a b c : Bool} {P Q R : Type 0} (h : Means a P) (k : Means b Q) (m : Means c R) where
+  and-first : Means (a && b && c) (P × (Q × R))
+  and-first = restate (and-is (and-is h k) m) (λ w. (w .0 .0, (w .0 .1, w .1))) (λ w. ((w .0, w .1 .0), w .1 .1))
+
+  and-second : Means (a && b && c) (Q × (P × R))
+  and-second = restate and-first (λ w. (w .1 .0, (w .0, w .1 .1))) (λ w. (w .1 .0, (w .0, w .1 .1)))
 
 module _ (G : List Segment) where
   join : (f : Segment) (v : Point) → Means (joins G f v) (Some G λ g. (f ≢ g) × EndOf v g)
@@ -161,7 +165,7 @@ module _ (G : List Segment) where
 -- an own boundary point
 module _ (F G : List Segment) where
   bound-on-interior : Means (boundOnInterior F G) (BoundOnInterior F G)
-  bound-on-interior = some-bound F λ v. and-both (bound F v) (on-some G (grid v)) (not-is (bound G v))
+  bound-on-interior = some-bound F λ v. and-first (bound F v) (on-some G (grid v)) (not-is (bound G v))
 
   bound-disjoint : Means (boundDisjoint F G) (BoundDisjoint F G)
   bound-disjoint = some-bound F λ v. and-is (bound F v) (on-none G (grid v))
@@ -202,112 +206,61 @@ module _ (F G : List Edge) where
 -- ---- the pairs
 
 -- flag by flag
-abbrev pub Agree : List Bool → List (Type 0) → Type 0
-Agree [] [] = Unit {0}
-Agree [] (P ∷ m) = ⊥
-Agree (b ∷ l) [] = ⊥
-Agree (b ∷ l) (P ∷ m) = Means b P × Agree l m
+infixr 20 _&_
+pub data Agree : List Bool → List (Type 0) → Type 1 where
+  done : Agree [] []
+  _&_ : {b : Bool} {P : Type 0} {l : List Bool} {m : List (Type 0)} → Means b P → Agree l m → Agree (b ∷ l) (P ∷ m)
 
 pub flags-agree-F : (F G : Elements) → Agree (flagsOfF F G) (sentencesOfF F G)
-flags-agree-F (points F) (points G) = (unshared same-point F G, (shared same-point F G, tt))
-flags-agree-F (points F) (line G) = (
-  some-is F λ f. on-none G (grid f),
-  (
-    some-is F λ f. and-is (on-some G (grid f)) (not-is (bound G f)),
-    (
-      some-is F λ f. bound G f,
-      tt,
-    ),
-  ),
-)
-flags-agree-F (points F) (region G) = (
-  some-is F λ f. test-is (inside (outline G) (grid f)),
-  (
-    some-is F λ f. on-some (outline G) (grid f),
-    (
-      some-is F λ f. and-is (not-is (test-is (inside (outline G) (grid f)))) (on-none (outline G) (grid f)),
-      tt,
-    ),
-  ),
-)
-flags-agree-F (line F) (points G) = tt
-flags-agree-F (line F) (line G) = (
-  shared same-segment F G,
-  (
-    some-end F λ v. and-both (end-of-some G v) (not-is (bound F v)) (not-is (bound G v)),
-    (
-      unshared same-segment F G,
-      (
-        bound-on-interior F G,
-        (
-          some-bound F λ v. and-is (bound F v) (bound G v),
-          (
-            bound-disjoint F G,
-            tt,
-          ),
-        ),
-      ),
-    ),
-  ),
-)
+flags-agree-F (points F) (points G) = unshared same-point F G & shared same-point F G & done
+flags-agree-F (points F) (line G) =
+    some-is F (λ f. on-none G (grid f))
+    & some-is F (λ f. and-is (on-some G (grid f)) (not-is (bound G f)))
+    & some-is F (λ f. bound G f)
+    & done
+flags-agree-F (points F) (region G) =
+    some-is F (λ f. within (outline G) (grid f))
+    & some-is F (λ f. on-some (outline G) (grid f))
+    & some-is F (λ f. and-is (not-is (within (outline G) (grid f))) (on-none (outline G) (grid f)))
+    & done
+flags-agree-F (line F) (points G) = done
+flags-agree-F (line F) (line G) =
+    shared same-segment F G
+    & some-end F (λ v. and-first (end-of-some G v) (not-is (bound F v)) (not-is (bound G v)))
+    & unshared same-segment F G
+    & bound-on-interior F G
+    & some-bound F (λ v. and-is (bound F v) (bound G v))
+    & bound-disjoint F G
+    & done
 flags-agree-F (line F) (region G) =
-    let R = outline G in (
-      some-is F λ f. and-is (none-is R (same-segment f)) (within R (midpoint f)),
-      (
-        shared same-segment F R,
-        (
-          some-is F λ f. and-is (none-is R (same-segment f)) (not-is (within R (midpoint f))),
-          (
-            meets-where R F λ v. not-is (bound F v),
-            (
-              some-bound F λ v. restate (and-is (within R (grid v)) (bound F v)) (λ w. (w .1, w .0)) (λ w. (w .1, w .0)),
-              (
-                meets-where R F λ v. bound F v,
-                (
-                  some-bound F λ v. restate (and-both (not-is (within R (grid v))) (bound F v) (on-none R (grid v))) (λ w. (w .1 .0, (w .0, w .1 .1))) (λ w. (w .1 .0, (w .0, w .1 .1))),
-                  tt,
-                ),
-              ),
-            ),
-          ),
-        ),
-      ),
-    )
-flags-agree-F (region F) (points G) = tt
-flags-agree-F (region F) (line G) = tt
-flags-agree-F (region F) (region G) = (
-  class-01 F G,
-  (
-    class-10 F G,
-    (
-      class-12 F G,
-      (
-        class-21 F G,
-        (
-          common F G λ f g. and-is (test-is (f .ia)) (test-is (g .ia)),
-          (
-            common F G λ f g. and-is (not-is (test-is (f .ia))) (not-is (test-is (g .ia))),
-            (
-              common F G λ f g. or-is (and-is (test-is (f .ia)) (not-is (test-is (g .ia)))) (and-is (not-is (test-is (f .ia))) (test-is (g .ia))),
-              (
-                meets (outline G) (outline F),
-                tt,
-              ),
-            ),
-          ),
-        ),
-      ),
-    ),
-  ),
-)
+    some-is F (λ f. and-is (none-is (outline G) (same-segment f)) (within (outline G) (midpoint f)))
+    & shared same-segment F (outline G)
+    & some-is F (λ f. and-is (none-is (outline G) (same-segment f)) (not-is (within (outline G) (midpoint f))))
+    & meets-where (outline G) F (λ v. not-is (bound F v))
+    & some-bound F (λ v. restate (and-is (within (outline G) (grid v)) (bound F v)) (λ w. (w .1, w .0)) (λ w. (w .1, w .0)))
+    & meets-where (outline G) F (λ v. bound F v)
+    & some-bound F (λ v. and-second (not-is (within (outline G) (grid v))) (bound F v) (on-none (outline G) (grid v)))
+    & done
+flags-agree-F (region F) (points G) = done
+flags-agree-F (region F) (line G) = done
+flags-agree-F (region F) (region G) =
+    class-01 F G
+    & class-10 F G
+    & class-12 F G
+    & class-21 F G
+    & common F G (λ f g. and-is (above f) (above g))
+    & common F G (λ f g. and-is (below f) (below g))
+    & common F G (λ f g. or-is (and-is (above f) (below g)) (and-is (below f) (above g)))
+    & meets (outline G) (outline F)
+    & done
 
 pub flags-agree-G : (F G : Elements) → Agree (flagsOfG F G) (sentencesOfG F G)
-flags-agree-G (points F) (points G) = (unshared same-point G F, tt)
-flags-agree-G (points F) (line G) = (some-bound G λ v. and-is (bound G v) (none-is F (same-point v)), tt)
-flags-agree-G (points F) (region G) = tt
-flags-agree-G (line F) (points G) = tt
-flags-agree-G (line F) (line G) = (unshared same-segment G F, (bound-on-interior G F, (bound-disjoint G F, tt)))
-flags-agree-G (line F) (region G) = (unshared same-segment (outline G) F, tt)
-flags-agree-G (region F) (points G) = tt
-flags-agree-G (region F) (line G) = tt
-flags-agree-G (region F) (region G) = (class-01 G F, (class-10 G F, (class-12 G F, (class-21 G F, tt))))
+flags-agree-G (points F) (points G) = unshared same-point G F & done
+flags-agree-G (points F) (line G) = some-bound G (λ v. and-is (bound G v) (none-is F (same-point v))) & done
+flags-agree-G (points F) (region G) = done
+flags-agree-G (line F) (points G) = done
+flags-agree-G (line F) (line G) = unshared same-segment G F & bound-on-interior G F & bound-disjoint G F & done
+flags-agree-G (line F) (region G) = unshared same-segment (outline G) F & done
+flags-agree-G (region F) (points G) = done
+flags-agree-G (region F) (line G) = done
+flags-agree-G (region F) (region G) = class-01 G F & class-10 G F & class-12 G F & class-21 G F & done
