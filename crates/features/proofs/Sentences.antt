@@ -1,12 +1,13 @@
 -- A flag is set exactly when its sentence holds: for every two objects, flag by flag.
-use Prim.Native.Nat.{ℕ, _+_}
+use Prim.Native.Nat.{ℕ, zero, suc, _+_}
 use mathlib.Core.Path.{_≡_, refl, sym, ap, _∙_, subst}
 use mathlib.Core.Logic.{_≢_, _⊎_, inl, inr, ⊎-elim}
 use mathlib.Core.Bool.{Bool, true, false, not, _&&_, _||_}
 use mathlib.Core.List.{List, [], _∷_}
 use lib.Dec.{T, T-not, not-T}
+use lib.ListN.{getD}
 use lib.IntN.{ℤ, pos, _*ℤ_, *ℤ-comm}
-use Rattle.whole.specs.Count.{_∈_, some, count, bit}
+use Rattle.whole.specs.Count.{some, count, bit}
 use Rattle.whole.proofs.Ring.{one-mul}
 use Rattle.whole.proofs.Logic.{and-left, and-right, and-make, or-cases, or-left, or-right, decide, some-find, some-make}
 use Rattle.plane.specs.declared.Point.{Point}
@@ -14,30 +15,29 @@ use Rattle.plane.specs.declared.Segment.{Segment}
 use Rattle.plane.specs.Plane.{HPoint, grid, samePoint, sameSegment, isAt, isEnd, on, onSome, inside, midpoint, isBoundary, endsAt}
 use Rattle.plane.proofs.Equal.{samePoint-read, samePoint-refl, sameSegment-read, sameSegment-refl, point-eq}
 use Rattle.plane.proofs.Touch.{isAt-read, isAt-make}
-use Rattle.features.specs.Flags.{Edge, Elements, points, line, region, outline, isBound, joins, someEnd, midInside, midOutside, boundOnInterior, boundDisjoint, class01, class10, class12, class21, flagsOfF, flagsOfG}
-use Rattle.features.specs.Sentences.{Some, Every, EndOf, EndOfSome, Bound, SomeEnd, SomeBound, MeetAt, Shared, Unshared, BoundOnInterior, BoundDisjoint, InInterior, InExterior, Above, Class01, Class10, Class12, Class21, sentencesOfF, sentencesOfG}
-
--- The test passes exactly when the sentence holds
-pub record Means (b : Bool) (P : Type 0) : Type 0 where
-  pub read : T b → P
-  pub make : P → T b
+use Rattle.features.specs.Flags.{Edge, Elements, points, line, region, outline, isBound, joins, someEnd, midInside, midOutside, boundOnInterior, boundDisjoint, class01, class10, class12, class21, flagsOfF, flagsOfG, pack, hasBit}
+use Rattle.features.specs.Sentences.{Some, Every, EndOf, EndOfSome, Bound, SomeEnd, SomeBound, MeetAt, Shared, Unshared, BoundOnInterior, BoundDisjoint, InInterior, InExterior, Above, Class01, Class10, Class12, Class21, sentencesOfF, sentencesOfG, sentence, Means}
+use Rattle.features.proofs.Bits.{pack-bit}
 
 -- ---- operation by operation
 
-test-is : (b : Bool) → Means b (T b)
+pub test-is : (b : Bool) → Means b (T b)
 test-is b = record { read = λ t. t; make = λ t. t }
 
--- one sentence for another
-restate : {b : Bool} {P Q : Type 0} → Means b P → (P → Q) → (Q → P) → Means b Q
+-- one test, or one sentence, for another
+pub retest : {a b : Bool} {P : Type 0} → a ≡ b → Means b P → Means a P
+retest e h = record { read = λ t. h .read (subst T e t); make = λ p. subst T (sym e) (h .make p) }
+
+pub restate : {b : Bool} {P Q : Type 0} → Means b P → (P → Q) → (Q → P) → Means b Q
 restate h f g = record { read = λ t. f (h .read t); make = λ q. h .make (g q) }
 
-not-is : {b : Bool} {P : Type 0} → Means b P → Means (not b) (¬ P)
+pub not-is : {b : Bool} {P : Type 0} → Means b P → Means (not b) (¬ P)
 not-is {b} h = record { read = λ t p. T-not b t (h .make p); make = λ n. not-T b (λ t. n (h .read t)) }
 
-and-is : {a b : Bool} {P Q : Type 0} → Means a P → Means b Q → Means (a && b) (P × Q)
+pub and-is : {a b : Bool} {P Q : Type 0} → Means a P → Means b Q → Means (a && b) (P × Q)
 and-is {a} {b} h k = record { read = λ t. (h .read (and-left a b t), k .read (and-right a b t)); make = λ w. and-make a b (h .make (w .0)) (k .make (w .1)) }
 
-or-is : {a b : Bool} {P Q : Type 0} → Means a P → Means b Q → Means (a || b) (P ⊎ Q)
+pub or-is : {a b : Bool} {P Q : Type 0} → Means a P → Means b Q → Means (a || b) (P ⊎ Q)
 or-is {a} {b} h k = record { read = λ t. ⊎-elim (λ s. inl (h .read s)) (λ s. inr (k .read s)) (or-cases a b t); make = ⊎-elim (λ p. or-left a b (h .make p)) (λ q. or-right a b (k .make q)) }
 
 module _ {A : Type 0} {f : A → Bool} {P : A → Type 0} (l : List A) (is : (a : A) → Means (f a) (P a)) where
@@ -264,3 +264,17 @@ flags-agree-G (line F) (region G) = unshared same-segment (outline G) F & done
 flags-agree-G (region F) (points G) = done
 flags-agree-G (region F) (line G) = done
 flags-agree-G (region F) (region G) = class-01 G F & class-10 G F & class-12 G F & class-21 G F & done
+
+-- ---- bit by bit
+
+agree-at : {l : List Bool} {m : List (Type 0)} → Agree l m → (k : ℕ) → Means (getD l k false) (sentence m k)
+agree-at done k = test-is false
+agree-at (h & rest) zero = h
+agree-at (h & rest) (suc k) = agree-at rest k
+
+-- Bit k of the vector with every flag is set exactly when sentence k holds
+pub bit-F : (F G : Elements) (k : ℕ) → Means (hasBit (pack (flagsOfF F G)) k) (sentence (sentencesOfF F G) k)
+bit-F F G k = retest (pack-bit (flagsOfF F G) k) (agree-at (flags-agree-F F G) k)
+
+pub bit-G : (F G : Elements) (k : ℕ) → Means (hasBit (pack (flagsOfG F G)) k) (sentence (sentencesOfG F G) k)
+bit-G F G k = retest (pack-bit (flagsOfG F G) k) (agree-at (flags-agree-G F G) k)

@@ -4,6 +4,7 @@
 use Prim.Native.Nat.{ℕ}
 use mathlib.Core.Path.{_≡_}
 use mathlib.Core.Logic.{_≢_, _⊎_}
+use mathlib.Core.Bool.{Bool}
 use mathlib.Core.List.{List, [], _∷_}
 use lib.Dec.{T}
 use lib.ListN.{getD}
@@ -232,6 +233,11 @@ sentencesOfG (region F) (points G) = []
 sentencesOfG (region F) (line G) = []
 sentencesOfG (region F) (region G) = Class01 G F ∷ Class10 G F ∷ Class12 G F ∷ Class21 G F ∷ []
 
--- Sentence k, and a bit without a flag has none
+-- Sentence k; there is none past the last, and nothing makes it hold
 abbrev pub sentence : List (Type 0) → ℕ → Type 0
 sentence l k = getD l k ⊥
+
+-- The test passes exactly when the sentence holds
+pub record Means (b : Bool) (P : Type 0) : Type 0 where
+  pub read : T b → P
+  pub make : P → T b
