@@ -1,2 +1,5 @@
--- Laws of the flags that the proofs of the functions and of other crates cite.
+-- What belongs to no one function: the bits of a vector, the flags' sentences, the wanted masks, and the flags collected element by element.
+pub mod Bits
+pub mod Sentences
+pub mod Wanted
 pub mod ByElement

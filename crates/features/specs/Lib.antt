@@ -1,3 +1,5 @@
 -- What the topological feature vectors are.
 pub mod Flags
+pub mod Sentences
+pub mod Wanted
 pub mod Walk
