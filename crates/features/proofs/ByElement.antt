@@ -1,7 +1,7 @@
 -- The flags of Flags.antt, collected element by element: flag k is set when it is set for some element of its object.
 use Prim.Native.Nat.{ℕ, zero, suc}
 use mathlib.Core.Path.{_≡_, refl, sym, ap, ap₂, _∙_}
-use mathlib.Core.Bool.{Bool, true, false, not, _&&_, _||_, cond}
+use mathlib.Core.Bool.{Bool, true, false, not, _&&_, _||_, cond, and-false, or-false}
 use mathlib.Core.List.{List, [], _∷_, map, map-map}
 use Rattle.whole.specs.Count.{some}
 use Rattle.plane.specs.declared.Point.{Point}
@@ -12,8 +12,8 @@ use Rattle.scene.specs.declared.Shape.the-variants.{Points, Line, Region}
 use Rattle.scene.specs.declared.Layout.{Layout}
 use Rattle.scene.specs.Conditions.{elements, keep, half, isLeft, segments}
 use Rattle.features.specs.declared.Found.{Found}
-use Rattle.features.specs.Flags.{Edge, Elements, points, line, region, outline, hasSegment, joins}
-use Rattle.features.specs.Walk.{pointOf, edgeOf, edges, elementsAs, elementsOf, bits, flag, bitwise, found, given, gather, Tests, pointTests, atEnd, segmentTests, edgeTests, tested, flagsAs, elementFlags, allFlags, flagsOf}
+use Rattle.features.specs.Flags.{Edge, Elements, points, line, region, outline, hasSegment, joins, class01, class10, class12, class21, class02, class20, class11}
+use Rattle.features.specs.Walk.{pointOf, pointsOf, edgeOf, edges, elementsAs, elementsOf, bits, flag, bitwise, found, given, gather, Tests, pointTests, sameEdge, hasEdge, atEnd, segmentTests, edgeTests, tested, flagsAs, elementFlags, allFlags, flagsOf}
 
 -- ---- "some" over lists
 
@@ -85,10 +85,32 @@ segment-flags false l (points F) = refl
 segment-flags false l (line F) = refl
 segment-flags false l (region F) = refl
 
+-- a shared segment by the side of the interior
+module _ (t : Segment) (G : List Edge) where
+  on-side : (side : Edge → Bool) (b : Bool) → some (λ g. sameSegment t (g .segment) && (b && side g)) G ≡ b && some (λ g. sameSegment t (g .segment) && side g) G
+  on-side side true = refl
+  on-side side false = some-same (λ g. sameSegment t (g .segment) && false) (λ g. false) (λ g. and-false (sameSegment t (g .segment))) G ∙ some-never G
+
+  on-other-side : (b : Bool) → some (λ g. sameSegment t (g .segment) && (b && not (g .ia) || not b && g .ia)) G ≡ hasEdge G t (not b)
+  on-other-side true =
+      some-same (λ g. sameSegment t (g .segment) && (not (g .ia) || false)) (sameEdge t false)
+      (λ g. ap (λ c. sameSegment t (g .segment) && c) (or-false (not (g .ia)))) G
+  on-other-side false = refl
+
 edge-flags : (isF : Bool) (l : List Edge) (other : Elements) → flagsOf isF (region l) other ≡ map (λ t. some t l) (edgeTests isF other)
 edge-flags true l (points G) = refl
 edge-flags true l (line G) = refl
-edge-flags true l (region G) = rw (outline-some (atEnd (joins (outline G))) l)
+edge-flags true l (region G) =
+    λ i. class01 l G ∷ class10 l G ∷ class12 l G ∷ class21 l G ∷ both i ∷ neither i ∷ one i ∷ outline-some (atEnd (joins (outline G))) l i ∷ []
+  where
+    both : class02 l G ≡ some (λ (f : Edge). f .ia && hasEdge G (f .segment) true) l
+    both = some-same _ (λ (f : Edge). f .ia && hasEdge G (f .segment) true) (λ f. on-side (f .segment) G (λ g. g .ia) (f .ia)) l
+
+    neither : class20 l G ≡ some (λ (f : Edge). not (f .ia) && hasEdge G (f .segment) false) l
+    neither = some-same _ (λ (f : Edge). not (f .ia) && hasEdge G (f .segment) false) (λ f. on-side (f .segment) G (λ g. not (g .ia)) (not (f .ia))) l
+
+    one : class11 l G ≡ some (λ (f : Edge). hasEdge G (f .segment) (not (f .ia))) l
+    one = some-same _ (λ (f : Edge). hasEdge G (f .segment) (not (f .ia))) (λ f. on-other-side (f .segment) G (f .ia)) l
 edge-flags false l (points F) = refl
 edge-flags false l (line F) = rw (outline-some (λ f. not (hasSegment F f)) l)
 edge-flags false l (region F) = refl
@@ -105,13 +127,13 @@ kept ts g q l = gather-map (tested ts) g (keep q l) ∙ gather-keep (λ i. teste
 
 module _ (isF : Bool) (s : List ℕ) (own other : Layout) where
   pub flags-by-element : found (flagsOf isF (elementsOf s own) (elementsOf s other)) ≡ allFlags isF s own other
-  unfolding edges segments
+  unfolding edges segments pointsOf
   flags-by-element = go (own .shape)
     where
       go : (k : Shape) → found (flagsOf isF (elementsAs s own k) (elementsOf s other)) ≡ gather (flagsAs isF s own other k) (elements own)
       go Points =
-          ap found (point-flags isF (map (pointOf s own) (elements own)) (elementsOf s other))
-          ∙ by-element (map (pointOf s own) (elements own)) (pointTests isF (elementsOf s other))
+          ap found (point-flags isF (pointsOf s own) (elementsOf s other))
+          ∙ by-element (pointsOf s own) (pointTests isF (elementsOf s other))
           ∙ gather-map (tested (pointTests isF (elementsOf s other))) (pointOf s own) (elements own)
       go Line =
           ap found (segment-flags isF (segments s own) (elementsOf s other))

@@ -3,3 +3,4 @@ pub mod Bits
 pub mod Sentences
 pub mod Wanted
 pub mod ByElement
+pub mod Searching

@@ -7,7 +7,7 @@ use lib.ListN.{getD}
 use Rattle.whole.specs.Count.{some}
 use Rattle.plane.specs.declared.Point.{Point}
 use Rattle.plane.specs.declared.Segment.{Segment}
-use Rattle.plane.specs.Plane.{grid, midpoint, sameSegment, inside}
+use Rattle.plane.specs.Plane.{grid, midpoint, sameSegment, isEnd, inside}
 use Rattle.scene.specs.declared.Shape.{Shape}
 use Rattle.scene.specs.declared.Shape.the-variants.{Points, Line, Region}
 use Rattle.scene.specs.declared.Layout.{Layout}
@@ -26,11 +26,14 @@ module _ (s : List ℕ) (l : Layout) where
   abbrev pub edgeOf : ℕ → Edge
   edgeOf i = record { segment = half s l i .segment; ia = ia s l i }
 
+  unfoldable pub pointsOf : List Point
+  pointsOf = map pointOf (elements l)
+
   unfoldable pub edges : List Edge
   edges = map edgeOf (keep (isLeft s l) (elements l))
 
   abbrev pub elementsAs : Shape → Elements
-  elementsAs Points = points (map pointOf (elements l))
+  elementsAs Points = points pointsOf
   elementsAs Line = line (segments s l)
   elementsAs Region = region edges
 
@@ -72,6 +75,23 @@ given t a = bitwise (λ k. t && flag k (bits a))
 -- the flags of all elements of a list
 abbrev pub gather : {A : Type 0} → (A → Found) → List A → Found
 gather f l = bitwise (λ k. some (λ a. flag k (bits (f a))) l)
+
+-- ---- the tests of the searches
+
+-- v is an end of t, and t another segment than s: what Flags.joins asks of one of the object's segments
+abbrev pub joined : Segment → Point → Segment → Bool
+joined s v t = not (sameSegment s t) && isEnd t (grid v)
+
+-- the same segment, with the interior above it or below it as told
+abbrev pub sameIa : Bool → Bool → Bool
+sameIa true b = b
+sameIa false b = not b
+
+abbrev pub sameEdge : Segment → Bool → Edge → Bool
+sameEdge s above e = sameSegment s (e .segment) && sameIa above (e .ia)
+
+abbrev pub hasEdge : List Edge → Segment → Bool → Bool
+hasEdge l s above = some (sameEdge s above) l
 
 -- ---- the flags of one element as tests of it, bit 0 first: of F (true), then of G (false), beside the other object
 
@@ -121,10 +141,6 @@ segmentTests false own (line F) =
     ∷ []
 segmentTests false own (region F) = []
 
--- one of the object's segments, with the interior on the same side of it, or on the other
-abbrev pub hasEdge : (Bool → Bool) → List Edge → Segment → Bool
-hasEdge side l s = some (λ (e : Edge). sameSegment s (e .segment) && side (e .ia)) l
-
 -- those of a segment by its class
 abbrev pub classTests : List Edge → Tests Edge
 classTests G =
@@ -139,9 +155,9 @@ edgeTests true (points G) = []
 edgeTests true (line G) = []
 edgeTests true (region G) =
     classTests G
-    ++ ((λ (f : Edge). hasEdge (λ b. f .ia && b) G (f .segment))
-    ∷ (λ (f : Edge). hasEdge (λ b. not (f .ia) && not b) G (f .segment))
-    ∷ (λ (f : Edge). hasEdge (λ b. f .ia && not b || not (f .ia) && b) G (f .segment))
+    ++ ((λ (f : Edge). f .ia && hasEdge G (f .segment) true)
+    ∷ (λ (f : Edge). not (f .ia) && hasEdge G (f .segment) false)
+    ∷ (λ (f : Edge). hasEdge G (f .segment) (not (f .ia)))
     ∷ (λ (f : Edge). atEnd (joins (outline G)) (f .segment))
     ∷ [])
 edgeTests false (points F) = []

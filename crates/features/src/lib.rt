@@ -12,4 +12,5 @@ pub struct Found {
     pub b7: bool,
 }
 
-pub mod bits;
+pub mod collected;
+pub mod searches;
