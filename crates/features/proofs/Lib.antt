@@ -4,3 +4,4 @@ pub mod Sentences
 pub mod Wanted
 pub mod ByElement
 pub mod Searching
+pub mod Inside

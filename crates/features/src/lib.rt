@@ -13,4 +13,5 @@ pub struct Found {
 }
 
 pub mod collected;
+pub mod position;
 pub mod searches;
