@@ -1,14 +1,11 @@
 -- Demand 3 over the elements of two objects: one statement over all nine cells and all pairs of types.
-use Prim.Native.Nat.{ℕ, zero, suc, _+_, _*_, _/_, _^_, _≤_}
-use native.Mathlib.Omega.{arith}
-use mathlib.Core.Path.{_≡_, refl, sym, ap, _∙_, subst, fun-ext}
-use mathlib.Core.Logic.{_↔_, ⊎-elim}
+use Prim.Native.Nat.{ℕ}
+use mathlib.Core.Path.{_≡_, refl, sym, ap₂, subst, fun-ext}
+use mathlib.Core.Logic.{_↔_}
 use mathlib.Core.Bool.{Bool, true, false, not, _&&_, _||_}
 use mathlib.Core.List.{List, [], _∷_}
 use lib.Dec.{T, leb}
 use lib.ListN.{getD}
-use Rattle.whole.specs.Count.{_∈_, odd, bit}
-use Rattle.whole.proofs.Sign.{Pos}
 use Rattle.plane.specs.declared.Point.{Point}
 use Rattle.plane.specs.declared.Segment.{Segment}
 use Rattle.plane.specs.Plane.{HPoint, FractionPoint, fractions, Object, inInterior, inBoundary, inExterior}
@@ -17,8 +14,9 @@ use Rattle.plane.proofs.Accepted.{Split, Regular, Across}
 use Rattle.scene.specs.declared.Shape.{Shape}
 use Rattle.scene.specs.declared.Shape.the-variants.{Points, Line, Region}
 use Rattle.scene.specs.Read.{shapeNumber}
-use Rattle.features.specs.Flags.{Edge, Elements, outline, object, segmentsOf, flagsOfF, flagsOfG, pack}
-use Rattle.cells.specs.Matrix.{Part, interior, boundary, exterior, lies, Meet, matrixBy, matrixOf, hasBit, cellAt}
+use Rattle.features.specs.Flags.{Edge, Elements, outline, object, segmentsOf, flagsOfF, flagsOfG, pack, hasBit}
+use Rattle.features.proofs.Bits.{pack-bit}
+use Rattle.cells.specs.Matrix.{Part, interior, boundary, exterior, lies, Meet, matrixBy, matrixOf, cellAt}
 use Rattle.cells.proofs.Common.{Cell, filled}
 use Rattle.cells.proofs.PointsPoints as PP
 use Rattle.cells.proofs.PointsLine as PL
@@ -125,3 +123,29 @@ nine (Elements.region F) (Elements.region G) h boundary exterior = RR.be F G (h 
 nine (Elements.region F) (Elements.region G) h exterior interior = RR.ei F G (h .good-F) (h .good-G) (h .across)
 nine (Elements.region F) (Elements.region G) h exterior boundary = RR.eb F G (h .good-F) (h .good-G) (h .across)
 nine (Elements.region F) (Elements.region G) h exterior exterior = RR.ee F G (h .good-F) (h .good-G) (h .across)
+
+-- ---- from the vectors, in fraction points
+
+-- the matrix of the two vectors is that of the flags
+vectors-matrix : (F G : Elements) → matrixOf (shapeOf F) (shapeOf G) (pack (flagsOfF F G)) (pack (flagsOfG F G)) (isEmpty F) (isEmpty G) ≡ flagsMatrix F G
+unfolding matrixOf
+vectors-matrix F G =
+    ap₂ (λ (v w : ℕ → Bool). matrixBy (shapeOf F) (shapeOf G) v w (isEmpty F) (isEmpty G)) (fun-ext (pack-bit (flagsOfF F G))) (fun-ext (pack-bit (flagsOfG F G)))
+
+lies-scale : (r : Part) (o : Object) → ScaleFree (lies r o)
+lies-scale interior o = inInterior-scale o
+lies-scale boundary o = inBoundary-scale o
+lies-scale exterior o = inExterior-scale o
+
+-- a cell speaks of fraction points
+pub cell-meets : (r c : Part) (F G : Object) {b : Bool} → Cell b (lies r F) (lies c G) → T b ↔ Meet r F c G
+cell-meets r c F G cell = (
+  λ t. let w = cell .found t in record { at = as-fractions (w .0) (w .1) .0; in-F = subst T (sym (at-fractions (lies r F) (lies-scale r F) (w .0) (w .1))) (w .2); in-G = subst T (sym (at-fractions (lies c G) (lies-scale c G) (w .0) (w .1))) (w .3) },
+  λ m. cell .told (fractions (m .at)) (fractions-pos (m .at)) (m .in-F) (m .in-G),
+)
+
+-- Demand 3: for accepted objects, each cell computed from types, vectors and emptiness is yes if and only if some fraction point lies in both parts
+pub no-cell-wrong : (F G : Elements) → Accepted F G → (r c : Part)
+    → T (cellAt (matrixOf (shapeOf F) (shapeOf G) (pack (flagsOfF F G)) (pack (flagsOfG F G)) (isEmpty F) (isEmpty G)) r c) ↔ Meet r (object F) c (object G)
+no-cell-wrong F G h r c =
+    cell-meets r c (object F) (object G) (subst (λ (m : List (List Bool)). Cell (cellAt m r c) (lies r (object F)) (lies c (object G))) (sym (vectors-matrix F G)) (nine F G h r c))

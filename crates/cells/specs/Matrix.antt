@@ -1,12 +1,12 @@
 -- The nine-intersection matrix: document 01's question "Cells". Three rows (interior, boundary, exterior of F) of three columns (the same of G), from the
 -- two types, the two vectors and the two emptiness bits alone; and what a cell means, in points with fraction coordinates.
-use Prim.Native.Nat.{ℕ, _/_, _^_}
+use Prim.Native.Nat.{ℕ}
 use mathlib.Core.Bool.{Bool, true, false, not, _||_}
 use mathlib.Core.List.{List, [], _∷_}
 use lib.Dec.{T}
 use lib.ListN.{getD}
-use Rattle.whole.specs.Count.{odd}
 use Rattle.plane.specs.Plane.{FractionPoint, fractions, HPoint, Object, inInterior, inBoundary, inExterior}
+use Rattle.features.specs.Flags.{hasBit}
 use Rattle.scene.specs.declared.Shape.{Shape}
 use Rattle.scene.specs.declared.Shape.the-variants.{Points, Line, Region}
 
@@ -50,9 +50,6 @@ matrixBy Region Points v w e g = noCells
 matrixBy Region Line v w e g = noCells
 
 -- from the vectors
-abbrev pub hasBit : ℕ → ℕ → Bool
-hasBit v k = odd (v / 2 ^ k)
-
 unfoldable pub matrixOf : Shape → Shape → ℕ → ℕ → Bool → Bool → List (List Bool)
 matrixOf t u v w e g = matrixBy t u (hasBit v) (hasBit w) e g
 

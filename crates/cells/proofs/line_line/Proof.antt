@@ -1,4 +1,5 @@
 -- `cells::line_line` meets its contract.
+use Rattle.features.specs.Flags.{hasBit}
 use Rattle.cells.specs.Matrix.{matrixOf}
 use borrow.Author.Needs.{needs}
 use Rattle.cells.proofs.line_line.Statement.{statement}
@@ -29,7 +30,7 @@ has-requires-7 : tie.Need-has-requires-7
 has-requires-7 c κs = search needs
 
 returns : tie.Need-returns
-unfolding matrixOf
+unfolding matrixOf hasBit
 returns c = cc
 
 pub line-line-spec : {M : Type 1} → statement M

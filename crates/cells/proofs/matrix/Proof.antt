@@ -1,4 +1,5 @@
 -- `cells::matrix` meets its contract.
+use Rattle.features.specs.Flags.{hasBit}
 use Rattle.cells.specs.Matrix.{matrixOf}
 use borrow.Author.Needs.{needs}
 use Rattle.cells.proofs.matrix.Statement.{statement}
@@ -59,39 +60,39 @@ region-region-requires : tie.Need-region-region-requires
 region-region-requires c κs = search needs
 
 returns : tie.Need-returns
-unfolding matrixOf
+unfolding matrixOf hasBit
 returns c = rw (c .before .before .before .enum-told .given .1, c .before .enum-told2 .given .1) (c .points-points .ensures)
 
 returns-2 : tie.Need-returns-2
-unfolding matrixOf
+unfolding matrixOf hasBit
 returns-2 c = rw (c .before .before .before .enum-told .given .1, c .before .enum-told3 .given .1) (c .points-line .ensures)
 
 returns-3 : tie.Need-returns-3
-unfolding matrixOf
+unfolding matrixOf hasBit
 returns-3 c = rw (c .before .before .before .enum-told .given .1, c .before .enum-told4 .given .1) (c .points-region .ensures)
 
 returns-4 : tie.Need-returns-4
-unfolding matrixOf
+unfolding matrixOf hasBit
 returns-4 c = rw (c .before .before .enum-told5 .given .1, c .enum-told6 .given .1)
 
 returns-5 : tie.Need-returns-5
-unfolding matrixOf
+unfolding matrixOf hasBit
 returns-5 c = rw (c .before .before .before .enum-told5 .given .1, c .before .enum-told7 .given .1) (c .line-line .ensures)
 
 returns-6 : tie.Need-returns-6
-unfolding matrixOf
+unfolding matrixOf hasBit
 returns-6 c = rw (c .before .before .before .enum-told5 .given .1, c .before .enum-told8 .given .1) (c .line-region .ensures)
 
 returns-7 : tie.Need-returns-7
-unfolding matrixOf
+unfolding matrixOf hasBit
 returns-7 c = rw (c .before .before .enum-told9 .given .1, c .enum-told10 .given .1)
 
 returns-8 : tie.Need-returns-8
-unfolding matrixOf
+unfolding matrixOf hasBit
 returns-8 c = rw (c .before .before .enum-told9 .given .1, c .enum-told11 .given .1)
 
 returns-9 : tie.Need-returns-9
-unfolding matrixOf
+unfolding matrixOf hasBit
 returns-9 c = rw (c .before .before .before .enum-told9 .given .1, c .before .enum-told12 .given .1) (c .region-region .ensures)
 
 pub matrix-spec : {M : Type 1} → statement M

@@ -1,4 +1,5 @@
 -- `cells::points_line` meets its contract.
+use Rattle.features.specs.Flags.{hasBit}
 use Rattle.cells.specs.Matrix.{matrixOf}
 use borrow.Author.Needs.{needs}
 use Rattle.cells.proofs.points_line.Statement.{statement}
@@ -20,7 +21,7 @@ has-requires-4 : tie.Need-has-requires-4
 has-requires-4 c κs = search needs
 
 returns : tie.Need-returns
-unfolding matrixOf
+unfolding matrixOf hasBit
 returns c = cc
 
 pub points-line-spec : {M : Type 1} → statement M

@@ -1,4 +1,5 @@
 -- `cells::points_points` meets its contract.
+use Rattle.features.specs.Flags.{hasBit}
 use Rattle.cells.specs.Matrix.{matrixOf}
 use borrow.Author.Needs.{needs}
 use Rattle.cells.proofs.points_points.Statement.{statement}
@@ -14,7 +15,7 @@ has-requires-3 : tie.Need-has-requires-3
 has-requires-3 c κs = search needs
 
 returns : tie.Need-returns
-unfolding matrixOf
+unfolding matrixOf hasBit
 returns c = cc
 
 pub points-points-spec : {M : Type 1} → statement M

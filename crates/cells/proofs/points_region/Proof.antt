@@ -1,4 +1,5 @@
 -- `cells::points_region` meets its contract.
+use Rattle.features.specs.Flags.{hasBit}
 use Rattle.cells.specs.Matrix.{matrixOf}
 use borrow.Author.Needs.{needs}
 use Rattle.cells.proofs.points_region.Statement.{statement}
@@ -17,7 +18,7 @@ has-requires-3 : tie.Need-has-requires-3
 has-requires-3 c κs = search needs
 
 returns : tie.Need-returns
-unfolding matrixOf
+unfolding matrixOf hasBit
 returns c = cc
 
 pub points-region-spec : {M : Type 1} → statement M

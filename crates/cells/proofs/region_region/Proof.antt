@@ -1,4 +1,5 @@
 -- `cells::region_region` meets its contract.
+use Rattle.features.specs.Flags.{hasBit}
 use Rattle.cells.specs.Matrix.{matrixOf}
 use borrow.Author.Needs.{needs}
 use Rattle.cells.proofs.region_region.Statement.{statement}
@@ -32,7 +33,7 @@ both-boundaries-requires : tie.Need-both-boundaries-requires
 both-boundaries-requires c κs = search needs
 
 returns : tie.Need-returns
-unfolding matrixOf
+unfolding matrixOf hasBit
 returns c = cc
 
 pub region-region-spec : {M : Type 1} → statement M
