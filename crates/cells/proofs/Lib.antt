@@ -7,3 +7,4 @@ pub mod PointsRegion
 pub mod LineLine
 pub mod LineRegion
 pub mod RegionRegion
+pub mod Theorem
