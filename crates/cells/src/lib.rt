@@ -1,10 +1,28 @@
-// The nine-intersection matrix of two objects, from their types, vectors and emptiness alone.
+// The cells question: the nine-intersection matrix of two objects, from their types, vectors and emptiness alone.
 use scene::Shape;
 ghost use mathlib.Core.Path.{_≡_};
 ghost use mathlib.Core.Bool.{_||_, not, true};
 ghost use Prim.Native.Nat.{_/_, _<_};
 ghost use Rattle.whole.specs.Count.{odd};
 ghost use Rattle.cells.specs.Matrix.{matrixOf};
+
+// A row of the matrix: interior, boundary and exterior of G.
+pub struct Row {
+    pub c: [bool; 3],
+}
+
+// What the bytes of a scene say: number 0 and what `explore` prints of it, or the refusal's number and place and nothing else.
+pub struct Explored {
+    pub number: u8,
+    pub place: usize,
+    pub f: u8,
+    pub g: u8,
+    pub v: u16,
+    pub w: u16,
+    pub interior: Row,
+    pub boundary: Row,
+    pub exterior: Row,
+}
 
 // Is the bit with this place value set in a vector?
 fn has(v: u16, unit: u16) -> bool
