@@ -1,0 +1,3 @@
+-- What the proofs of the line share.
+pub mod Decimal
+pub mod Written
