@@ -6,7 +6,8 @@ use mathlib.Core.List.{List, [], _∷_, _++_}
 use native.Mathlib.Nat.{pow-suc}
 use native.Mathlib.Omega.{arith}
 use lib.Dec.{ltb}
-use lib.ListN.{length, getD, length-append}
+use lib.ListN.{length, getD, length-append, List·getD-append}
+use lib.Seq.{getD-append-seam}
 use borrow.Author.Tests.{ltb-true, ltb-false, lt-ltb, le-ltb}
 use Rattle.report.specs.Line.{digit, digits, decimal, readAfter, Spells}
 
@@ -73,18 +74,37 @@ each-more [] c h d (suc i) e = absurd (omega arith)
 each-more (x ∷ l) c h d zero _ = h 0 (omega arith)
 each-more (x ∷ l) c h d (suc i) e = each-more l c (λ j k. h (suc j) (omega arith)) d i (omega arith)
 
+spells-one : (n : ℕ) → n < 10 → Spells n (digit n ∷ [])
+spells-one n h = record {
+  value = omega arith;
+  each = each-more [] (digit n) (λ i e. absurd (omega arith)) (omega arith);
+  some = omega arith;
+  lead = λ e. absurd (omega arith);
+}
+
+read-least : (a : ℕ) (l : List ℕ) → a ≤ readAfter a l
+read-least a [] = omega arith
+read-least a (c ∷ l) = omega (arith, read-least (a * 10 + (c - 48)) l)
+
+-- what spells a number from 1 on begins with no "0"
+leads : (n : ℕ) (l : List ℕ) → 0 < n → Spells n l → 48 < getD l 0 0
+leads n [] h s = absurd (omega (arith, s .some))
+leads n (c ∷ []) h s = omega (arith, s .value)
+leads n (c ∷ d ∷ l) h s = s .lead (omega arith)
+
 lead-more : (l : List ℕ) (c : ℕ) → 48 < getD l 0 0 → 48 < getD (l ++ c ∷ []) 0 0
 lead-more [] c h = absurd (omega arith)
 lead-more (x ∷ l) c h = h
 
-spells-one : (n : ℕ) → n < 10 → Spells n (digit n ∷ [])
-spells-one n h = record { value = omega arith; each = each-more [] (digit n) (λ i e. absurd (omega arith)) (omega arith); lead = λ e. omega arith }
+read-more : (l : List ℕ) (c : ℕ) → readAfter 0 (l ++ c ∷ []) ≡ readAfter 0 l * 10 + (c - 48)
+read-more l c = read-append 0 l (c ∷ [])
 
 spells-more : (n : ℕ) → 10 ≤ n → (l : List ℕ) → Spells (n / 10) l → Spells n (l ++ digit (n % 10) ∷ [])
 spells-more n h l s = record {
-  value = read-append 0 l (digit (n % 10) ∷ []) ∙ ap (λ (a : ℕ). a * 10 + (digit (n % 10) - 48)) (s .value) ∙ omega arith;
+  value = omega (arith, read-more l (digit (n % 10)), s .value);
   each = each-more l (digit (n % 10)) (s .each) (omega arith);
-  lead = λ e. lead-more l (digit (n % 10)) (s .lead (omega arith));
+  some = omega (arith, length-append l (digit (n % 10) ∷ []));
+  lead = λ e. lead-more l (digit (n % 10)) (leads (n / 10) l (omega arith) s);
 }
 
 pub decimal-spells : (n : ℕ) → Spells n (decimal n)
@@ -93,6 +113,61 @@ decimal-spells =
     (λ n. Spells n (decimal n))
     (λ n h. rw (decimal-one n h) (spells-one n h))
     (λ n h s. rw (decimal-more n h) (spells-more n h (decimal (n / 10)) s))
+
+-- ---- and nothing else does
+
+-- a list that is not empty ends in some byte
+last : (x : ℕ) (l : List ℕ) → (front : List ℕ) × (c : ℕ) × (x ∷ l ≡ front ++ c ∷ [])
+last x [] = ([], x, refl)
+last x (y ∷ l) = let (front, c, e) = last y l in (x ∷ front, c, ap (λ (m : List ℕ). x ∷ m) e)
+
+module _ (n : ℕ) (front : List ℕ) (c : ℕ) (s : Spells n (front ++ c ∷ [])) where
+  last-is-digit : IsDigit c
+  last-is-digit = rw getD-append-seam at (s .each (length front) (omega (arith, length-append front (c ∷ []))))
+
+  value-by-last : n ≡ readAfter 0 front * 10 + (c - 48)
+  value-by-last = sym (s .value) ∙ read-more front c
+
+module _ (n y : ℕ) (ys : List ℕ) (c : ℕ) (s : Spells n ((y ∷ ys) ++ c ∷ [])) where
+  front-leads : 48 < y
+  front-leads = s .lead (omega (arith, length-append ys (c ∷ [])))
+
+  from-ten : 10 ≤ n
+  from-ten = omega (arith, front-leads, value-by-last n (y ∷ ys) c s, read-least (0 * 10 + (y - 48)) ys)
+
+  front-spells : Spells (n / 10) (y ∷ ys)
+  front-spells = record {
+    value = omega (arith, value-by-last n (y ∷ ys) c s, last-is-digit n (y ∷ ys) c s);
+    each = λ i h. rw (List·getD-append (y ∷ ys) (c ∷ []) 0 i h) at (s .each i (omega (arith, length-append (y ∷ ys) (c ∷ []))));
+    some = omega arith;
+    lead = λ _. front-leads;
+  }
+
+ends-so : (n : ℕ) → (10 ≤ n → (m : List ℕ) → Spells (n / 10) m → m ≡ decimal (n / 10))
+    → (front : List ℕ) (c : ℕ) → Spells n (front ++ c ∷ []) → front ++ c ∷ [] ≡ decimal n
+ends-so n shorter [] c s =
+    let d = last-is-digit n [] c s in
+    let v = value-by-last n [] c s in
+    ap (λ (k : ℕ). k ∷ []) (omega arith) ∙ sym (decimal-one n (omega arith))
+ends-so n shorter (y ∷ ys) c s =
+    let h = from-ten n y ys c s in
+    let f = front-spells n y ys c s in
+    let d = last-is-digit n (y ∷ ys) c s in
+    let v = value-by-last n (y ∷ ys) c s in
+    ap (λ (m : List ℕ). m ++ c ∷ []) (shorter h (y ∷ ys) f)
+    ∙ ap (λ (k : ℕ). decimal (n / 10) ++ k ∷ []) (omega (arith, f .value))
+    ∙ sym (decimal-more n h)
+
+only : (n : ℕ) → (10 ≤ n → (m : List ℕ) → Spells (n / 10) m → m ≡ decimal (n / 10)) → (l : List ℕ) → Spells n l → l ≡ decimal n
+only n shorter [] s = absurd (omega (arith, s .some))
+only n shorter (x ∷ l) s = let (front, c, e) = last x l in e ∙ ends-so n shorter front c (rw e at s)
+
+pub decimal-only : (n : ℕ) (l : List ℕ) → Spells n l → l ≡ decimal n
+decimal-only =
+    by-digits
+    (λ n. (l : List ℕ) → Spells n l → l ≡ decimal n)
+    (λ n h. only n (λ h₁₀. absurd (omega arith)))
+    (λ n h shorter. only n (λ _. shorter))
 
 -- ---- how long it is
 

@@ -7,7 +7,7 @@ use native.Mathlib.Numerals.{add-one}
 use native.Mathlib.Omega.{arith}
 use lib.ListN.{length, getD, take, drop, set, length-append, length-drop, take-append-drop}
 use lib.Seq.{length-take-le, take-at, take-suc, drop-append-add, drop-drop, set-split}
-use Rattle.report.specs.Line.{Written}
+use Rattle.report.specs.Line.{Written, Lent}
 
 pub written-byte : (l : List ℕ) (at b : ℕ) → at < length l → Written l at (b ∷ []) (at + 1) (set l at b)
 written-byte l at b h = record { ends = refl; within = omega arith; holds = rw (add-one, set-split l at b h) }
@@ -61,11 +61,19 @@ pub copied-more : {l : List ℕ} {at : ℕ} {m : List ℕ} (s : List ℕ) (i : �
 copied-more {l} {at} {m} s i p h room =
     rw (add-one i, take-suc s i 0 h, ← add-one i, ← add-assoc at i 1) (followed p (written-byte m (at + i) (getD s i 0) (omega (arith, written-length p))))
 
--- ---- a list of three
+-- ---- from the start of the buffer
 
-pub three : {A : Type 0} (d : A) (l : List A) → length l ≡ 3 → l ≡ getD l 0 d ∷ getD l 1 d ∷ getD l 2 d ∷ []
-three d [] h = absurd (omega arith)
-three d (a ∷ []) h = absurd (omega arith)
-three d (a ∷ b ∷ []) h = absurd (omega arith)
-three d (a ∷ b ∷ c ∷ []) h = refl
-three d (a ∷ b ∷ c ∷ e ∷ l) h = absurd (omega arith)
+pub start-length : {l xs : List ℕ} {k : ℕ} {m : List ℕ} → Written l 0 xs k m → k ≡ length xs
+start-length p = omega (arith, p .ends)
+
+pub start-holds : {l xs : List ℕ} {k : ℕ} {m : List ℕ} → Written l 0 xs k m → take k m ≡ xs
+start-holds p = front-kept p
+
+pub lent-none : {line l : List ℕ} → length l < length line → Lent line l 0 l
+lent-none h = record { with-room = λ room. absurd (omega arith); without = λ _. (refl, refl) }
+
+pub lent-all : {l line : List ℕ} {k : ℕ} {m : List ℕ} → Written l 0 line k m → Lent line l k m
+lent-all {l} {line} p = record {
+  with-room = λ _. (start-length p, p .holds ∙ ap (λ (j : ℕ). line ++ drop j l) (start-length p));
+  without = λ h. absurd (omega (arith, p .within, start-length p));
+}

@@ -27,12 +27,13 @@ abbrev pub readAfter : ℕ → List ℕ → ℕ
 readAfter a [] = a
 readAfter a (c ∷ cs) = readAfter (a * 10 + (c - 48)) cs
 
--- what makes a list the decimal writing of n: it spells n, all of it is digits, and no "0" leads but that of 0 itself.
--- proofs/Decimal.antt: `decimal n` is that list, for every n
+-- What makes a list the decimal writing of n: it spells n, it is digits and not empty, and "0" leads only where it stands alone.
+-- `decimal n` is such a list, and the only one (proofs/Decimal.antt).
 pub record Spells (n : ℕ) (l : List ℕ) : Type 0 where
   pub value : readAfter 0 l ≡ n
   pub each : (i : ℕ) → i < length l → (48 ≤ getD l i 0) × (getD l i 0 ≤ 57)
-  pub lead : 0 < n → 48 < getD l 0 0
+  pub some : 0 < length l
+  pub lead : 1 < length l → 48 < getD l 0 0
 
 -- ---- the line
 

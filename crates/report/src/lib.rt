@@ -61,8 +61,7 @@ fn write_cell(out: &mut [u8], at: usize, cell: bool) -> usize
 }
 
 fn write_row(out: &mut [u8], at: usize, row: [bool; 3]) -> usize
-    requires { ⌜ at + 3 ≤ length (now out) ⌝ }
-    ensures { λ r. ⌜ r ≡ at + 3 ⌝ }
+    requires { ⌜ at + length (map bit row) ≤ length (now out) ⌝ }
     ensures { λ r. ⌜ Written (now (out .entry)) at (map bit row) r (now (out .exit)) ⌝ }
 {
     let second = write_cell(out, at, row[0]);
@@ -71,8 +70,7 @@ fn write_row(out: &mut [u8], at: usize, row: [bool; 3]) -> usize
 }
 
 fn write_cells(out: &mut [u8], at: usize, cells: [[bool; 3]; 3]) -> usize
-    requires { ⌜ at + 9 ≤ length (now out) ⌝ }
-    ensures { λ r. ⌜ r ≡ at + 9 ⌝ }
+    requires { ⌜ at + length (cellBytes cells) ≤ length (now out) ⌝ }
     ensures { λ r. ⌜ Written (now (out .entry)) at (cellBytes cells) r (now (out .exit)) ⌝ }
 {
     let boundary = write_row(out, at, cells[0]);
@@ -81,7 +79,7 @@ fn write_cells(out: &mut [u8], at: usize, cells: [[bool; 3]; 3]) -> usize
 }
 
 fn write_ok(out: &mut [u8], f: u8, g: u8, v: u16, w: u16, cells: [[bool; 3]; 3]) -> usize
-    requires { ⌜ 33 ≤ length (now out) ⌝ }
+    requires { ⌜ length (okLine f g v w cells) ≤ length (now out) ⌝ }
     ensures { λ r. ⌜ Written (now (out .entry)) 0 (okLine f g v w cells) r (now (out .exit)) ⌝ }
 {
     let first = write_bytes(out, 0, b"ok");
@@ -95,7 +93,7 @@ fn write_ok(out: &mut [u8], f: u8, g: u8, v: u16, w: u16, cells: [[bool; 3]; 3])
 }
 
 fn write_no(out: &mut [u8], number: u8, place: usize) -> usize
-    requires { ⌜ 33 ≤ length (now out) ⌝ }
+    requires { ⌜ length (noLine number place) ≤ length (now out) ⌝ }
     ensures { λ r. ⌜ Written (now (out .entry)) 0 (noLine number place) r (now (out .exit)) ⌝ }
 {
     let first = write_bytes(out, 0, b"no");
@@ -104,7 +102,27 @@ fn write_no(out: &mut [u8], number: u8, place: usize) -> usize
     write_byte(out, end, b'\n')
 }
 
-// The line of a whole answer.
+fn write_answer(
+    out: &mut [u8],
+    number: u8,
+    place: usize,
+    f: u8,
+    g: u8,
+    v: u16,
+    w: u16,
+    cells: [[bool; 3]; 3],
+) -> usize
+    requires { ⌜ length (lineOf number place f g v w cells) ≤ length (now out) ⌝ }
+    ensures { λ r. ⌜ Written (now (out .entry)) 0 (lineOf number place f g v w cells) r (now (out .exit)) ⌝ }
+{
+    if number == 0 {
+        write_ok(out, f, g, v, w, cells)
+    } else {
+        write_no(out, number, place)
+    }
+}
+
+// Writes the whole line and answers its length; or, if there is no room for it, writes nothing and answers 0.
 pub fn write_line(
     out: &mut [u8],
     number: u8,
@@ -116,13 +134,10 @@ pub fn write_line(
     cells: [[bool; 3]; 3],
 ) -> usize
     ensures { λ r. ⌜ Lent (lineOf number place f g v w cells) (now (out .entry)) r (now (out .exit)) ⌝ }
+    ensures { λ _. do ⌜ length (lineOf number place f g v w cells) ≤ (← ⟦LINE_LIMIT⟧ .entry) ⌝ }
 {
     let mut line = [0u8; LINE_LIMIT];
-    let length = if number == 0 {
-        write_ok(&mut line, f, g, v, w, cells)
-    } else {
-        write_no(&mut line, number, place)
-    };
+    let length = write_answer(&mut line, number, place, f, g, v, w, cells);
     if out.len() < length {
         return 0;
     }

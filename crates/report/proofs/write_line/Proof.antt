@@ -1,60 +1,56 @@
+-- `report::write_line` meets its contract.
 use borrow.Author.Needs.{needs}
+use Prim.Native.Nat.{_≤_}
+use native.Mathlib.Omega.{arith}
+use lib.ListN.{length}
+use Rattle.report.specs.Line.{lineOf}
+use Rattle.report.proofs.Written.{start-length, start-holds, lent-none, lent-all}
+use Rattle.report.proofs.Cells.{nine}
+use Rattle.report.proofs.Line.{line-limit}
 use Rattle.report.proofs.write_line.Statement.{statement}
 use Rattle.report.proofs.write_line.Tie as tie
-use Rattle.report.proofs.write_line.Reads as reads
-use Rattle.report.proofs.write_line.Lts as lts
-use Rattle.report.proofs.write_bytes.Reads as write-bytes-reads
-use Rattle.report.proofs.write_no.Reads as write-no-reads
-use Rattle.report.proofs.write_ok.Reads as write-ok-reads
 
--- src/lib.rt:122:18
-slice-aggregate-write-ok : tie.Need-slice-aggregate-write-ok
-slice-aggregate-write-ok c = search needs
+short : (c : tie.Start) → length (lineOf (c .args .number) (c .args .place) (c .args .f) (c .args .g) (c .args .v) (c .args .w) (c .args .cells)) ≤ 33
+short c =
+    line-limit _ _ _ _ _ _ _
+    (c .fits .number .fits)
+    (c .fits .place .fits)
+    (c .fits .f .fits)
+    (c .fits .g .fits)
+    (c .fits .v .fits)
+    (c .fits .w .fits)
+    (nine (c .args .cells) _ (c .good .1 .1 .1 .1 .1 .1 .1 .0))
 
--- src/lib.rt:122:9
-write-ok-requires : tie.Need-write-ok-requires
-write-ok-requires c κs = search needs
+slice-aggregate-write-answer : tie.Need-slice-aggregate-write-answer
+slice-aggregate-write-answer c = search needs
 
--- src/lib.rt:124:18
-slice-aggregate-write-no : tie.Need-slice-aggregate-write-no
-slice-aggregate-write-no c = search needs
+write-answer-requires : tie.Need-write-answer-requires
+write-answer-requires c κs = short (c .before .before)
 
--- src/lib.rt:124:9
-write-no-requires : tie.Need-write-no-requires
-write-no-requires c κs = search needs
-
--- src/lib.rt:127:9
 returns : tie.Need-returns
-returns c = ?
+returns c = (lent-none (omega (arith, start-length (c .before .before .write-answer .ensures))), short (c .before .before .before .before .before))
 
--- src/lib.rt:129:25
 array-share-prefix-line : tie.Need-array-share-prefix-line
-array-share-prefix-line c = ?
+array-share-prefix-line c = search needs
 
--- src/lib.rt:129:25
 slice-aggregate-write-bytes : tie.Need-slice-aggregate-write-bytes
-slice-aggregate-write-bytes c = ?
+slice-aggregate-write-bytes c = rw (start-holds (c .before .before .before .before .write-answer .ensures)) (start-length (c .before .before .before .before .write-answer .ensures))
 
--- src/lib.rt:129:5
 write-bytes-requires : tie.Need-write-bytes-requires
-write-bytes-requires c κs = ?
+write-bytes-requires c κs = rw (start-holds (c .before .before .before .before .write-answer .ensures)) (omega (arith, start-length (c .before .before .before .before .write-answer .ensures)))
 
--- src/lib.rt:108:1
 same-length : tie.Need-same-length
 same-length c = search needs
 
--- src/lib.rt:108:1
 returns-2 : tie.Need-returns-2
-returns-2 c = ?
+returns-2 c = (lent-all (rw (start-holds (c .before .before .before .before .before .before .before .write-answer .ensures)) at (c .before .before .write-bytes .ensures)), short (c .before .before .before .before .before .before .before .before .before .before))
 
 pub write-line-spec : {M : Type 1} → statement M
 write-line-spec =
     tie.close
     (tie.spec
-    slice-aggregate-write-ok
-    write-ok-requires
-    slice-aggregate-write-no
-    write-no-requires
+    slice-aggregate-write-answer
+    write-answer-requires
     returns
     array-share-prefix-line
     slice-aggregate-write-bytes

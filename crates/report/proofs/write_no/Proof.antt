@@ -1,39 +1,40 @@
+-- `report::write_no` meets its contract.
 use borrow.Author.Needs.{needs}
+use Prim.Native.Nat.{_+_, _≤_}
+use native.Mathlib.Omega.{arith}
+use lib.ListN.{length}
+use denote.Ref.{now}
+use Rattle.report.specs.Line.{decimal, noLine}
+use Rattle.report.proofs.Written.{followed}
+use Rattle.report.proofs.Line.{no-length}
 use Rattle.report.proofs.write_no.Statement.{statement}
 use Rattle.report.proofs.write_no.Tie as tie
-use Rattle.report.proofs.write_no.Reads as reads
-use Rattle.report.proofs.write_no.Lts as lts
-use Rattle.report.proofs.write_byte.Reads as write-byte-reads
-use Rattle.report.proofs.write_bytes.Reads as write-bytes-reads
-use Rattle.report.proofs.write_field.Reads as write-field-reads
 
--- src/lib.rt:101:37
+room : (c : tie.Start) → length (decimal (c .args .number)) + length (decimal (c .args .place)) + 5 ≤ length (now (c .args .out))
+room c = omega (arith, no-length (c .args .number) (c .args .place), c .pre)
+
 slice-aggregate-write-bytes : tie.Need-slice-aggregate-write-bytes
 slice-aggregate-write-bytes c = search needs
 
--- src/lib.rt:101:9
 write-bytes-requires : tie.Need-write-bytes-requires
-write-bytes-requires c κs = search needs
+write-bytes-requires c κs = omega (arith, room (c .before .before .before))
 
--- src/lib.rt:102:9
 write-field-requires : tie.Need-write-field-requires
-write-field-requires c κs = ?
+write-field-requires c κs = omega (arith, room (c .before .before .before .before .before .before .before))
 
--- src/lib.rt:103:9
 write-field-requires-2 : tie.Need-write-field-requires-2
-write-field-requires-2 c κs = ?
+write-field-requires-2 c κs = omega (arith, room (c .before .before .before .before .before .before .before .before .before .before .before))
 
--- src/lib.rt:104:5
 write-byte-requires : tie.Need-write-byte-requires
-write-byte-requires c κs = ?
+write-byte-requires c κs = omega (arith, room (c .before .before .before .before .before .before .before .before .before .before .before .before .before .before .before))
 
--- src/lib.rt:97:1
 same-length : tie.Need-same-length
 same-length c = search needs
 
--- src/lib.rt:97:1
 returns : tie.Need-returns
-returns c = ?
+unfolding noLine
+returns c =
+    followed (c .before .before .before .before .before .before .before .before .before .before .before .before .before .before .write-bytes .ensures) (followed (c .before .before .before .before .before .before .before .before .before .before .write-field .ensures) (followed (c .before .before .before .before .before .before .write-field2 .ensures) (c .before .before .write-byte .ensures)))
 
 pub write-no-spec : {M : Type 1} → statement M
 write-no-spec =

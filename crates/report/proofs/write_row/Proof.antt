@@ -1,30 +1,36 @@
 -- `report::write_row` meets its contract.
 use borrow.Author.Needs.{needs}
-use mathlib.Core.Bool.{false}
 use mathlib.Core.Path.{_≡_}
-use lib.ListN.{length}
+use mathlib.Core.Bool.{false}
+use native.Mathlib.Omega.{arith}
+use lib.ListN.{length, length-map}
 use borrow.Kind.Array.{eBool, good-length}
-use Rattle.report.proofs.Written.{followed, three}
+use Rattle.report.specs.Line.{bit}
+use Rattle.report.proofs.Written.{followed}
+use Rattle.report.proofs.Cells.{three}
 use Rattle.report.proofs.write_row.Statement.{statement}
 use Rattle.report.proofs.write_row.Tie as tie
+
+whole : (c : tie.Start) → length (c .args .t3) ≡ 3
+whole c = good-length eBool 3 (c .args .t3) _ (c .good .1 .1 .0)
 
 array-read-write-cell : tie.Need-array-read-write-cell
 array-read-write-cell c = search needs
 
 write-cell-requires : tie.Need-write-cell-requires
-write-cell-requires c κs = search needs
+write-cell-requires c κs = omega (arith, whole (c .before .before), length-map (c .before .before .args .t3) bit)
 
 array-read-write-cell-2 : tie.Need-array-read-write-cell-2
 array-read-write-cell-2 c = search needs
 
 write-cell-requires-2 : tie.Need-write-cell-requires-2
-write-cell-requires-2 c κs = search needs
+write-cell-requires-2 c κs = omega (arith, whole (c .before .before .before .before .before .before), length-map (c .before .before .before .before .before .before .args .t3) bit)
 
 array-read-write-cell-3 : tie.Need-array-read-write-cell-3
 array-read-write-cell-3 c = search needs
 
 write-cell-requires-3 : tie.Need-write-cell-requires-3
-write-cell-requires-3 c κs = search needs
+write-cell-requires-3 c κs = omega (arith, whole (c .before .before .before .before .before .before .before .before .before .before), length-map (c .before .before .before .before .before .before .before .before .before .before .args .t3) bit)
 
 same-length : tie.Need-same-length
 same-length c = search needs
@@ -35,11 +41,8 @@ returns c =
     let second = c .before .before .before .before .before .before in
     let third = c .before .before in
     let start = first .before .before .before in
-    let row = start .args .t3 in
-    let whole : length row ≡ 3 = good-length eBool 3 row _ (start .good .1 .1 .0) in (
-      search needs,
-      rw (three false row whole) (followed (first .write-cell .ensures) (followed (second .write-cell2 .ensures) (third .write-cell3 .ensures))),
-    )
+    rw (three false (start .args .t3) (whole start))
+    (followed (first .write-cell .ensures) (followed (second .write-cell2 .ensures) (third .write-cell3 .ensures)))
 
 pub write-row-spec : {M : Type 1} → statement M
 write-row-spec =
