@@ -38,7 +38,10 @@ enough (suc j) (suc k) n hj hk =
     below-ten
     n
     (λ h. digits-one (suc j) n h ∙ sym (digits-one (suc k) n h))
-    (λ h. digits-more j n h ∙ ap (λ (l : List ℕ). l ++ digit (n % 10) ∷ []) (enough j k (n / 10) (omega arith) (omega arith)) ∙ sym (digits-more k n h))
+    (λ h.
+    digits-more j n h
+    ∙ ap (λ (l : List ℕ). l ++ digit (n % 10) ∷ []) (enough j k (n / 10) (omega arith) (omega arith))
+    ∙ sym (digits-more k n h))
 
 pub decimal-one : (n : ℕ) → n < 10 → decimal n ≡ digit n ∷ []
 unfolding decimal
@@ -48,7 +51,8 @@ pub decimal-more : (n : ℕ) → 10 ≤ n → decimal n ≡ decimal (n / 10) ++ 
 unfolding decimal
 decimal-more zero h = absurd (omega arith)
 decimal-more (suc n) h =
-    digits-more n (suc n) h ∙ ap (λ (l : List ℕ). l ++ digit (suc n % 10) ∷ []) (enough n (suc n / 10) (suc n / 10) (omega arith) (omega arith))
+    digits-more n (suc n) h
+    ∙ ap (λ (l : List ℕ). l ++ digit (suc n % 10) ∷ []) (enough n (suc n / 10) (suc n / 10) (omega arith) (omega arith))
 
 -- what holds below ten, and of a number if of all its digits but the last, holds of every number
 pub by-digits : (P : ℕ → Type 0) → ((n : ℕ) → n < 10 → P n) → ((n : ℕ) → 10 ≤ n → P (n / 10) → P n) → (n : ℕ) → P n

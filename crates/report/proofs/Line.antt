@@ -23,10 +23,15 @@ pub no-length : (number place : ℕ) → length (noLine number place) ≡ length
 unfolding noLine
 no-length number place = simp length-append (omega arith)
 
-pub line-limit : (number place f g v w : ℕ) (cells : List (List Bool)) → number < 2 ^ 8 → place < 2 ^ 64 → f < 2 ^ 8 → g < 2 ^ 8 → v < 2 ^ 16 → w < 2 ^ 16
+pub line-limit : (number place f g v w : ℕ) (cells : List (List Bool))
+    → number < 2 ^ 8 → place < 2 ^ 64 → f < 2 ^ 8 → g < 2 ^ 8 → v < 2 ^ 16 → w < 2 ^ 16
     → length (cellBytes cells) ≡ 9 → length (lineOf number place f g v w cells) ≤ 33
 unfolding lineOf
 line-limit zero place f g v w cells _ _ hf hg hv hw nine =
-    omega (arith, ok-length f g v w cells, decimal-length 2 f (omega arith), decimal-length 2 g (omega arith), decimal-length 4 v (omega arith), decimal-length 4 w (omega arith))
+    let df = decimal-length 2 f (omega arith) in
+    let dg = decimal-length 2 g (omega arith) in
+    let dv = decimal-length 4 v (omega arith) in
+    let dw = decimal-length 4 w (omega arith) in
+    omega (arith, ok-length f g v w cells)
 line-limit (suc n) place f g v w cells hn hp _ _ _ _ _ =
     omega (arith, no-length (suc n) place, decimal-length 2 (suc n) (omega arith), decimal-length 19 place (omega arith))

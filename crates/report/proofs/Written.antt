@@ -1,12 +1,15 @@
 -- Laws of writing into a lent buffer: one byte, and one piece after another.
 use Prim.Native.Nat.{ℕ, zero, suc, _+_, _≤_, _<_}
 use mathlib.Core.Path.{_≡_, refl, sym, ap, _∙_}
+use mathlib.Core.Bool.{Bool, true, false}
 use mathlib.Core.List.{List, [], _∷_, _++_, append-assoc}
 use native.Mathlib.Nat.{add-zero, add-assoc}
 use native.Mathlib.Numerals.{add-one}
 use native.Mathlib.Omega.{arith}
 use lib.ListN.{length, getD, take, drop, set, length-append, length-drop, take-append-drop}
-use lib.Seq.{length-take-le, take-at, take-suc, drop-append-add, drop-drop, set-split}
+use lib.Dec.{leb}
+use lib.Seq.{length-take-le, take-at, take-append-seam, take-suc, drop-append-add, drop-drop, set-split}
+use borrow.Author.Tests.{leb-true, leb-false}
 use Rattle.report.specs.Line.{Written, Lent}
 
 pub written-byte : (l : List ℕ) (at b : ℕ) → at < length l → Written l at (b ∷ []) (at + 1) (set l at b)
@@ -47,7 +50,8 @@ followed {l} {at} {xs} {k} {m} {ys} {n} {a} p q = record {
   within = omega (arith, q .within, written-length p);
   holds = q .holds
       ∙ ap (λ (f : List ℕ). f ++ (ys ++ drop n m)) (front-kept p)
-      ∙ ap (λ (r : List ℕ). (take at l ++ xs) ++ (ys ++ r)) (ap (λ (j : ℕ). drop j m) (q .ends) ∙ rest-kept p (length ys) ∙ ap (λ (j : ℕ). drop j l) (sym (q .ends)))
+      ∙ ap (λ (r : List ℕ). (take at l ++ xs) ++ (ys ++ r))
+      (ap (λ (j : ℕ). drop j m) (q .ends) ∙ rest-kept p (length ys) ∙ ap (λ (j : ℕ). drop j l) (sym (q .ends)))
       ∙ simp append-assoc;
 }
 
@@ -59,7 +63,8 @@ copied-none l at h = record { ends = refl; within = omega arith; holds = rw (add
 pub copied-more : {l : List ℕ} {at : ℕ} {m : List ℕ} (s : List ℕ) (i : ℕ) → Written l at (take i s) (at + i) m → i < length s → at + i < length l
     → Written l at (take (i + 1) s) (at + (i + 1)) (set m (at + i) (getD s i 0))
 copied-more {l} {at} {m} s i p h room =
-    rw (add-one i, take-suc s i 0 h, ← add-one i, ← add-assoc at i 1) (followed p (written-byte m (at + i) (getD s i 0) (omega (arith, written-length p))))
+    rw (add-one i, take-suc s i 0 h, ← add-one i, ← add-assoc at i 1)
+    (followed p (written-byte m (at + i) (getD s i 0) (omega (arith, written-length p))))
 
 -- ---- from the start of the buffer
 
@@ -77,3 +82,17 @@ lent-all {l} {line} p = record {
   with-room = λ _. (start-length p, p .holds ∙ ap (λ (j : ℕ). line ++ drop j l) (start-length p));
   without = λ h. absurd (omega (arith, p .within, start-length p));
 }
+
+-- ---- what a caller learns
+
+module _ {line l : List ℕ} {r : ℕ} {m : List ℕ} (p : Lent line l r m) where
+  pub lent-within : r ≤ length l
+  lent-within = go (leb (length line) (length l)) refl
+    where
+      go : (b : Bool) → leb (length line) (length l) ≡ b → r ≤ length l
+      go true e = let room = leb-true (length line) (length l) e in omega (arith, p .with-room room .0)
+      go false e = omega (arith, p .without (leb-false (length line) (length l) e) .0)
+
+  -- where there is room, the bytes that were written are the line
+  pub lent-line : length line ≤ length l → take r m ≡ line
+  lent-line room = rw (p .with-room room .0, p .with-room room .1) (take-append-seam line (drop (length line) l))

@@ -1,5 +1,5 @@
--- The one line that answers a scene: document 01, section "The twelve scenes". A line is the list of its bytes, in ASCII.
--- And what it is to write some bytes into a lent buffer.
+-- The one line that answers a scene, document 01's section "The twelve scenes", as the list of its bytes in ASCII; and what it is to write bytes
+-- into a lent buffer.
 use Prim.Native.Nat.{ℕ, zero, suc, _+_, _-_, _*_, _/_, _%_, _≤_, _<_}
 use mathlib.Core.Path.{_≡_}
 use mathlib.Core.Bool.{Bool, true, false}
@@ -9,16 +9,16 @@ use lib.ListN.{length, getD, take, drop}
 
 -- ---- a number in decimal
 
--- the character of a digit, and the digit of a character: "0" is 48
+-- the character of a digit: "0" is 48
 abbrev pub digit : ℕ → ℕ
 digit d = 48 + d
 
--- the digits of a number, the last first taken off; the first argument bounds how many may follow the first digit
+-- the digits of n, of which at most `more` follow the first
 unfoldable pub digits : ℕ → ℕ → List ℕ
 digits zero n = digit n ∷ []
 digits (suc more) n = elim (ltb n 10) [ true ↦ digit n ∷ [] | false ↦ digits more (n / 10) ++ digit (n % 10) ∷ [] ]
 
--- n has fewer digits than n, or one
+-- as many as n never follow the first digit of n, but for 0, which has one digit
 unfoldable pub decimal : ℕ → List ℕ
 decimal n = digits n n
 
@@ -43,12 +43,12 @@ space = 32
 abbrev pub lineFeed : ℕ
 lineFeed = 10
 
--- "ok" and "no"
-abbrev pub ok : List ℕ
-ok = 111 ∷ 107 ∷ []
+-- the words "ok" and "no"
+abbrev pub okWord : List ℕ
+okWord = 111 ∷ 107 ∷ []
 
-abbrev pub no′ : List ℕ
-no′ = 110 ∷ 111 ∷ []
+abbrev pub noWord : List ℕ
+noWord = 110 ∷ 111 ∷ []
 
 -- "Fields are parted by one space .. and a line feed ends the line"
 abbrev pub fields : List ℕ → List (List ℕ) → List ℕ
@@ -64,12 +64,15 @@ abbrev pub cellBytes : List (List Bool) → List ℕ
 cellBytes [] = []
 cellBytes (row ∷ rows) = map bit row ++ cellBytes rows
 
+-- "ok, F's type, G's type, F's vector, G's vector (decimal, all flags), the nine cells"
 unfoldable pub okLine : ℕ → ℕ → ℕ → ℕ → List (List Bool) → List ℕ
-okLine f g v w cells = fields ok (decimal f ∷ decimal g ∷ decimal v ∷ decimal w ∷ cellBytes cells ∷ [])
+okLine f g v w cells = fields okWord (decimal f ∷ decimal g ∷ decimal v ∷ decimal w ∷ cellBytes cells ∷ [])
 
+-- "or no, number, place"
 unfoldable pub noLine : ℕ → ℕ → List ℕ
-noLine number place = fields no′ (decimal number ∷ decimal place ∷ [])
+noLine number place = fields noWord (decimal number ∷ decimal place ∷ [])
 
+-- the line of a whole answer, whose number is 0 where the scene is taken
 unfoldable pub lineOf : ℕ → ℕ → ℕ → ℕ → ℕ → ℕ → List (List Bool) → List ℕ
 lineOf zero place f g v w cells = okLine f g v w cells
 lineOf (suc n) place f g v w cells = noLine (suc n) place
@@ -82,7 +85,7 @@ pub record Written (before : List ℕ) (at : ℕ) (bytes : List ℕ) (next : ℕ
   pub within : next ≤ length before
   pub holds : after ≡ take at before ++ (bytes ++ drop next before)
 
--- with room for the line, its length, and the buffer begins with it, every later byte as it was; without, 0, and the buffer as it was
+-- With room for the line: its length comes back, the buffer begins with it, and every later byte is as it was. Without: 0, and the buffer as it was.
 pub record Lent (line before : List ℕ) (r : ℕ) (after : List ℕ) : Type 0 where
   pub with-room : length line ≤ length before → (r ≡ length line) × (after ≡ line ++ drop (length line) before)
   pub without : length before < length line → (r ≡ 0) × (after ≡ before)

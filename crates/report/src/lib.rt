@@ -1,12 +1,12 @@
 // The one line that answers a scene, written into a lent buffer.
-// Each `write_` function but `write_line` writes at an offset, and answers the offset after what it wrote.
+// Each function but `write_line` writes at an offset, or at 0, and answers the offset after what it wrote.
 ghost use mathlib.Core.Path.{_≡_};
 ghost use mathlib.Core.List.{[], _∷_, map};
 ghost use Prim.Native.Nat.{_+_, _<_, _≤_};
 ghost use lib.ListN.{length};
 ghost use Rattle.report.specs.Line.{space, bit, decimal, cellBytes, okLine, noLine, lineOf, Written, Lent};
 
-// No line is longer.
+// No line is longer than this: a buffer of this length has room for any.
 pub const LINE_LIMIT: usize = 33;
 
 fn write_byte(out: &mut [u8], at: usize, b: u8) -> usize
@@ -29,6 +29,7 @@ fn write_bytes(out: &mut [u8], at: usize, bytes: &[u8]) -> usize
     at + i
 }
 
+// The digits of a number: those of all but the last, then the last.
 pub fn write_decimal(out: &mut [u8], at: usize, n: u64) -> usize
     requires { ⌜ at + length (decimal n) ≤ length (now out) ⌝ }
     ensures { λ r. ⌜ Written (now (out .entry)) at (decimal n) r (now (out .exit)) ⌝ }
@@ -41,6 +42,7 @@ pub fn write_decimal(out: &mut [u8], at: usize, n: u64) -> usize
     }
 }
 
+// A space, then the number.
 fn write_field(out: &mut [u8], at: usize, n: u64) -> usize
     requires { ⌜ at + 1 + length (decimal n) ≤ length (now out) ⌝ }
     ensures { λ r. ⌜ Written (now (out .entry)) at (space ∷ decimal n) r (now (out .exit)) ⌝ }

@@ -82,7 +82,9 @@ write-decimal-write-byte-requires-2 : (t : ℕ) → write-decimal-lts.Need-write
   write-decimal-below t,
   write-decimal.Post,
 ) (write-decimal-at t) write-decimal.Post
-write-decimal-write-byte-requires-2 t c κs = omega (arith, length-more (c .before .before .before .before .before .before .before .args .n) (c .before .before .before .before .before .if1 .left))
+write-decimal-write-byte-requires-2 t c κs =
+    let branch = c .before .before .before .before .before in
+    omega (arith, length-more (branch .before .before .args .n) (branch .if1 .left))
 
 write-decimal-same-length : (t : ℕ) → write-decimal-lts.Need-same-length (
   write-byte-reads.Asked,
@@ -98,7 +100,9 @@ write-decimal-returns : (t : ℕ) → write-decimal-lts.Need-returns (
   write-decimal-below t,
   write-decimal.Post,
 ) (write-decimal-at t) write-decimal.Post
-write-decimal-returns t c = rw (decimal-one (c .before .before .before .before .before .before .args .n) (c .before .before .before .before .if1 .taken)) (c .before .before .write-byte .ensures)
+write-decimal-returns t c =
+    let branch = c .before .before .before .before in
+    rw (decimal-one (branch .before .before .args .n) (branch .if1 .taken)) (c .before .before .write-byte .ensures)
 
 write-decimal-same-length-2 : (t : ℕ) → write-decimal-lts.Need-same-length-2 (
   write-byte-reads.Asked,
@@ -114,7 +118,11 @@ write-decimal-returns-2 : (t : ℕ) → write-decimal-lts.Need-returns-2 (
   write-decimal-below t,
   write-decimal.Post,
 ) (write-decimal-at t) write-decimal.Post
-write-decimal-returns-2 t c = rw (decimal-more (c .before .before .before .before .before .before .before .before .before .before .args .n) (c .before .before .before .before .before .before .before .before .if1 .left)) (followed (c .before .before .before .before .before .before .write-decimal .ensures) (c .before .before .write-byte2 .ensures))
+write-decimal-returns-2 t c =
+    let last = c .before .before in
+    let front = last .before .before .before .before in
+    let branch = front .before .before in
+    rw (decimal-more (branch .before .before .args .n) (branch .if1 .left)) (followed (front .write-decimal .ensures) (last .write-byte2 .ensures))
 
 pub +write-decimal-spec : {M : Type 1} → statement M
 +write-decimal-spec = close μ-write-decimal λ t. write-decimal-lts.spec (

@@ -28,22 +28,33 @@ write-answer-requires : tie.Need-write-answer-requires
 write-answer-requires c κs = short (c .before .before)
 
 returns : tie.Need-returns
-returns c = (lent-none (omega (arith, start-length (c .before .before .write-answer .ensures))), short (c .before .before .before .before .before))
+returns c = (
+  lent-none (omega (arith, start-length (c .before .before .write-answer .ensures))),
+  short (c .before .before .before .before .before),
+)
 
 array-share-prefix-line : tie.Need-array-share-prefix-line
 array-share-prefix-line c = search needs
 
 slice-aggregate-write-bytes : tie.Need-slice-aggregate-write-bytes
-slice-aggregate-write-bytes c = rw (start-holds (c .before .before .before .before .write-answer .ensures)) (start-length (c .before .before .before .before .write-answer .ensures))
+slice-aggregate-write-bytes c =
+    rw (start-holds (c .before .before .before .before .write-answer .ensures))
+    (start-length (c .before .before .before .before .write-answer .ensures))
 
 write-bytes-requires : tie.Need-write-bytes-requires
-write-bytes-requires c κs = rw (start-holds (c .before .before .before .before .write-answer .ensures)) (omega (arith, start-length (c .before .before .before .before .write-answer .ensures)))
+write-bytes-requires c κs =
+    rw (start-holds (c .before .before .before .before .write-answer .ensures))
+    (omega (arith, start-length (c .before .before .before .before .write-answer .ensures)))
 
 same-length : tie.Need-same-length
 same-length c = search needs
 
 returns-2 : tie.Need-returns-2
-returns-2 c = (lent-all (rw (start-holds (c .before .before .before .before .before .before .before .write-answer .ensures)) at (c .before .before .write-bytes .ensures)), short (c .before .before .before .before .before .before .before .before .before .before))
+returns-2 c = (
+  lent-all (rw (start-holds (c .before .before .before .before .before .before .before .write-answer .ensures))
+      at (c .before .before .write-bytes .ensures)),
+  short (c .before .before .before .before .before .before .before .before .before .before),
+)
 
 pub write-line-spec : {M : Type 1} → statement M
 write-line-spec =

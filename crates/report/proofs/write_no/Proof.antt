@@ -26,7 +26,8 @@ write-field-requires-2 : tie.Need-write-field-requires-2
 write-field-requires-2 c κs = omega (arith, room (c .before .before .before .before .before .before .before .before .before .before .before))
 
 write-byte-requires : tie.Need-write-byte-requires
-write-byte-requires c κs = omega (arith, room (c .before .before .before .before .before .before .before .before .before .before .before .before .before .before .before))
+write-byte-requires c κs =
+    omega (arith, room (c .before .before .before .before .before .before .before .before .before .before .before .before .before .before .before))
 
 same-length : tie.Need-same-length
 same-length c = search needs
@@ -34,7 +35,12 @@ same-length c = search needs
 returns : tie.Need-returns
 unfolding noLine
 returns c =
-    followed (c .before .before .before .before .before .before .before .before .before .before .before .before .before .before .write-bytes .ensures) (followed (c .before .before .before .before .before .before .before .before .before .before .write-field .ensures) (followed (c .before .before .before .before .before .before .write-field2 .ensures) (c .before .before .write-byte .ensures)))
+    let feed = c .before .before in
+    let second = feed .before .before .before .before in
+    let first = second .before .before .before .before in
+    let word = first .before .before .before .before in
+    followed (word .write-bytes .ensures) (followed (first .write-field .ensures)
+    (followed (second .write-field2 .ensures) (feed .write-byte .ensures)))
 
 pub write-no-spec : {M : Type 1} → statement M
 write-no-spec =

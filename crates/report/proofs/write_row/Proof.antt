@@ -1,7 +1,8 @@
 -- `report::write_row` meets its contract.
 use borrow.Author.Needs.{needs}
-use mathlib.Core.Path.{_≡_}
+use mathlib.Core.Path.{_≡_, _∙_}
 use mathlib.Core.Bool.{false}
+use mathlib.Core.List.{map}
 use native.Mathlib.Omega.{arith}
 use lib.ListN.{length, length-map}
 use borrow.Kind.Array.{eBool, good-length}
@@ -14,23 +15,26 @@ use Rattle.report.proofs.write_row.Tie as tie
 whole : (c : tie.Start) → length (c .args .t3) ≡ 3
 whole c = good-length eBool 3 (c .args .t3) _ (c .good .1 .1 .0)
 
+three-bytes : (c : tie.Start) → length (map bit (c .args .t3)) ≡ 3
+three-bytes c = length-map (c .args .t3) bit ∙ whole c
+
 array-read-write-cell : tie.Need-array-read-write-cell
 array-read-write-cell c = search needs
 
 write-cell-requires : tie.Need-write-cell-requires
-write-cell-requires c κs = omega (arith, whole (c .before .before), length-map (c .before .before .args .t3) bit)
+write-cell-requires c κs = omega (arith, three-bytes (c .before .before))
 
 array-read-write-cell-2 : tie.Need-array-read-write-cell-2
 array-read-write-cell-2 c = search needs
 
 write-cell-requires-2 : tie.Need-write-cell-requires-2
-write-cell-requires-2 c κs = omega (arith, whole (c .before .before .before .before .before .before), length-map (c .before .before .before .before .before .before .args .t3) bit)
+write-cell-requires-2 c κs = omega (arith, three-bytes (c .before .before .before .before .before .before))
 
 array-read-write-cell-3 : tie.Need-array-read-write-cell-3
 array-read-write-cell-3 c = search needs
 
 write-cell-requires-3 : tie.Need-write-cell-requires-3
-write-cell-requires-3 c κs = omega (arith, whole (c .before .before .before .before .before .before .before .before .before .before), length-map (c .before .before .before .before .before .before .before .before .before .before .args .t3) bit)
+write-cell-requires-3 c κs = omega (arith, three-bytes (c .before .before .before .before .before .before .before .before .before .before))
 
 same-length : tie.Need-same-length
 same-length c = search needs
