@@ -16,7 +16,7 @@ pub fn words(bytes: &[u8], answer: &Answer) -> String {
 
 fn accepted(taken: &Taken) -> String {
     let relation = relation::of(taken);
-    format!("{}: {}\n\n{}\n{}", relation.name, relation.says, table(taken), flag_lists(taken))
+    format!("{}\n  {}\n\n{}\n{}", relation.name, relation.says, table(taken), flag_lists(taken))
 }
 
 fn table(taken: &Taken) -> String {

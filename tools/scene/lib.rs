@@ -16,3 +16,6 @@ pub mod rings;
 pub mod show;
 pub mod text;
 pub mod words;
+
+#[cfg(test)]
+mod tests;

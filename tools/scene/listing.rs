@@ -119,6 +119,10 @@ impl Listing {
         segments
     }
 
+    pub fn empty(&self, object: usize) -> bool {
+        self.object(object).all(|row| row.element.is_none())
+    }
+
     /// The row that a byte belongs to.
     pub fn at(&self, byte: usize) -> Option<usize> {
         self.rows.iter().position(|row| (row.offset..row.offset + row.length()).contains(&byte))

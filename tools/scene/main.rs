@@ -76,6 +76,9 @@ fn run(words: &[String]) -> Result<(), Failure> {
     }
     let options = options(words)?;
     let input = input(&options)?;
+    if command != "make" && looks_like_text(&input) {
+        return Err(wrong_input("this is text, not scene bytes: make them with `scene make`".to_string()));
+    }
     let ask = || answer::ask(&explore(&options), &input);
     let result = match command {
         "make" => made(&input, &options)?,
@@ -96,6 +99,12 @@ fn input(options: &Options) -> Result<Vec<u8>, Failure> {
         }
     };
     Ok(bytes)
+}
+
+/// Scene bytes begin with a T and a byte that is no letter.
+fn looks_like_text(input: &[u8]) -> bool {
+    let letter = |b: &u8| b.is_ascii_graphic() || b.is_ascii_whitespace();
+    input.len() > 2 && input.iter().all(letter)
 }
 
 fn output(options: &Options, bytes: &[u8]) -> Result<(), Failure> {
@@ -132,7 +141,7 @@ fn excerpt(text: &str, fault: &Fault) -> String {
         return String::new();
     };
     let start = (fault.column - 1).saturating_sub(50);
-    let shown: String = line.chars().skip(start).take(72).map(|c| if c.is_whitespace() { ' ' } else { c }).collect();
+    let shown: String = line.chars().skip(start).take(72).map(|c| if c.is_whitespace() || c.is_control() { ' ' } else { c }).collect();
     format!("\n  {}\n  {}^", shown.trim_end(), " ".repeat(fault.column - 1 - start))
 }
 

@@ -67,3 +67,47 @@ fn says(name: &str, kinds: [Kind; 2]) -> &'static str {
         _ => "F and G have interior points in common, and each has more.",
     }
 }
+
+#[cfg(test)]
+mod tests {
+    use super::*;
+    use crate::answer::{parse, Answer};
+
+    fn named(line: &str) -> &'static str {
+        match parse(&format!("{line}\n")) {
+            Some(Answer::Taken(taken)) => of(&taken).name,
+            other => panic!("{other:?}"),
+        }
+    }
+
+    #[test]
+    fn regions() {
+        let lines = ["3 3 3 3 001001111", "3 3 131 3 001011111", "3 3 3 12 111001001", "3 3 12 3 100100111", "3 3 131 12 111011001"];
+        let names = ["disjoint", "meet", "contains", "inside", "covers"];
+        assert_eq!(lines.map(|line| named(&format!("ok {line}"))), names);
+        let lines = ["3 3 140 3 100110111", "3 3 176 0 100010001", "3 3 143 15 111111111"];
+        assert_eq!(lines.map(|line| named(&format!("ok {line}"))), ["covered by", "equal", "overlap"]);
+    }
+
+    #[test]
+    fn lines() {
+        let lines = ["2 2 36 5 001001111", "2 2 44 5 001101111", "2 2 38 5 101001111", "2 2 37 5 101001111", "2 2 17 0 100010001"];
+        assert_eq!(lines.map(|line| named(&format!("ok {line}"))), ["disjoint", "meet", "cross", "overlap", "equal"]);
+        let lines = ["2 2 9 5 100100111", "2 2 25 5 100110111", "2 2 37 2 111001001", "2 2 53 2 111011001"];
+        assert_eq!(lines.map(|line| named(&format!("ok {line}"))), ["inside", "covered by", "contains", "covers"]);
+    }
+
+    #[test]
+    fn unequal_dimensions() {
+        let lines = ["1 3 2 0 010000111", "1 3 6 0 011000111", "1 3 1 0 100000111", "1 3 3 0 110000111", "1 3 7 0 111000111"];
+        assert_eq!(lines.map(|line| named(&format!("ok {line}"))), ["on boundary", "meet", "inside", "covered by", "cross"]);
+        let lines = ["2 3 34 1 010010111", "2 3 100 1 001011111", "2 3 17 1 100100111", "2 3 49 1 100110111", "2 3 93 1 111101111"];
+        assert_eq!(lines.map(|line| named(&format!("ok {line}"))), ["on boundary", "meet", "inside", "covered by", "cross"]);
+    }
+
+    #[test]
+    fn empty_objects() {
+        assert_eq!(named("ok 1 1 0 0 000000001"), "both empty");
+        assert_eq!(named("ok 1 2 0 0 000000101"), "disjoint");
+    }
+}

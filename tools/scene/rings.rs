@@ -22,7 +22,7 @@ pub fn polygons(outline: &[Segment]) -> Option<Vec<Vec<Ring>>> {
 
 /// The smallest outer ring round a hole.
 fn home(hole: &Ring, polygons: &[Vec<Ring>]) -> Option<usize> {
-    let edge = edges(hole)[0];
+    let edge = *edges(hole).first()?;
     let round = |i: &usize| middle_inside(&edge, &edges(&polygons[*i][0]));
     (0..polygons.len()).filter(round).min_by_key(|i| area(&polygons[*i][0]))
 }

@@ -3,7 +3,7 @@
 use crate::bytes::{self, Kind, Record};
 use crate::listing::{self, Listing, Rest, Row, NAMES};
 use crate::plane::{Half, Point};
-use crate::rings;
+use crate::{make, rings};
 
 pub fn all(bytes: &[u8]) -> String {
     let listing = listing::read(bytes);
@@ -126,25 +126,20 @@ fn rest(listing: &Listing, bytes: &[u8]) -> String {
             let kind = bytes[listing.stop];
             format!("cut: a record of kind {kind} has {} bytes, here are {left}", bytes::length(kind).unwrap_or(0))
         }
-        Rest::Unknown => format!("no record has kind {}; {left} left unread{}", bytes[listing.stop], hint(bytes)),
-        Rest::More => format!("after the second end: {left} more"),
+        Rest::Unknown => format!("no record has kind {}; {left} bytes from here are unread", bytes[listing.stop]),
+        Rest::More => format!("after the second end: bytes to the number of {left}"),
     };
     format!(" {:>6}  {what}\n", listing.stop)
 }
 
-/// Text given where bytes belong is the likeliest slip.
-fn hint(bytes: &[u8]) -> &'static str {
-    let text = bytes.first().is_some_and(|b| b"#MPL".contains(b)) && bytes.is_ascii();
-    if text { " (this looks like text: `scene make` makes it into bytes)" } else { "" }
-}
-
-/// Well-known text of which `scene make` makes the same bytes.
+/// Well-known text of which `scene make` makes the same bytes, if there is one.
 pub fn text(bytes: &[u8]) -> Result<String, String> {
     let listing = listing::read(bytes);
-    if listing.rest != Rest::Nothing || !listing.rows.iter().all(|row| row.fits) {
-        return Err("the bytes are no scene; see `scene show`".to_string());
+    let text = format!("{}\n{}\n", object_text(&listing, 0)?, object_text(&listing, 1)?);
+    match make::scene(&text, true) {
+        Ok(made) if made == bytes => Ok(text),
+        _ => Err("no text makes these bytes: they are no scene, or not in order; see `scene show`".to_string()),
     }
-    Ok(format!("{}\n{}\n", object_text(&listing, 0)?, object_text(&listing, 1)?))
 }
 
 fn object_text(listing: &Listing, object: usize) -> Result<String, String> {

@@ -219,7 +219,7 @@ impl Reader {
     fn point(&mut self) -> Result<Placed, Fault> {
         let column = self.column();
         let x = self.coordinate("a coordinate")?;
-        let y = self.coordinate("the point's second coordinate")?;
+        let y = self.coordinate("the second coordinate of the point")?;
         match self.sign() {
             Sign::Word(_) => Err(self.fault(format!("a third coordinate, {}: points have x and y alone", self.sign()))),
             _ => Ok(Placed { point: Point { x, y }, column }),

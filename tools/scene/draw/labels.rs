@@ -12,16 +12,19 @@ type Area = (Spot, Spot);
 
 pub fn draw(svg: &mut Svg, frame: &Frame, vertices: &[Point], segments: &[Segment]) {
     let lines: Vec<(Spot, Spot)> = segments.iter().map(|s| (frame.spot(s.left), frame.spot(s.right))).collect();
-    let marks: Vec<Area> = vertices.iter().map(|p| around(frame.spot(*p), 7.0)).collect();
+    let marks: Vec<Area> = vertices.iter().map(|p| around(frame.spot(*p), 9.0)).collect();
+    let middle = (LEFT + WIDTH / 2.0, TOP + HEIGHT / 2.0);
     let mut taken: Vec<Area> = Vec::new();
     for vertex in vertices {
         let text = vertex.to_string();
+        let at = frame.spot(*vertex);
         let cost = |area: &Area| {
             let over = |areas: &[Area]| areas.iter().filter(|a| overlap(a, area)).count() as f64;
             let crossed = lines.iter().filter(|line| crosses(line, area)).count() as f64;
-            100.0 * over(&taken) + 30.0 * over(&marks) + 10.0 * crossed + outside(area)
+            let far = (area.1 .1 - at.1).abs().max((area.0 .1 - at.1).abs());
+            100.0 * over(&taken) + 30.0 * over(&marks) + 10.0 * crossed + outside(area) - 2.0 * outward(at, area, middle) + 0.1 * far
         };
-        let areas = places(frame.spot(*vertex), text.len() as f64 * 6.6);
+        let areas = places(at, text.len() as f64 * 6.6);
         let best = areas.into_iter().reduce(|best, area| if cost(&area) < cost(&best) { area } else { best });
         if let Some(area) = best {
             let style = "font-size=\"11\" fill=\"#222\" stroke=\"white\" stroke-width=\"3\" paint-order=\"stroke\" text-anchor=\"middle\"";
@@ -34,7 +37,7 @@ pub fn draw(svg: &mut Svg, frame: &Frame, vertices: &[Point], segments: &[Segmen
 /// The places round a vertex for a label so wide, the best liked first.
 fn places(at: Spot, width: f64) -> Vec<Area> {
     let area = |x: f64, y: f64| ((at.0 + x, at.1 + y), (at.0 + x + width, at.1 + y + 14.0));
-    let (near, far) = (9.0, -9.0 - width);
+    let (near, far) = (11.0, -11.0 - width);
     let mut places = Vec::new();
     for gap in [0.0, 10.0] {
         places.extend([area(near, -22.0 - gap), area(far, -22.0 - gap), area(near, 8.0 + gap), area(far, 8.0 + gap)]);
@@ -54,6 +57,14 @@ fn overlap(a: &Area, b: &Area) -> bool {
 fn outside(area: &Area) -> f64 {
     let within = area.0 .0 >= LEFT && area.0 .1 >= TOP && area.1 .0 <= LEFT + WIDTH && area.1 .1 <= TOP + HEIGHT;
     if within { 0.0 } else { 60.0 }
+}
+
+/// From -1 to 1: how far the label lies on the vertex's side that looks away from the middle.
+fn outward(vertex: Spot, area: &Area, middle: Spot) -> f64 {
+    let away = (vertex.0 - middle.0, vertex.1 - middle.1);
+    let to_label = ((area.0 .0 + area.1 .0) / 2.0 - vertex.0, (area.0 .1 + area.1 .1) / 2.0 - vertex.1);
+    let length = away.0.hypot(away.1) * to_label.0.hypot(to_label.1);
+    if length == 0.0 { 0.0 } else { (away.0 * to_label.0 + away.1 * to_label.1) / length }
 }
 
 /// Some of the line lies in the area: the line's course clipped to the area's four sides.

@@ -8,6 +8,7 @@ use crate::listing::{Listing, Row};
 use crate::plane::{is_boundary, Point, Segment};
 use std::collections::BTreeMap;
 
+#[derive(Clone, Copy)]
 pub struct Look {
     pub colour: &'static str,
     pub hatch: &'static str,
@@ -17,9 +18,18 @@ pub struct Look {
 }
 
 pub const LOOKS: [Look; 2] = [
-    Look { colour: "#1b55a5", hatch: "hatch-f", stroke: 2.2, mark: 4.5 },
-    Look { colour: "#d98a1c", hatch: "hatch-g", stroke: 6.5, mark: 8.0 },
+    Look { colour: "#1b55a5", hatch: "hatch-f", stroke: 2.0, mark: 4.5 },
+    Look { colour: "#d98a1c", hatch: "hatch-g", stroke: 5.5, mark: 7.5 },
 ];
+/// Where vertices are many, marks and strokes are smaller.
+fn look(object: usize, crowded: bool) -> Look {
+    let Look { stroke, mark, .. } = LOOKS[object];
+    match crowded {
+        true => Look { stroke: stroke * 0.7, mark: mark * 0.5, ..LOOKS[object] },
+        false => LOOKS[object],
+    }
+}
+
 pub const RED: &str = "#d3122e";
 
 pub fn hatches(svg: &mut Svg) {
@@ -33,23 +43,23 @@ pub fn hatches(svg: &mut Svg) {
     svg.raw("</defs>");
 }
 
-pub fn objects(svg: &mut Svg, frame: &Frame, listing: &Listing) {
+pub fn objects(svg: &mut Svg, frame: &Frame, listing: &Listing, crowded: bool) {
     for object in [1, 0] {
         if listing.kind(object) == Some(Kind::Region) {
             interior(svg, frame, &listing.segments(object), &LOOKS[object]);
         }
     }
     for object in [1, 0] {
-        strokes(svg, frame, &listing.segments(object), &LOOKS[object]);
+        strokes(svg, frame, &listing.segments(object), &look(object, crowded));
     }
     for object in [1, 0] {
-        let look = &LOOKS[object];
+        let look = look(object, crowded);
         match listing.kind(object) {
-            Some(Kind::Line) => ends(svg, frame, &listing.segments(object), look),
-            Some(Kind::Region) => corners(svg, frame, &listing.segments(object), look),
+            Some(Kind::Line) => ends(svg, frame, &listing.segments(object), &look),
+            Some(Kind::Region) => corners(svg, frame, &listing.segments(object), &look),
             _ => {}
         }
-        listing.points(object).into_iter().for_each(|p| point(svg, frame.spot(p), look));
+        listing.points(object).into_iter().for_each(|p| point(svg, frame.spot(p), &look));
     }
 }
 
@@ -65,7 +75,7 @@ fn interior(svg: &mut Svg, frame: &Frame, outline: &[Segment], look: &Look) {
 }
 
 fn strokes(svg: &mut Svg, frame: &Frame, segments: &[Segment], look: &Look) {
-    let style = format!("stroke=\"{}\" stroke-width=\"{}\" stroke-linecap=\"round\"", look.colour, look.stroke);
+    let style = format!("stroke=\"{}\" stroke-width=\"{}\" stroke-linecap=\"round\"", look.colour, n(look.stroke));
     segments.iter().for_each(|s| svg.line(frame.spot(s.left), frame.spot(s.right), &style));
 }
 
@@ -113,5 +123,9 @@ pub fn fault(svg: &mut Svg, frame: &Frame, row: &Row) {
         }
         _ => return,
     };
-    svg.circle(frame.spot(at), 11.0, &format!("fill=\"none\" stroke=\"{RED}\" stroke-width=\"3\""));
+    fault_ring(svg, frame.spot(at), 11.0);
+}
+
+pub fn fault_ring(svg: &mut Svg, at: Spot, radius: f64) {
+    svg.circle(at, radius, &format!("fill=\"none\" stroke=\"{RED}\" stroke-width=\"3\""));
 }

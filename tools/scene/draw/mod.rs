@@ -20,7 +20,7 @@ pub fn picture(bytes: &[u8], answer: &Result<Answer, String>) -> String {
     let mut svg = Svg::new();
     marks::hatches(&mut svg);
     frame.grid(&mut svg);
-    marks::objects(&mut svg, &frame, &listing);
+    marks::objects(&mut svg, &frame, &listing, vertices.len() > labels::FEW);
     if let Ok(Answer::Refused { place, .. }) = answer {
         listing.at(*place).into_iter().for_each(|row| marks::fault(&mut svg, &frame, &listing.rows[row]));
     }

@@ -1,7 +1,7 @@
 //! Beside the picture: the two objects, what the answer is called, the nine cells, the flags by name; or the refusal, or why no answer is known.
 
-use super::marks::{self, LOOKS, RED};
-use super::svg::{wrapped, Svg};
+use super::marks::{self, Look, LOOKS, RED};
+use super::svg::{wrapped, Spot, Svg};
 use crate::answer::{Answer, Cells, Taken};
 use crate::bytes::Kind;
 use crate::listing::{Listing, NAMES};
@@ -25,7 +25,8 @@ pub fn draw(svg: &mut Svg, listing: &Listing, length: usize, answer: &Result<Ans
         Ok(Answer::Refused { number, place }) => panel.refused(*number, *place, listing, length),
         Err(why) => panel.unknown(why),
     }
-    panel.legend(listing);
+    let drawn = |place: usize| listing.at(place).is_some_and(|row| listing.rows[row].element.is_some());
+    panel.legend(listing, matches!(answer, Ok(Answer::Refused { place, .. }) if drawn(*place)));
     panel.y
 }
 
@@ -43,11 +44,26 @@ impl Panel<'_> {
 
     fn objects(&mut self, listing: &Listing) {
         for (object, look) in LOOKS.iter().enumerate() {
-            let style = format!("fill=\"url(#{})\" stroke=\"{}\" stroke-width=\"{}\"", look.hatch, look.colour, look.stroke.min(4.0));
-            self.svg.rect((LEFT + 1.0, self.y + 2.0), (24.0, 14.0), &style);
+            if !listing.empty(object) {
+                self.sample(listing.kind(object), look);
+            }
             let text = format!("{}: {}", NAMES[object], listing.summary(object));
             self.svg.text((LEFT + 36.0, self.y + 14.0), "font-size=\"14\" fill=\"#222\"", &text);
             self.y += 25.0;
+        }
+    }
+
+    /// How an object of this kind is drawn.
+    fn sample(&mut self, kind: Option<Kind>, look: &Look) {
+        let stroke = format!("stroke=\"{}\" stroke-width=\"{}\"", look.colour, look.stroke);
+        match kind {
+            Some(Kind::Points) => marks::point(self.svg, (LEFT + 13.0, self.y + 9.0), look),
+            Some(Kind::Line) => self.svg.line((LEFT + 1.0, self.y + 9.0), (LEFT + 25.0, self.y + 9.0), &stroke),
+            Some(Kind::Region) => {
+                let style = format!("fill=\"url(#{})\" {stroke}", look.hatch);
+                self.svg.rect((LEFT + 2.0, self.y + 2.0), (22.0, 14.0), &style);
+            }
+            None => {}
         }
     }
 
@@ -89,6 +105,9 @@ impl Panel<'_> {
             let heading = format!("Flags of {}: {}", NAMES[object], taken.vectors[object]);
             self.svg.text((from, top), "font-size=\"12\" font-weight=\"bold\" fill=\"#222\"", &heading);
             let mut y = top;
+            if flags::of(taken.kinds)[object].is_empty() {
+                self.svg.text((from, top + 17.0), "font-size=\"11.5\" fill=\"#a0a0a0\"", "it has none");
+            }
             for (flag, set) in flags::set(flags::of(taken.kinds)[object], taken.vectors[object]) {
                 y += 17.0;
                 let (fill, colour) = if set { (LOOKS[object].colour, "#222") } else { ("white", "#a0a0a0") };
@@ -116,19 +135,21 @@ impl Panel<'_> {
     }
 
     /// What the marks mean, of those that occur.
-    fn legend(&mut self, listing: &Listing) {
-        let has = |kind: Kind| (0..2).find(|object| listing.kind(*object) == Some(kind));
-        let marks: [(Option<usize>, fn(&mut Svg, (f64, f64), &marks::Look), &str); 3] = [
-            (has(Kind::Points), marks::point, "point"),
-            (has(Kind::Line), marks::boundary_point, "boundary point of a line"),
-            (has(Kind::Line), marks::joint, "joint, in its interior"),
-        ];
+    fn legend(&mut self, listing: &Listing, refused: bool) {
         self.y += 12.0;
-        for (object, mark, text) in marks {
-            let Some(object) = object else { continue };
-            self.y += 20.0;
-            mark(self.svg, (LEFT + 8.0, self.y - 4.0), &LOOKS[object]);
-            self.svg.text((LEFT + 24.0, self.y), "font-size=\"11\" fill=\"#666\"", text);
+        if let Some(object) = (0..2).find(|object| listing.kind(*object) == Some(Kind::Line) && !listing.empty(*object)) {
+            let look = &LOOKS[object];
+            self.mark("boundary point of a line", |svg, at| marks::boundary_point(svg, at, look));
+            self.mark("joint, in a line's interior", |svg, at| marks::joint(svg, at, look));
         }
+        if refused {
+            self.mark("the record at fault, ringed at its dominating point", |svg, at| marks::fault_ring(svg, at, 7.0));
+        }
+    }
+
+    fn mark(&mut self, text: &str, draw: impl Fn(&mut Svg, Spot)) {
+        self.y += 20.0;
+        draw(self.svg, (LEFT + 8.0, self.y - 4.0));
+        self.svg.text((LEFT + 24.0, self.y), "font-size=\"11\" fill=\"#666\"", text);
     }
 }
