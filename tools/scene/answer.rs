@@ -31,7 +31,7 @@ pub fn ask(explore: &Path, scene: &[u8]) -> Result<Answer, String> {
 }
 
 /// What the program writes when given the bytes.
-pub fn run(explore: &Path, scene: &[u8]) -> std::io::Result<String> {
+fn run(explore: &Path, scene: &[u8]) -> std::io::Result<String> {
     let mut child = Command::new(explore).stdin(Stdio::piped()).stdout(Stdio::piped()).spawn()?;
     if let Some(mut input) = child.stdin.take() {
         // a refusal may come before all bytes are read

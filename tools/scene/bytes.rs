@@ -54,6 +54,12 @@ impl Record {
         }
     }
 
+    pub fn length(&self) -> usize {
+        let mut bytes = Vec::new();
+        write(self, &mut bytes);
+        bytes.len()
+    }
+
     /// The record has a place among the elements of such an object.
     pub fn fits(&self, kind: Kind) -> bool {
         matches!((self, kind), (Record::Point(_), Kind::Points) | (Record::Line(_), Kind::Line) | (Record::Region(..), Kind::Region))

@@ -7,11 +7,11 @@ use crate::{refusals, relation, show};
 
 pub fn words(bytes: &[u8], answer: &Answer) -> String {
     let listing = listing::read(bytes);
-    let objects = format!("F: {}\nG: {}\n\n", listing.summary(0), listing.summary(1));
-    objects + &match answer {
+    let answer = match answer {
         Answer::Taken(taken) => accepted(taken),
         Answer::Refused { number, place } => refused(*number, *place, &listing, bytes.len()),
-    }
+    };
+    format!("F: {}\nG: {}\n\n{answer}", listing.summary(0), listing.summary(1))
 }
 
 fn accepted(taken: &Taken) -> String {
@@ -23,9 +23,7 @@ fn table(taken: &Taken) -> String {
     let parts = ["interior", "boundary", "exterior"];
     let word = |yes: bool| if yes { "yes" } else { "-" };
     let heading = format!("{:12}{:>12}{:>12}{:>12}\n", "", "G interior", "G boundary", "G exterior");
-    let row = |(part, row): (&str, [bool; 3])| {
-        format!("{:12}{:>12}{:>12}{:>12}\n", format!("F {part}"), word(row[0]), word(row[1]), word(row[2]))
-    };
+    let row = |(part, row): (&str, [bool; 3])| format!("{:12}{:>12}{:>12}{:>12}\n", format!("F {part}"), word(row[0]), word(row[1]), word(row[2]));
     heading + &parts.into_iter().zip(taken.cells).map(row).collect::<String>()
 }
 

@@ -14,18 +14,6 @@ pub struct Row {
     pub fits: bool,
 }
 
-impl Row {
-    pub fn length(&self) -> usize {
-        match self.record {
-            Record::Type(_) => 2,
-            Record::Point(_) => 9,
-            Record::Line(_) => 18,
-            Record::Region(..) => 19,
-            Record::End => 1,
-        }
-    }
-}
-
 /// What follows the last row.
 #[derive(PartialEq, Debug)]
 pub enum Rest {
@@ -70,7 +58,7 @@ pub fn read(bytes: &[u8]) -> Listing {
                 }
             };
             let row = Row { offset, record, object, element, fits };
-            listing.stop += row.length();
+            listing.stop += record.length();
             listing.rows.push(row);
             if record == Record::End {
                 break;
@@ -125,7 +113,7 @@ impl Listing {
 
     /// The row that a byte belongs to.
     pub fn at(&self, byte: usize) -> Option<usize> {
-        self.rows.iter().position(|row| (row.offset..row.offset + row.length()).contains(&byte))
+        self.rows.iter().position(|row| (row.offset..row.offset + row.record.length()).contains(&byte))
     }
 
     /// "region, 4 segments", for headings.

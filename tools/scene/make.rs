@@ -1,8 +1,8 @@
 //! Text to scene bytes: parts and rings are cut into segments, repeats are dropped, elements are put in order, ia is computed.
 //! Nothing is repaired.
 
-use crate::bytes::{self, Kind, Record, MOST};
-use crate::plane::{interior_above, Half, Point, Segment};
+use crate::bytes::{self, Kind, MOST, Record};
+use crate::plane::{Half, Point, Segment, interior_above};
 use crate::text::{self, Described, Fault};
 use std::collections::HashSet;
 

@@ -134,7 +134,8 @@ mod tests {
     fn halfsegments_at_one_point() {
         let (level, up, down) = (segment((0, 0), (4, 0)), segment((0, 0), (0, 4)), segment((0, 0), (1, -3)));
         let behind = segment((-1, -1), (0, 0));
-        let mut halves = vec![Half { segment: up, d: 1 }, Half { segment: level, d: 1 }, Half { segment: behind, d: 0 }, Half { segment: down, d: 1 }];
+        let mut halves =
+            vec![Half { segment: up, d: 1 }, Half { segment: level, d: 1 }, Half { segment: behind, d: 0 }, Half { segment: down, d: 1 }];
         halves.sort_by(Half::order);
         assert_eq!(halves.iter().map(|h| h.segment).collect::<Vec<_>>(), [behind, down, level, up]);
     }

@@ -20,19 +20,13 @@ pub fn of(number: usize) -> Refusal {
             "Two segments run along each other from a common end: split the longer one where the shorter ends. In bytes that `scene make` did not make, elements may be out of order.",
         ),
         11 => ("a halfsegment has no partner", BYTES),
-        12 => (
-            "two segments of one object share a point that is not an end of both",
-            "Split both segments at the points they share.",
-        ),
+        12 => ("two segments of one object share a point that is not an end of both", "Split both segments at the points they share."),
         13 => (
             "an end in a region belongs to an odd number of its segments",
             "Each polygon's outline must close, and no two polygons of one region may have an edge in common.",
         ),
         14 => ("ia is wrong: the interior is on the other side of the segment", BYTES),
-        15 => (
-            "unequal segments of F and G share a point that is not an end of both",
-            "Split both segments at the points they share.",
-        ),
+        15 => ("unequal segments of F and G share a point that is not an end of both", "Split both segments at the points they share."),
         _ => ("an unknown refusal", ""),
     };
     Refusal { says, advice }

@@ -37,8 +37,10 @@ fn name(answer: &Taken) -> &'static str {
         false if f_within && !same_dimension => "on boundary",
         false => "meet",
         true if f_within && g_within => "equal",
-        true if f_within => if ib || bb { "covered by" } else { "inside" },
-        true if g_within => if bi || bb { "covers" } else { "contains" },
+        true if f_within && (ib || bb) => "covered by",
+        true if f_within => "inside",
+        true if g_within && (bi || bb) => "covers",
+        true if g_within => "contains",
         true if !same_dimension => "cross",
         true if answer.kinds[0] == Kind::Line && !flags::lines_share_a_segment(answer.vectors[0]) => "cross",
         true => "overlap",
@@ -71,7 +73,7 @@ fn says(name: &str, kinds: [Kind; 2]) -> &'static str {
 #[cfg(test)]
 mod tests {
     use super::*;
-    use crate::answer::{parse, Answer};
+    use crate::answer::{Answer, parse};
 
     fn named(line: &str) -> &'static str {
         match parse(&format!("{line}\n")) {

@@ -1,7 +1,7 @@
 //! The outline of a region as polygons: outer rings, each with its holes. Rings are walked with the interior on the left and cut where they
 //! come back to a point, so none passes a point twice; outer rings run counterclockwise, holes clockwise.
 
-use crate::plane::{interior_above, middle_inside, side, Point, Segment};
+use crate::plane::{Point, Segment, interior_above, middle_inside, side};
 use std::cmp::Ordering;
 use std::collections::BTreeMap;
 

@@ -1,7 +1,7 @@
 //! Scene bytes as a listing, one record to a line with its byte offset, or as well-known text again.
 
 use crate::bytes::{self, Kind, Record};
-use crate::listing::{self, Listing, Rest, Row, NAMES};
+use crate::listing::{self, Listing, NAMES, Rest, Row};
 use crate::plane::{Half, Point};
 use crate::{make, rings};
 

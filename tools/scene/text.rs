@@ -3,7 +3,7 @@
 
 use crate::bytes::Kind;
 use crate::number::{self, Number};
-use crate::plane::{Point, LIMIT};
+use crate::plane::{LIMIT, Point};
 use crate::words::{self, Sign};
 
 #[derive(PartialEq, Debug)]

@@ -1,6 +1,6 @@
 //! Where coordinates fall in the picture: one scale for both axes, all objects in view, a grid with numbers at its edge.
 
-use super::svg::{n, Spot, Svg};
+use super::svg::{Spot, Svg, n};
 use crate::plane::Point;
 
 /// The plane's window in the picture.

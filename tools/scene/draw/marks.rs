@@ -2,10 +2,10 @@
 //! G is drawn first and broader, so that what both have in common shows in both colours.
 
 use super::frame::{Frame, HEIGHT, TOP};
-use super::svg::{n, Spot, Svg};
+use super::svg::{Spot, Svg, n};
 use crate::bytes::{Kind, Record};
 use crate::listing::{Listing, Row};
-use crate::plane::{is_boundary, Point, Segment};
+use crate::plane::{Point, Segment, is_boundary};
 use std::collections::BTreeMap;
 
 #[derive(Clone, Copy)]
@@ -17,10 +17,8 @@ pub struct Look {
     pub mark: f64,
 }
 
-pub const LOOKS: [Look; 2] = [
-    Look { colour: "#1b55a5", hatch: "hatch-f", stroke: 2.0, mark: 4.5 },
-    Look { colour: "#d98a1c", hatch: "hatch-g", stroke: 5.5, mark: 7.5 },
-];
+pub const LOOKS: [Look; 2] =
+    [Look { colour: "#1b55a5", hatch: "hatch-f", stroke: 2.0, mark: 4.5 }, Look { colour: "#d98a1c", hatch: "hatch-g", stroke: 5.5, mark: 7.5 }];
 /// Where vertices are many, marks and strokes are smaller.
 fn look(object: usize, crowded: bool) -> Look {
     let Look { stroke, mark, .. } = LOOKS[object];

@@ -1,7 +1,7 @@
 //! Beside the picture: the two objects, what the answer is called, the nine cells, the flags by name; or the refusal, or why no answer is known.
 
-use super::marks::{self, Look, LOOKS, RED};
-use super::svg::{wrapped, Spot, Svg};
+use super::marks::{self, LOOKS, Look, RED};
+use super::svg::{Spot, Svg, wrapped};
 use crate::answer::{Answer, Cells, Taken};
 use crate::bytes::Kind;
 use crate::listing::{Listing, NAMES};
