@@ -1,5 +1,5 @@
--- Laws of writing into a lent buffer: one byte, and one piece after another.
-use Prim.Native.Nat.{ℕ, zero, suc, _+_, _≤_, _<_}
+-- Laws of writing into a lent buffer: one byte, one piece after another, a copy, and what a caller learns of its buffer.
+use Prim.Native.Nat.{ℕ, _+_, _≤_, _<_}
 use mathlib.Core.Path.{_≡_, refl, sym, ap, _∙_}
 use mathlib.Core.Bool.{Bool, true, false}
 use mathlib.Core.List.{List, [], _∷_, _++_, append-assoc}

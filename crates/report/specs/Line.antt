@@ -60,9 +60,12 @@ abbrev pub bit : Bool → ℕ
 bit true = digit 1
 bit false = digit 0
 
+abbrev pub rowByRow : List (List Bool) → List Bool
+rowByRow [] = []
+rowByRow (row ∷ rows) = row ++ rowByRow rows
+
 abbrev pub cellBytes : List (List Bool) → List ℕ
-cellBytes [] = []
-cellBytes (row ∷ rows) = map bit row ++ cellBytes rows
+cellBytes cells = map bit (rowByRow cells)
 
 -- "ok, F's type, G's type, F's vector, G's vector (decimal, all flags), the nine cells"
 unfoldable pub okLine : ℕ → ℕ → ℕ → ℕ → List (List Bool) → List ℕ

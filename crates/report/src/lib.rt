@@ -1,6 +1,5 @@
 // The one line that answers a scene, written into a lent buffer.
 // Each function but `write_line` writes at an offset, or at 0, and answers the offset after what it wrote.
-ghost use mathlib.Core.Path.{_≡_};
 ghost use mathlib.Core.List.{[], _∷_, map};
 ghost use Prim.Native.Nat.{_+_, _<_, _≤_};
 ghost use lib.ListN.{length};
