@@ -7,3 +7,4 @@ pub mod Searching
 pub mod Inside
 pub mod OfElement
 pub mod AtIndex
+pub mod Gathered

@@ -14,7 +14,7 @@ ghost use lib.Dec.{T};
 ghost use Rattle.plane.specs.Plane.{inRange, segmentInRange};
 ghost use Rattle.scene.specs.Read.{IsObject};
 ghost use Rattle.scene.specs.Conditions.{segments};
-ghost use Rattle.features.specs.Walk.{elementsOf, tested, pointTests, segmentTests, edgeTests, Clear, ClearAt, elementFlags};
+ghost use Rattle.features.specs.Walk.{elementsOf, tested, pointTests, segmentTests, edgeTests, Clear, ClearAt, AllClear, masked, elementFlags, allFlags};
 
 // A point of F, if first, or of G.
 fn point_flags(s: &[u8], other: Layout, first: bool, v: Point) -> Found
@@ -109,4 +109,21 @@ fn element_flags(s: &[u8], own: Layout, other: Layout, first: bool, i: usize) ->
             }
         }
     }
+}
+
+// The wanted flags of all elements of own, F's if first, beside other. The walk ends once every wanted flag is set.
+pub fn walk(s: &[u8], own: Layout, other: Layout, first: bool, want: Found) -> Found
+    requires { ⌜ IsObject (now s) own × IsObject (now s) other × AllClear (now s) own other ⌝ }
+    ensures { λ r. ⌜ r ≡ masked want (allFlags first (now (s .entry)) own other) ⌝ }
+{
+    let mut sofar = collected::nothing();
+    let mut i: usize = 0;
+    while i < own.count {
+        if !collected::lacks(want, sofar) {
+            return collected::masked(want, sofar);
+        }
+        sofar = collected::either(sofar, element_flags(s, own, other, first, i));
+        i += 1;
+    }
+    collected::masked(want, sofar)
 }
