@@ -34,7 +34,7 @@ either-nothing : (a : Found) → either a nothing ≡ a
 either-nothing a = λ i. bitwise (λ k. or-false (flag k (bits a)) i)
 
 -- none of the numbers from i on
-none-of : (f : ℕ → Bool) (n i : ℕ) → some f (indices n i) ≡ false → (k : ℕ) → i ≤ k → k < i + n → f k ≡ false
+pub none-of : (f : ℕ → Bool) (n i : ℕ) → some f (indices n i) ≡ false → (k : ℕ) → i ≤ k → k < i + n → f k ≡ false
 none-of f zero i e k h j = absurd (omega arith)
 none-of f (suc n) i e k h j = go (f i) refl e (none-of f n (suc i))
   where

@@ -8,3 +8,4 @@ pub mod Inside
 pub mod OfElement
 pub mod AtIndex
 pub mod Gathered
+pub mod Clear
