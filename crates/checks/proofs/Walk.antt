@@ -12,7 +12,7 @@ use lib.Dec.{T, eqb}
 use borrow.Author.Tests.{eq-eqb, ne-eqb}
 use Rattle.whole.specs.Count.{bit, some, count}
 use Rattle.plane.specs.declared.Segment.{Segment}
-use Rattle.plane.specs.Plane.{segmentInRange}
+use Rattle.plane.specs.Plane.{segmentInRange, ordered}
 use Rattle.scene.specs.declared.Layout.{Layout}
 use Rattle.scene.specs.declared.Fault.the-variants.{At, Nothing}
 use Rattle.scene.specs.Read.{byte, segmentAt, size, place, after, IsObject}
@@ -140,7 +140,7 @@ pub record Step (s : List ℕ) (l : Layout) (at i : ℕ) : Type 0 where
 pub step : {s : List ℕ} {l : Layout} {at i : ℕ} → IsObject s l → hasSegments (l .shape) ≡ true → at ≡ place l i → i < l .count → Step s l at i
 step {s} {l} {at} {i} is has e h = subst (λ (at : ℕ). Step s l at i) (sym e) (record {
   fits = fits s l is i h;
-  readable = (half-good s l is i h has .there, half-good s l is i h has .in-range);
+  readable = let g = half-good s l is i h has in (g .there, g .in-range, g .in-order);
   same = λ f. rw has;
 })
 
@@ -150,8 +150,15 @@ module _ (f : Segment → Bool) (s : List ℕ) (at : ℕ) where
   pub at-left : byte s (at + 17) ≡ 1 → {t : Segment} {r : Bool} → t ≡ segmentAt s at → r ≡ f t → r ≡ leftWith f s at
   at-left e {t} {r} q p = p ∙ ap f q ∙ rw (eq-eqb (byte s (at + 17)) 1 e)
 
-  pub at-right : (byte s (at + 17) ≡ 1 → ⊥) → eqb (byte s (at + 17)) 1 ≡ leftWith f s at
-  at-right n = rw (ne-eqb (byte s (at + 17)) 1 n)
+  not-left : (byte s (at + 17) ≡ 1 → ⊥) → eqb (byte s (at + 17)) 1 ≡ false
+  not-left n = ne-eqb (byte s (at + 17)) 1 n
 
-pub in-range-at : {t u : Segment} → t ≡ u → T (segmentInRange u) → T (segmentInRange t)
-in-range-at e r = subst (λ (t : Segment). T (segmentInRange t)) (sym e) r
+  pub at-right : (byte s (at + 17) ≡ 1 → ⊥) → eqb (byte s (at + 17)) 1 ≡ leftWith f s at
+  at-right n = rw (not-left n)
+
+module _ {t u : Segment} (e : t ≡ u) where
+  pub in-range-at : T (segmentInRange u) → T (segmentInRange t)
+  in-range-at r = subst (λ (t : Segment). T (segmentInRange t)) (sym e) r
+
+  pub in-order-at : T (ordered u) → T (ordered t)
+  in-order-at r = subst (λ (t : Segment). T (ordered t)) (sym e) r

@@ -22,3 +22,4 @@ pub mod collected;
 pub mod pairs;
 pub mod position;
 pub mod searches;
+pub mod walk;
