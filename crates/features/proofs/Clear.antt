@@ -39,7 +39,7 @@ module _ {A : Type 0} (g : ℕ → A) (q : ℕ → Bool) where
     pub passes : T (q index)
     pub is : g index ≡ a
 
-  kept-find : {a : A} (n i : ℕ) → a ∈ map g (keep q (indices n i)) → Kept a n i
+  pub kept-find : {a : A} (n i : ℕ) → a ∈ map g (keep q (indices n i)) → Kept a n i
   kept-find zero i m = absurd (in-nil m)
   kept-find {a} (suc n) i m = go (q i) refl m (kept-find n (suc i))
     where
@@ -83,7 +83,7 @@ module _ (s : List ℕ) (l : Layout) where
 -- ---- 15
 
 -- where there is no earliest fault there is none
-none-at-fault : (l : Layout) (wrong : ℕ → Bool) (is : List ℕ) → earliest l wrong is ≡ Nothing → some wrong is ≡ false
+pub none-at-fault : (l : Layout) (wrong : ℕ → Bool) (is : List ℕ) → earliest l wrong is ≡ Nothing → some wrong is ≡ false
 none-at-fault l wrong [] e = refl
 none-at-fault l wrong (i ∷ is) e = go (wrong i) e (none-at-fault l wrong is)
   where
