@@ -60,7 +60,7 @@ loop-holds c =
     (omega arith, omega arith, some-segments (z .s .now) (z .l) (touch (z .t)))
 
 is-touched-at-requires : tie.Need-is-touched-at-requires Inv-loop μ-loop
-is-touched-at-requires c κs = (here c .readable, z c .pre .1, z c .pre .2)
+is-touched-at-requires c κs = (here c .readable, here c .in-order, z c .pre .1, z c .pre .2)
 
 returns-2 : tie.Need-returns-2 Inv-loop μ-loop
 returns-2 c =
