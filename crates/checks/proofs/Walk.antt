@@ -1,6 +1,6 @@
 -- The elements of an object one after the other: what is left of them from the element i on, of a search, a count and the earliest fault; and one
 -- step of a walk over its segments.
-use Prim.Native.Nat.{ℕ, zero, suc, _+_, _-_, _<_, _≤_}
+use Prim.Native.Nat.{ℕ, suc, _+_, _-_, _<_, _≤_}
 use native.Mathlib.Omega.{arith}
 use native.Mathlib.Numerals.{add-one}
 use mir.Val.{boolByte}

@@ -1,5 +1,5 @@
 -- `checks::segments::is_touched_at` meets its contract: the flag, a quick no where the boxes are apart, then the touch test on the record's segment.
-use mathlib.Core.Path.{_≡_, sym, ap, _∙_}
+use mathlib.Core.Path.{sym}
 use borrow.Author.Needs.{needs}
 use borrow.Author.Tests.{ne-eqb}
 use Rattle.plane.specs.Plane.{touch}

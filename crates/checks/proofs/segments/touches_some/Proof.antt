@@ -3,12 +3,12 @@
 use Prim.Native.Nat.{ℕ, _-_, _≤_}
 use native.Mathlib.Omega.{arith}
 use mathlib.Core.Path.{_≡_, sym, ap, _∙_}
-use mathlib.Core.Bool.{Bool, true}
+use mathlib.Core.Bool.{Bool}
 use borrow.Author.Needs.{needs}
 use Rattle.whole.specs.Count.{some}
 use Rattle.plane.specs.Plane.{touch}
 use Rattle.scene.specs.Read.{place}
-use Rattle.scene.specs.Conditions.{hasSegments, segments}
+use Rattle.scene.specs.Conditions.{segments}
 use Rattle.scene.proofs.Flags.{refuted, upheld}
 use Rattle.checks.proofs.Walk.{between, leftPasses, some-found, some-passed, some-none, no-segments, some-segments, Step, step, object-fits}
 use Rattle.checks.proofs.segments.touches_some.Statement.{statement}
