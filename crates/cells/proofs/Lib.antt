@@ -1,4 +1,4 @@
--- Demand 3, pair by pair.
+-- Demand 3, pair by pair, and over the bytes of a scene.
 pub mod Common
 pub mod PointsPoints
 pub mod PointsLine
