@@ -12,7 +12,7 @@ use Rattle.whole.proofs.Logic.{is-true, refute}
 use Rattle.plane.specs.declared.Point.{Point}
 use Rattle.plane.specs.declared.Segment.{Segment}
 use Rattle.plane.specs.Plane.{HPoint, fractions, ordered, SharePoint, touch}
-use Rattle.plane.proofs.OnSegment.{Ordered, ordered-read, width, Along, on-along}
+use Rattle.plane.proofs.OnSegment.{ordered-read, width, Along, on-along}
 use Rattle.plane.proofs.Scale.{fractions-pos}
 use Rattle.plane.proofs.Touch.{touch-sound}
 

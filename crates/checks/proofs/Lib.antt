@@ -3,3 +3,4 @@ mod Apart
 pub mod Elements
 pub mod Walk
 pub mod Verdicts
+pub mod Laws

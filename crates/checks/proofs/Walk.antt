@@ -1,6 +1,6 @@
 -- The elements of an object one after the other: what is left of them from the element i on, of a search, a count and the earliest fault; and one
 -- step of a walk over its segments.
-use Prim.Native.Nat.{ℕ, zero, suc, _+_, _-_, _<_, _≤_}
+use Prim.Native.Nat.{ℕ, suc, _+_, _-_, _<_, _≤_}
 use native.Mathlib.Omega.{arith}
 use native.Mathlib.Numerals.{add-one}
 use mir.Val.{boolByte}
@@ -135,12 +135,14 @@ object-fits s l is = taken-object s (l .start) l is .ends
 pub record Step (s : List ℕ) (l : Layout) (at i : ℕ) : Type 0 where
   pub fits : at + size (l .shape) ≤ length s
   pub readable : Readable s at
+  pub in-order : T (ordered (segmentAt s at))
   pub same : (f : Segment → Bool) → leftPasses s l f i ≡ leftWith f s at
 
 pub step : {s : List ℕ} {l : Layout} {at i : ℕ} → IsObject s l → hasSegments (l .shape) ≡ true → at ≡ place l i → i < l .count → Step s l at i
 step {s} {l} {at} {i} is has e h = subst (λ (at : ℕ). Step s l at i) (sym e) (record {
   fits = fits s l is i h;
-  readable = let g = half-good s l is i h has in (g .there, g .in-range, g .in-order);
+  readable = (half-good s l is i h has .there, half-good s l is i h has .in-range);
+  in-order = half-good s l is i h has .in-order;
   same = λ f. rw has;
 })
 

@@ -6,12 +6,12 @@ use lib.ListN.{length}
 use lib.Dec.{T}
 use Rattle.plane.specs.declared.Segment.{Segment}
 use Rattle.plane.specs.declared.Halfsegment.{Halfsegment}
-use Rattle.plane.specs.Plane.{segmentInRange, ordered, sameSegment}
+use Rattle.plane.specs.Plane.{segmentInRange, sameSegment}
 use Rattle.scene.specs.Read.{segmentAt, halfsegmentAt}
 
--- the record of a halfsegment whose ends are in range and in order
+-- the record of a halfsegment whose ends are in range
 abbrev pub Readable : List ℕ → ℕ → Type 0
-Readable s at = (at + 18 ≤ length s) × T (segmentInRange (segmentAt s at)) × T (ordered (segmentAt s at))
+Readable s at = (at + 18 ≤ length s) × T (segmentInRange (segmentAt s at))
 
 -- it is a left one, and its segment passes a test
 abbrev pub leftWith : (Segment → Bool) → List ℕ → ℕ → Bool

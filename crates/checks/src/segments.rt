@@ -11,7 +11,7 @@ ghost use Prim.Native.Nat.{_*_};
 ghost use lib.Dec.{T};
 ghost use Rattle.whole.specs.Count.{some, count};
 ghost use Rattle.plane.specs.Plane.{limit, within, segmentInRange, ordered, grid, halved, isEnd, endsAt, countsBelow, countsBelowLeft, touch};
-ghost use Rattle.scene.specs.Read.{IsObject};
+ghost use Rattle.scene.specs.Read.{segmentAt, IsObject};
 ghost use Rattle.scene.specs.Conditions.{hasSegments, isRegion, segments};
 ghost use Rattle.checks.specs.Walked.{Readable, leftWith};
 
@@ -38,7 +38,7 @@ pub fn is_region(k: Shape) -> bool
 // ---- the tests on the record at an offset
 
 fn is_touched_at(s: &[u8], at: usize, t: Segment) -> bool
-    requires { ⌜ Readable (now s) at × T (segmentInRange t) × T (ordered t) ⌝ }
+    requires { ⌜ Readable (now s) at × T (ordered (segmentAt (now s) at)) × T (segmentInRange t) × T (ordered t) ⌝ }
     ensures { λ r. ⌜ r ≡ leftWith (touch t) (now (s .entry)) at ⌝ }
 {
     if s[at + 17] != 1 {

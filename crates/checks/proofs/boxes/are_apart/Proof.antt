@@ -1,6 +1,6 @@
 -- `checks::boxes::are_apart` meets its contract: each comparison that holds parts the two segments.
 use mathlib.Core.Path.{_≡_, sym, ap₂, _∙_}
-use mathlib.Core.Bool.{true, false}
+use mathlib.Core.Bool.{true}
 use lib.IntN.{ℤ, _-ℤ_}
 use lib.Signed.{ltZ}
 use mir.Syntax.{w32}
@@ -9,7 +9,6 @@ use mir.Facts.{toZ-ofZ}
 use borrow.Author.Needs.{needs}
 use Rattle.whole.proofs.Logic.{is-true}
 use Rattle.whole.proofs.Sign.{Pos, ltZ-pos, leZ-nonneg}
-use Rattle.plane.specs.Plane.{touch}
 use Rattle.plane.proofs.Machine.{Held}
 use Rattle.plane.proofs.Touch.{share-swap}
 use Rattle.checks.proofs.Apart.{parted-across, parted-up, no-touch}

@@ -1,5 +1,5 @@
 -- `checks::segments::is_touched_at` meets its contract: the flag, a quick no where the boxes are apart, then the touch test on the record's segment.
-use mathlib.Core.Path.{_≡_, sym, ap, _∙_}
+use mathlib.Core.Path.{sym}
 use borrow.Author.Needs.{needs}
 use borrow.Author.Tests.{ne-eqb}
 use Rattle.plane.specs.Plane.{touch}
@@ -22,7 +22,7 @@ segment-requires : tie.Need-segment-requires
 segment-requires c κs = search needs
 
 are-apart-requires : tie.Need-are-apart-requires
-are-apart-requires c κs = let z = c .before .before .before .before in (z .pre .2, in-order-at (c .segment .ensures) (z .pre .0 .2))
+are-apart-requires c κs = let z = c .before .before .before .before in (z .pre .3, in-order-at (c .segment .ensures) (z .pre .1))
 
 returns-2 : tie.Need-returns-2
 returns-2 c =
@@ -34,7 +34,7 @@ touches-requires : tie.Need-touches-requires
 touches-requires c κs =
     let d = c .before .before in
     let z = d .before .before .before .before in
-    (z .pre .1, in-range-at (d .segment .ensures) (z .pre .0 .1))
+    (z .pre .2, in-range-at (d .segment .ensures) (z .pre .0 .1))
 
 returns-3 : tie.Need-returns-3
 returns-3 c =
