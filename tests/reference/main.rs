@@ -6,19 +6,22 @@ mod cells;
 mod check;
 mod flags;
 mod judge;
+mod maker;
 mod mistakes;
 mod pieces;
+mod picture;
+mod plan;
 mod plane;
+mod random;
 mod scene;
 
 use judge::judge;
 use mistakes::RIGHT;
 
 fn main() {
-    for k in byhand::twelve().iter().chain(&byhand::refusal_table()) {
+    for k in byhand::twelve().iter().chain(&byhand::refusal_table()).chain(&byhand::reading_traps()).chain(&byhand::answer_traps()) {
         let l = judge(&k.bytes, &RIGHT).line();
-        println!("{} {} {}", if l == k.line { "yes" } else { "NO " }, k.name, l);
+        if l != k.line { println!("NO {}: {} expected {}", k.name, l, k.line); }
     }
-    let j = judge(&byhand::scene_e(), &RIGHT);
-    println!("{:?}", j.list);
+    for d in byhand::drawn_matrices() { let l = judge(&d.bytes(), &RIGHT).line(); if !l.ends_with(d.matrix) || !l.starts_with("ok") { println!("NO {} {} {:?}", l, d.matrix, d.lines); } }
 }
