@@ -37,12 +37,10 @@ pub fn square(a: i64, b: i64) -> Object {
     region(&[&rectangle(a, a, b, b)])
 }
 
-/// Document 01's scene e, whose overlap list it gives.
+/// Document 01's scene e, whose overlap list is 1 3 3 1 4 3 1.
 pub fn scene_e() -> Vec<u8> {
     scene_bytes(&square(0, 2), &region(&[&rectangle(2, 0, 4, 2)]))
 }
-
-pub const LIST_OF_E: [u8; 7] = [1, 3, 3, 1, 4, 3, 1];
 
 /// The twelve scenes, and the two beside them that document 01 says are taken.
 pub fn twelve() -> Vec<Known> {

@@ -4,7 +4,7 @@
 use crate::mistakes::Rules;
 use crate::pieces::Pieces;
 use crate::plane::{inside, Fraction, Point, Segment};
-use crate::scene::{Half, Object, LINE, POINTS};
+use crate::scene::{Half, Object, LINE, POINTS, REGION};
 
 /// Rows interior, boundary, exterior of F; columns the same of G.
 pub type Matrix = [[bool; 3]; 3];
@@ -35,17 +35,12 @@ impl<'a> Parts<'a> {
     /// 0 interior, 1 boundary, 2 exterior.
     fn part(&self, p: &Fraction) -> usize {
         let on_segment = || self.segments.iter().any(|s| s.has(p));
-        let (interior, boundary) = match self.object.kind {
-            POINTS => (self.object.points.iter().any(|q| p.is(*q)), false),
-            LINE => {
-                let boundary = self.bound.iter().any(|b| p.is(*b));
-                (!boundary && on_segment(), boundary)
-            }
-            _ => (inside(&self.segments, p), on_segment()),
-        };
-        match (interior, boundary) {
-            (true, _) => 0,
-            (_, true) => 1,
+        match self.object.kind {
+            POINTS if self.object.points.iter().any(|q| p.is(*q)) => 0,
+            LINE if self.bound.iter().any(|b| p.is(*b)) => 1,
+            LINE if on_segment() => 0,
+            REGION if on_segment() => 1,
+            REGION if inside(&self.segments, p) => 0,
             _ => 2,
         }
     }

@@ -5,7 +5,7 @@ use crate::check;
 use crate::flags::{flag_counts, vectors};
 use crate::mistakes::Rules;
 use crate::plane::Segment;
-use crate::scene::{read_scene, Refusal, REGION};
+use crate::scene::{read_scene, Object, Refusal, REGION};
 
 #[derive(Clone, Copy, PartialEq, Eq, Debug, Default)]
 pub struct VectorsAnswer {
@@ -34,8 +34,8 @@ pub struct OverlapAnswer {
 pub struct Judgement {
     pub early: Option<Refusal>,
     pub late: Option<Refusal>,
-    pub kinds: (u8, u8),
-    pub empty: (bool, bool),
+    pub f: Object,
+    pub g: Object,
     pub vectors: (u16, u16),
     pub cells: Matrix,
     pub segments: Vec<Segment>,
@@ -53,8 +53,6 @@ pub fn judge(bytes: &[u8], rules: &Rules) -> Judgement {
     match read_scene(bytes) {
         Err(refusal) => judgement.early = Some(refusal),
         Ok((f, g)) => {
-            judgement.kinds = (f.kind, g.kind);
-            judgement.empty = (f.is_empty(), g.is_empty());
             judgement.early = check::types(&f, &g);
             if judgement.early.is_none() {
                 judgement.late = check::later(&f, &g, rules);
@@ -62,15 +60,16 @@ pub fn judge(bytes: &[u8], rules: &Rules) -> Judgement {
             if judgement.is_taken() {
                 judgement.vectors = vectors(&f, &g, rules);
                 judgement.cells = matrix(&f, &g, rules);
-                if judgement.kinds == (REGION, REGION) {
+                if f.kind == REGION {
                     let list = overlap(&f, &g);
-                    judgement.apart = f.segments().len() + g.segments().len();
                     judgement.segments = list.iter().map(|entry| entry.0).collect();
                     judgement.list = list.iter().map(|(_, m, n)| 3 * m + n).collect();
+                    judgement.apart = f.segments().len() + g.segments().len();
                 }
                 judgement.count = judgement.list.len();
                 judgement.room = judgement.list.len();
             }
+            (judgement.f, judgement.g) = (f, g);
         }
     }
     (rules.spoil)(&mut judgement);
@@ -85,7 +84,7 @@ impl Judgement {
 
     /// The flags of the pair, as a mask for F and one for G.
     pub fn all_flags(&self) -> (u16, u16) {
-        let (of_f, of_g) = flag_counts(self.kinds.0, self.kinds.1);
+        let (of_f, of_g) = flag_counts(self.f.kind, self.g.kind);
         ((1 << of_f) - 1, (1 << of_g) - 1)
     }
 
@@ -114,7 +113,7 @@ impl Judgement {
 
     /// The answer, with the list written into the lent buffer.
     pub fn overlap(&self, lent: &mut [u8]) -> OverlapAnswer {
-        let own_refusal = if self.kinds != (REGION, REGION) {
+        let own_refusal = if self.f.kind != REGION {
             Some(Refusal { number: 16, place: 0 }) // the first type is never 3 here, for G's would be below it, which is 8
         } else if lent.len() < self.room {
             Some(Refusal { number: 17, place: 0 })
@@ -138,6 +137,6 @@ impl Judgement {
         }
         let digits: String = cells.cell.iter().flatten().map(|yes| if *yes { '1' } else { '0' }).collect();
         let (f, g) = self.vectors;
-        format!("ok {} {} {} {} {}", self.kinds.0, self.kinds.1, f, g, digits)
+        format!("ok {} {} {} {} {}", self.f.kind, self.g.kind, f, g, digits)
     }
 }

@@ -4,24 +4,206 @@
 mod byhand;
 mod cells;
 mod check;
+mod compare;
+mod damage;
+mod drawing;
 mod flags;
 mod judge;
+mod library;
 mod maker;
 mod mistakes;
-mod pieces;
 mod picture;
+mod pieces;
 mod plan;
 mod plane;
 mod random;
 mod scene;
+mod tally;
 
+use compare::{ask, Case};
 use judge::judge;
-use mistakes::RIGHT;
+use mistakes::{Mistake, Rules, MISTAKES, RIGHT};
+use random::Random;
+use std::io::{Read, Write};
+use std::process::exit;
+use std::time::{Duration, Instant};
+use tally::Tally;
+
+const USAGE: &str = "usage: reference answer < scene    the line that explore writes
+       reference list < scene      the overlap list, or its refusal
+       reference draw < scene      the scene as bytes, words and a drawing
+       reference scene SEED        writes the scene that a seed names
+       reference self              the scenes made by hand against their known answers
+       reference compare [--scenes N] [--seed N] [--mistake NAME]     the fixed run; fails if it reaches too little
+       reference compare --seconds N [--seed N]                       fresh seeds for so long
+       reference compare --mistakes                                   every mistake must be caught";
+
+/// The fixed run: its seed, its scenes, and the scenes in which a mistake must have been caught.
+const SEED: u64 = 1;
+const SCENES: u64 = 60_000;
+const SCENES_PER_MISTAKE: u64 = 5_000;
 
 fn main() {
-    for k in byhand::twelve().iter().chain(&byhand::refusal_table()).chain(&byhand::reading_traps()).chain(&byhand::answer_traps()) {
-        let l = judge(&k.bytes, &RIGHT).line();
-        if l != k.line { println!("NO {}: {} expected {}", k.name, l, k.line); }
+    let arguments: Vec<String> = std::env::args().skip(1).collect();
+    let arguments: Vec<&str> = arguments.iter().map(String::as_str).collect();
+    let good = match arguments[..] {
+        ["answer"] => {
+            println!("{}", judge(&input(), &RIGHT).line());
+            true
+        }
+        ["list"] => {
+            println!("{}", list_line(&input()));
+            true
+        }
+        ["draw"] => {
+            print!("{}", drawing::scene_text(&input()));
+            true
+        }
+        ["scene", seed] => std::io::stdout().write_all(&Case::of_seed(number(seed)).bytes).is_ok(),
+        ["self"] => self_test(),
+        ["compare", "--mistakes"] => all_mistakes(),
+        ["compare", ref rest @ ..] => compare(rest),
+        _ => usage(),
+    };
+    exit(if good { 0 } else { 1 });
+}
+
+fn usage() -> ! {
+    eprintln!("{USAGE}");
+    exit(2);
+}
+
+fn number(text: &str) -> u64 {
+    text.parse().unwrap_or_else(|_| usage())
+}
+
+fn input() -> Vec<u8> {
+    let mut bytes = Vec::new();
+    std::io::stdin().read_to_end(&mut bytes).expect("standard input cannot be read");
+    bytes
+}
+
+fn list_line(bytes: &[u8]) -> String {
+    let judgement = judge(bytes, &RIGHT);
+    let answer = judgement.overlap(&mut vec![0; judgement.list.len()]);
+    if answer.number != 0 {
+        return format!("no {} {}", answer.number, answer.place);
     }
-    for d in byhand::drawn_matrices() { let l = judge(&d.bytes(), &RIGHT).line(); if !l.ends_with(d.matrix) || !l.starts_with("ok") { println!("NO {} {} {:?}", l, d.matrix, d.lines); } }
+    judgement.list.iter().map(u8::to_string).collect::<Vec<_>>().join(" ")
+}
+
+/// The scenes made by hand against what document 01, or a hand, says of them.
+fn self_test() -> bool {
+    let (mut passed, mut failed) = (0, 0);
+    let mut check = |name: &str, expected: &str, answer: String| {
+        if expected == answer {
+            passed += 1;
+        } else {
+            failed += 1;
+            println!("{name}: {answer} instead of {expected}");
+        }
+    };
+    let known = [byhand::twelve(), byhand::refusal_table(), byhand::reading_traps(), byhand::answer_traps()];
+    for known in known.iter().flatten() {
+        check(known.name, known.line, judge(&known.bytes, &RIGHT).line());
+    }
+    for drawn in byhand::drawn_matrices() {
+        let line = judge(&drawn.bytes(), &RIGHT).line();
+        check("a picture", drawn.matrix, line.split(' ').last().unwrap_or_default().to_string());
+    }
+    // the table's 9, 16 and 17, and the list that document 01 gives
+    let refused = |number: u32, place: usize| format!("no {number} {place}");
+    let no_points = [84, 1, 69, 84, 1, 69];
+    let nine = judge(&no_points, &RIGHT).vectors(4, 0);
+    check("9", "no 9 0", refused(nine.number, nine.place));
+    let sixteen = judge(&no_points, &RIGHT).overlap(&mut []);
+    check("16", "no 16 0", refused(sixteen.number, sixteen.place));
+    let one_square = scene::scene_bytes(&byhand::square(0, 4), &scene::Object::of_segments(scene::REGION, &[]));
+    let seventeen = judge(&one_square, &RIGHT).overlap(&mut [0; 3]);
+    check("17", "no 17 0", refused(seventeen.number, seventeen.place));
+    check("the list of e", "1 3 3 1 4 3 1", list_line(&byhand::scene_e()));
+    println!("self-test: {passed} passed, {failed} failed");
+    failed == 0
+}
+
+/// The scenes made by hand, then those of a seed: a number of them, or as many as there is time for.
+struct Run {
+    seed: u64,
+    scenes: u64,
+    until: Option<Instant>,
+}
+
+impl Run {
+    /// Asks everything under these rules; gives the first disagreement.
+    fn go(&self, rules: &Rules, by_hand: bool, tally: &mut Tally) -> Result<(), String> {
+        if by_hand {
+            for case in Case::all_by_hand() {
+                ask(&case, rules, tally)?;
+            }
+        }
+        let mut seeds = Random::new(self.seed);
+        for _ in 0..self.scenes {
+            if self.until.is_some_and(|end| Instant::now() >= end) {
+                break;
+            }
+            ask(&Case::of_seed(seeds.next()), rules, tally)?;
+        }
+        Ok(())
+    }
+}
+
+fn compare(arguments: &[&str]) -> bool {
+    let mut run = Run { seed: SEED, scenes: SCENES, until: None };
+    let mut mistake: Option<&Mistake> = None;
+    let mut fixed = true;
+    let mut seed_given = false;
+    for pair in arguments.chunks(2) {
+        match *pair {
+            ["--scenes", n] => run.scenes = number(n),
+            ["--seed", n] => (run.seed, seed_given) = (number(n), true),
+            ["--seconds", n] => {
+                fixed = false;
+                run.until = Some(Instant::now() + Duration::from_secs(number(n)));
+                run.scenes = u64::MAX;
+            }
+            ["--mistake", name] => mistake = Some(MISTAKES.iter().find(|m| m.name == name).unwrap_or_else(|| usage())),
+            _ => usage(),
+        }
+    }
+    if !fixed && !seed_given {
+        run.seed = std::time::SystemTime::now().duration_since(std::time::UNIX_EPOCH).map_or(0, |since| since.as_nanos() as u64);
+    }
+    println!("comparing with {}, seed {}", library::NAME, run.seed);
+    if let Some(mistake) = mistake {
+        println!("with a mistake put into the reference: {}", mistake.says);
+    }
+    let start = Instant::now();
+    let mut tally = Tally::default();
+    let outcome = run.go(mistake.map_or(&RIGHT, |m| &m.rules), true, &mut tally);
+    let wrong = tally.report(fixed);
+    wrong.iter().for_each(|what| println!("WRONG: {what}"));
+    if let Err(what) = &outcome {
+        println!("{what}");
+    }
+    println!("compare: {} in {:.1} s", if outcome.is_ok() { "all answers agree" } else { "DISAGREEMENT" }, start.elapsed().as_secs_f64());
+    outcome.is_ok() && wrong.is_empty()
+}
+
+/// Runs every mistake over random scenes alone until it is caught.
+fn all_mistakes() -> bool {
+    println!("mistakes put into the reference, compared with {}", library::NAME);
+    let mut caught_all = true;
+    for mistake in &MISTAKES {
+        let mut tally = Tally::default();
+        let run = Run { seed: SEED, scenes: SCENES_PER_MISTAKE, until: None };
+        let outcome = run.go(&mistake.rules, false, &mut tally);
+        let verdict = match outcome {
+            Err(_) => format!("caught at scene {}", tally.scenes),
+            Ok(()) => format!("NOT CAUGHT in {} scenes", tally.scenes),
+        };
+        caught_all &= verdict.starts_with("caught");
+        println!("{:20} {} ({})", mistake.name, verdict, mistake.says);
+    }
+    println!("mistakes: {}", if caught_all { "all caught" } else { "NOT ALL CAUGHT" });
+    caught_all
 }

@@ -234,10 +234,17 @@ fn line_region(random: &mut Random, plan: &Plan) -> [Vec<bool>; 2] {
     [line, region]
 }
 
-/// Every ring in neither region, in F, in G or in both.
+/// Every ring in neither region, in F, in G or in both; or one region before a node and the other after it, which meet there at most.
 fn region_region(random: &mut Random, plan: &Plan) -> [Vec<bool>; 2] {
     let weights = random.weights(4);
-    let classes: Vec<usize> = plan.rings.iter().map(|_| random.weighted(&weights)).collect();
+    let mut classes: Vec<usize> = plan.rings.iter().map(|_| random.weighted(&weights)).collect();
+    if random.once_in(6) && !plan.nodes.is_empty() {
+        let (node, before) = (random.pick(&plan.nodes), random.between(1, 2) as usize);
+        for (ring, edges) in plan.rings.iter().enumerate() {
+            let all = |test: fn(&Point, &Point) -> bool| edges.iter().all(|e| test(&plan.segment(*e).left, &node) && test(&plan.segment(*e).right, &node));
+            classes[ring] = if all(|p, q| p <= q) { before } else if all(|p, q| p >= q) { 3 - before } else { 0 };
+        }
+    }
     [1, 2].map(|bit| plan.outline(|ring| classes[ring] & bit != 0))
 }
 

@@ -57,7 +57,7 @@ pub const MISTAKES: [Mistake; 13] = [
     Mistake {
         name: "exterior-boundary",
         says: "exterior with boundary is yes when G is empty",
-        rules: Rules { spoil: |j| j.cells[2][1] |= j.is_taken() && j.empty.1, ..RIGHT },
+        rules: Rules { spoil: |j| j.cells[2][1] |= j.is_taken() && j.g.is_empty(), ..RIGHT },
     },
     Mistake {
         name: "refuse-all",
