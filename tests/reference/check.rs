@@ -12,14 +12,14 @@ pub fn types(f: &Object, g: &Object) -> Option<Refusal> {
 
 /// Conditions 10 to 15: the first of them at fault.
 pub fn later(f: &Object, g: &Object, rules: &Rules) -> Option<Refusal> {
-    let per_object: [(u32, &dyn Fn(&Object) -> Option<usize>); 5] =
-        [(10, &order), (11, &partner), (12, &touch), (13, &odd_end), (14, &|object| wrong_ia(object, rules))];
-    for (number, place_in) in per_object {
-        if let Some(place) = place_in(f).or_else(|| place_in(g)) {
-            return Some(Refusal { number, place });
-        }
-    }
-    crossing(f, g).map(|place| Refusal { number: 15, place })
+    let either =
+        |number: u32, place_in: &dyn Fn(&Object) -> Option<usize>| place_in(f).or_else(|| place_in(g)).map(|place| Refusal { number, place });
+    either(10, &order)
+        .or_else(|| either(11, &partner))
+        .or_else(|| either(12, &touch))
+        .or_else(|| either(13, &odd_end))
+        .or_else(|| either(14, &|object| wrong_ia(object, rules)))
+        .or_else(|| crossing(f, g).map(|place| Refusal { number: 15, place }))
 }
 
 fn halves(object: &Object) -> impl Iterator<Item = (usize, &Half)> {

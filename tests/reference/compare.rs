@@ -34,9 +34,9 @@ impl Case {
         let choice = random.below(1600);
         let (f, g) = if choice < 4 { full(&mut random, kinds) } else { small(&mut random, kinds) };
         let (bytes, must_be_taken) = match choice {
-            0 | 10..=449 => (damaged(&mut random, &f, &g), false),
-            450..=549 => (scene_bytes(&f, &small(&mut random, kinds).1), false),
-            550..=589 => (noise(&mut random), false),
+            0 | 10..=479 => (damaged(&mut random, &f, &g), false),
+            480..=619 => (scene_bytes(&f, &small(&mut random, kinds).1), false),
+            620..=649 => (noise(&mut random), false),
             _ => (scene_bytes(&f, &g), true),
         };
         Case { from: format!("seed {seed}"), bytes, must_be_taken, seed }
@@ -92,7 +92,7 @@ fn ask_one(bytes: &[u8], judgement: &Judgement, random: &mut Random, tally: &mut
         }
     }
 
-    let cells = library::cells(scene.inside());
+    let cells = library::cells(scene.inside())?;
     agree("cells", &judgement.cells(), &cells)?;
     scene.is_unchanged("the scene, after cells")?;
     tally.questions += 1;

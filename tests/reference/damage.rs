@@ -8,7 +8,8 @@ use crate::scene::{half_record, point_record, Half, Object, END, LINE, LINE_HALF
 
 pub fn damaged(random: &mut Random, f: &Object, g: &Object) -> Vec<u8> {
     let mut objects = [f.clone(), g.clone()];
-    let (in_objects, in_records, in_bytes) = random.pick(&[(1, 0, 0), (1, 0, 0), (2, 0, 0), (0, 1, 0), (0, 2, 0), (0, 0, 1), (1, 1, 0), (1, 0, 1), (0, 1, 1)]);
+    let (in_objects, in_records, in_bytes) =
+        random.pick(&[(1, 0, 0), (1, 0, 0), (2, 0, 0), (0, 1, 0), (0, 2, 0), (0, 0, 1), (1, 1, 0), (1, 0, 1), (0, 1, 1)]);
     for _ in 0..in_objects {
         damage_object(random, &mut objects);
     }
@@ -92,7 +93,7 @@ fn drop_segment(object: &mut Object, segment: Segment) {
 
 fn damage_object(random: &mut Random, objects: &mut [Object; 2]) {
     let everywhere: Vec<Point> = objects.iter().flat_map(|o| o.halves.iter().flat_map(|h| [h.segment.left, h.segment.right])).collect();
-    let which = random.below(2);
+    let which = if objects[0].kind == POINTS && !random.once_in(4) { 1 } else { random.below(2) };
     if random.once_in(12) {
         objects.swap(0, 1);
         return;
@@ -117,7 +118,7 @@ fn damage_object(random: &mut Random, objects: &mut [Object; 2]) {
         return;
     };
     let s = half.segment;
-    match random.below(12) {
+    match random.below(13) {
         0 => drop_segment(object, s),
         1 | 2 => {
             let (p, q) = (end(random), end(random));
@@ -156,7 +157,7 @@ fn damage_object(random: &mut Random, objects: &mut [Object; 2]) {
             }
         }
         8 => object.halves[some].left = !half.left,
-        9 | 10 => {
+        9..=11 => {
             // another object of its kind on top, not split against it
             let (_, other) = small(random, (object.kind, object.kind));
             let segments = [object.segments(), other.segments()].concat();

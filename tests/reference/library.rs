@@ -55,10 +55,12 @@ mod linked {
         VectorsAnswer { number: answer.number, place: answer.place, f: answer.f, g: answer.g }
     }
 
-    pub fn cells(scene: &[u8]) -> CellsAnswer {
+    pub fn cells(scene: &[u8]) -> Result<CellsAnswer, String> {
         let answer = unsafe { karvoiss_cells(start(scene), scene.len()) };
-        assert!(answer.cell.iter().flatten().all(|cell| *cell <= 1), "a cell is neither 0 nor 1: {:?}", answer.cell);
-        CellsAnswer { number: answer.number, place: answer.place, cell: answer.cell.map(|row| row.map(|cell| cell == 1)) }
+        if answer.cell.iter().flatten().any(|cell| *cell > 1) {
+            return Err(format!("cells: one is neither 0 nor 1: {:?}", answer.cell));
+        }
+        Ok(CellsAnswer { number: answer.number, place: answer.place, cell: answer.cell.map(|row| row.map(|cell| cell == 1)) })
     }
 
     pub fn overlap(scene: &[u8], list: &mut [u8]) -> OverlapAnswer {
@@ -78,8 +80,8 @@ mod stand_in {
         judge(scene, &RIGHT).vectors(want_f, want_g)
     }
 
-    pub fn cells(scene: &[u8]) -> CellsAnswer {
-        judge(scene, &RIGHT).cells()
+    pub fn cells(scene: &[u8]) -> Result<CellsAnswer, String> {
+        Ok(judge(scene, &RIGHT).cells())
     }
 
     pub fn overlap(scene: &[u8], list: &mut [u8]) -> OverlapAnswer {

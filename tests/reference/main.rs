@@ -1,5 +1,8 @@
 //! The reference: a program written apart from the crates, which answers the same questions and is compared with them.
 //! It has its own reader, its own checks, flags by brute force and cells from sample points; it shares nothing with what it checks.
+//!
+//! Alone:            rustc -O --edition 2021 -o target/reference/reference tests/reference/main.rs
+//! With the archive: the same with --cfg library -L native=DIR -l static=karvoiss, DIR being where libkarvoiss.a is.
 
 mod byhand;
 mod cells;
@@ -22,7 +25,7 @@ mod tally;
 
 use compare::{ask, Case};
 use judge::judge;
-use mistakes::{Mistake, Rules, MISTAKES, RIGHT};
+use mistakes::{Rules, MISTAKES, RIGHT};
 use random::Random;
 use std::io::{Read, Write};
 use std::process::exit;
@@ -34,9 +37,12 @@ const USAGE: &str = "usage: reference answer < scene    the line that explore wr
        reference draw < scene      the scene as bytes, words and a drawing
        reference scene SEED        writes the scene that a seed names
        reference self              the scenes made by hand against their known answers
-       reference compare [--scenes N] [--seed N] [--mistake NAME]     the fixed run; fails if it reaches too little
-       reference compare --seconds N [--seed N]                       fresh seeds for so long
-       reference compare --mistakes                                   every mistake must be caught";
+       reference compare             the fixed run: all must agree, and it must reach enough
+           --scenes N, --seed N      another number of scenes, another seed
+           --seconds N               fresh seeds for so long instead
+           --mistake NAME            with a mistake in the reference: must disagree
+           --trace                   names each scene before it is asked about
+       reference compare --mistakes  runs every mistake: each must be caught";
 
 /// The fixed run: its seed, its scenes, and the scenes in which a mistake must have been caught.
 const SEED: u64 = 1;
@@ -109,7 +115,7 @@ fn self_test() -> bool {
     }
     for drawn in byhand::drawn_matrices() {
         let line = judge(&drawn.bytes(), &RIGHT).line();
-        check("a picture", drawn.matrix, line.split(' ').last().unwrap_or_default().to_string());
+        check("a picture", drawn.matrix, line.rsplit(' ').next().unwrap_or_default().to_string());
     }
     // the table's 9, 16 and 17, and the list that document 01 gives
     let refused = |number: u32, place: usize| format!("no {number} {place}");
@@ -126,61 +132,65 @@ fn self_test() -> bool {
     failed == 0
 }
 
-/// The scenes made by hand, then those of a seed: a number of them, or as many as there is time for.
+/// A comparison: the scenes made by hand, then those of a seed, a number of them or as many as there is time for.
 struct Run {
+    rules: Rules,
+    by_hand: bool,
     seed: u64,
     scenes: u64,
     until: Option<Instant>,
+    trace: bool,
 }
 
 impl Run {
-    /// Asks everything under these rules; gives the first disagreement.
-    fn go(&self, rules: &Rules, by_hand: bool, tally: &mut Tally) -> Result<(), String> {
-        if by_hand {
-            for case in Case::all_by_hand() {
-                ask(&case, rules, tally)?;
-            }
-        }
+    fn go(&self, tally: &mut Tally) -> Result<(), String> {
+        let by_hand = if self.by_hand { Case::all_by_hand() } else { Vec::new() };
         let mut seeds = Random::new(self.seed);
-        for _ in 0..self.scenes {
+        let of_seed = (0..self.scenes).map(|_| Case::of_seed(seeds.next()));
+        for case in by_hand.into_iter().chain(of_seed) {
             if self.until.is_some_and(|end| Instant::now() >= end) {
                 break;
             }
-            ask(&Case::of_seed(seeds.next()), rules, tally)?;
+            if self.trace {
+                eprintln!("{}", case.from);
+            }
+            ask(&case, &self.rules, tally)?;
         }
         Ok(())
     }
 }
 
 fn compare(arguments: &[&str]) -> bool {
-    let mut run = Run { seed: SEED, scenes: SCENES, until: None };
-    let mut mistake: Option<&Mistake> = None;
-    let mut fixed = true;
-    let mut seed_given = false;
-    for pair in arguments.chunks(2) {
-        match *pair {
-            ["--scenes", n] => run.scenes = number(n),
-            ["--seed", n] => (run.seed, seed_given) = (number(n), true),
-            ["--seconds", n] => {
-                fixed = false;
-                run.until = Some(Instant::now() + Duration::from_secs(number(n)));
+    let start = Instant::now();
+    let mut run = Run { rules: RIGHT, by_hand: true, seed: SEED, scenes: SCENES, until: None, trace: false };
+    let mut seed = None;
+    let mut arguments = arguments.iter();
+    while let Some(argument) = arguments.next() {
+        let mut value = || arguments.next().unwrap_or_else(|| usage());
+        match *argument {
+            "--scenes" => run.scenes = number(value()),
+            "--seed" => seed = Some(number(value())),
+            "--seconds" => {
+                run.until = Some(start + Duration::from_secs(number(value())));
                 run.scenes = u64::MAX;
+                run.seed = std::time::SystemTime::now().duration_since(std::time::UNIX_EPOCH).map_or(0, |since| since.as_nanos() as u64);
             }
-            ["--mistake", name] => mistake = Some(MISTAKES.iter().find(|m| m.name == name).unwrap_or_else(|| usage())),
+            "--mistake" => {
+                let name = value();
+                let mistake = MISTAKES.iter().find(|mistake| mistake.name == *name).unwrap_or_else(|| usage());
+                println!("with a mistake put into the reference: {}", mistake.says);
+                run.rules = mistake.rules;
+            }
+            "--trace" => run.trace = true,
             _ => usage(),
         }
     }
-    if !fixed && !seed_given {
-        run.seed = std::time::SystemTime::now().duration_since(std::time::UNIX_EPOCH).map_or(0, |since| since.as_nanos() as u64);
-    }
+    run.seed = seed.unwrap_or(run.seed);
     println!("comparing with {}, seed {}", library::NAME, run.seed);
-    if let Some(mistake) = mistake {
-        println!("with a mistake put into the reference: {}", mistake.says);
-    }
-    let start = Instant::now();
     let mut tally = Tally::default();
-    let outcome = run.go(mistake.map_or(&RIGHT, |m| &m.rules), true, &mut tally);
-    let wrong = tally.report(fixed);
+    let outcome = run.go(&mut tally);
+    // a run that was cut short, by a disagreement or by the clock, need not have reached everything
+    let wrong = tally.report(outcome.is_ok() && run.until.is_none());
     wrong.iter().for_each(|what| println!("WRONG: {what}"));
     if let Err(what) = &outcome {
         println!("{what}");
@@ -195,14 +205,11 @@ fn all_mistakes() -> bool {
     let mut caught_all = true;
     for mistake in &MISTAKES {
         let mut tally = Tally::default();
-        let run = Run { seed: SEED, scenes: SCENES_PER_MISTAKE, until: None };
-        let outcome = run.go(&mistake.rules, false, &mut tally);
-        let verdict = match outcome {
-            Err(_) => format!("caught at scene {}", tally.scenes),
-            Ok(()) => format!("NOT CAUGHT in {} scenes", tally.scenes),
-        };
-        caught_all &= verdict.starts_with("caught");
-        println!("{:20} {} ({})", mistake.name, verdict, mistake.says);
+        let run = Run { rules: mistake.rules, by_hand: false, seed: SEED, scenes: SCENES_PER_MISTAKE, until: None, trace: false };
+        let caught = run.go(&mut tally).is_err();
+        let verdict = format!("{} {} scenes", if caught { "caught after" } else { "NOT CAUGHT in" }, tally.scenes);
+        caught_all &= caught;
+        println!("{:20} {verdict} ({})", mistake.name, mistake.says);
     }
     println!("mistakes: {}", if caught_all { "all caught" } else { "NOT ALL CAUGHT" });
     caught_all

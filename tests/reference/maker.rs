@@ -2,7 +2,7 @@
 //! relations come up: nothing shared, everything shared, one inside the other, closed lines, points on every boundary point.
 
 use crate::plan::Plan;
-use crate::plane::{inside, turn, Fraction, Point, Segment};
+use crate::plane::{inside, turn, Fraction, Point, Segment, LIMIT};
 use crate::random::Random;
 use crate::scene::{Object, LINE, MOST, POINTS, REGION};
 
@@ -86,8 +86,18 @@ fn full_outline(random: &mut Random, plan: &Plan) -> Vec<usize> {
     (0..edges.len()).filter(|e| edges[*e]).collect()
 }
 
+/// Weights of the classes neither, F, G, both; about half are 0, but neither object is left out.
+fn class_weights(random: &mut Random) -> [usize; 4] {
+    loop {
+        let weights: [usize; 4] = std::array::from_fn(|_| random.pick(&[0, 0, 0, 1, 2, 6]));
+        if weights[1] + weights[3] > 0 && weights[2] + weights[3] > 0 {
+            return weights;
+        }
+    }
+}
+
 fn points_points(random: &mut Random, plan: &Plan) -> (Object, Object) {
-    let weights = random.weights(4);
+    let weights = class_weights(random);
     let (mut of_f, mut of_g) = (Vec::new(), Vec::new());
     for p in &plan.nodes {
         let class = random.weighted(&weights);
@@ -106,10 +116,13 @@ fn points_near(random: &mut Random, plan: &Plan, g: &Object) -> Object {
     let segments = g.segments();
     let mut places = plan.nodes.clone();
     places.extend(segments.iter().filter_map(whole_midpoint));
-    places.extend((0..4).map(|_| {
-        let p = random.pick(&[(0, 0), (1, 1), (3, 2)]);
-        plan.nodes.first().map_or(p, |q| ((p.0 + q.0).min(crate::plane::LIMIT), (p.1 + q.1).min(crate::plane::LIMIT)))
-    }));
+    // a step away from the nodes, which is mostly off the segments
+    for node in &plan.nodes {
+        let p = (node.0 + random.between(-1, 1), node.1 + random.between(-1, 1));
+        if p.0.abs() <= LIMIT && p.1.abs() <= LIMIT {
+            places.push(p);
+        }
+    }
     let chances: Vec<usize> = (0..5).map(|_| random.pick(&[0, 0, 1, 2, 3, 3])).collect();
     let taken = |p: &Point| {
         let ends_here = segments.iter().filter(|s| s.has_end(*p)).count();
@@ -139,7 +152,7 @@ fn some_region(random: &mut Random, plan: &Plan) -> Vec<bool> {
 
 /// Every edge in neither line, in F, in G or in both: edge by edge, or some strokes of edges.
 fn line_line(random: &mut Random, plan: &Plan) -> [Vec<bool>; 2] {
-    let weights = random.weights(4);
+    let weights = class_weights(random);
     let mut classes: Vec<usize> = vec![0; plan.edges.len()];
     if random.once_in(3) {
         classes.iter_mut().for_each(|class| *class = random.weighted(&weights));
@@ -165,15 +178,13 @@ fn line_line(random: &mut Random, plan: &Plan) -> [Vec<bool>; 2] {
 
 /// Leaves out edges until the lines share no edge and no node that is in neither boundary.
 fn part_interiors(random: &mut Random, plan: &Plan, lines: &mut [Vec<bool>; 2]) {
-    let edges_at = |line: &[bool], node: usize| (0..line.len()).filter(|e| line[*e] && (plan.edges[*e].0 == node || plan.edges[*e].1 == node)).collect();
-    for e in 0..plan.edges.len() {
-        if lines[0][e] && lines[1][e] {
-            lines[random.below(2)][e] = false;
-        }
+    let shared: Vec<usize> = (0..plan.edges.len()).filter(|e| lines[0][*e] && lines[1][*e]).collect();
+    for e in shared {
+        lines[random.below(2)][e] = false;
     }
     for node in 0..plan.nodes.len() {
         loop {
-            let here: [Vec<usize>; 2] = [edges_at(&lines[0], node), edges_at(&lines[1], node)];
+            let here = [0, 1].map(|object| plan.edges_at(node).filter(|e| lines[object][*e]).collect::<Vec<_>>());
             if here[0].len() < 2 || here[1].len() < 2 {
                 break;
             }
@@ -194,7 +205,7 @@ fn stroke(random: &mut Random, plan: &Plan) -> Vec<usize> {
     }
     let mut node = plan.edges[random.below(plan.edges.len())].0;
     for _ in 0..random.between(1, 4) {
-        let onward: Vec<usize> = (0..plan.edges.len()).filter(|e| !path.contains(e) && (plan.edges[*e].0 == node || plan.edges[*e].1 == node)).collect();
+        let onward: Vec<usize> = plan.edges_at(node).filter(|e| !path.contains(e)).collect();
         if onward.is_empty() {
             break;
         }
@@ -236,13 +247,20 @@ fn line_region(random: &mut Random, plan: &Plan) -> [Vec<bool>; 2] {
 
 /// Every ring in neither region, in F, in G or in both; or one region before a node and the other after it, which meet there at most.
 fn region_region(random: &mut Random, plan: &Plan) -> [Vec<bool>; 2] {
-    let weights = random.weights(4);
+    let weights = class_weights(random);
     let mut classes: Vec<usize> = plan.rings.iter().map(|_| random.weighted(&weights)).collect();
     if random.once_in(6) && !plan.nodes.is_empty() {
         let (node, before) = (random.pick(&plan.nodes), random.between(1, 2) as usize);
         for (ring, edges) in plan.rings.iter().enumerate() {
-            let all = |test: fn(&Point, &Point) -> bool| edges.iter().all(|e| test(&plan.segment(*e).left, &node) && test(&plan.segment(*e).right, &node));
-            classes[ring] = if all(|p, q| p <= q) { before } else if all(|p, q| p >= q) { 3 - before } else { 0 };
+            let all =
+                |test: fn(&Point, &Point) -> bool| edges.iter().all(|e| test(&plan.segment(*e).left, &node) && test(&plan.segment(*e).right, &node));
+            classes[ring] = if all(|p, q| p <= q) {
+                before
+            } else if all(|p, q| p >= q) {
+                3 - before
+            } else {
+                0
+            };
         }
     }
     [1, 2].map(|bit| plan.outline(|ring| classes[ring] & bit != 0))
@@ -257,9 +275,9 @@ fn random_outline(random: &mut Random, plan: &Plan) -> Vec<bool> {
 /// Leaves out edges with an end that no other edge has, until there are none: the line is closed then.
 fn cut_loose_ends(plan: &Plan, line: &mut [bool]) {
     loop {
-        let degree = |node: usize| plan.edges.iter().zip(line.iter()).filter(|((p, q), taken)| **taken && (*p == node || *q == node)).count();
-        let Some(loose) = (0..line.len()).find(|e| line[*e] && (degree(plan.edges[*e].0) == 1 || degree(plan.edges[*e].1) == 1)) else { return };
-        line[loose] = false;
+        let loose = |node: usize| plan.edges_at(node).filter(|e| line[*e]).count() == 1;
+        let Some(e) = (0..line.len()).find(|e| line[*e] && (loose(plan.edges[*e].0) || loose(plan.edges[*e].1))) else { return };
+        line[e] = false;
     }
 }
 

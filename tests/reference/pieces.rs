@@ -66,7 +66,8 @@ impl Pieces {
     fn beside(&self, s: &Segment, seen: impl Fn(Point) -> Point) -> (Fraction, Fraction) {
         let middle = halfway(seen(s.left), seen(s.right));
         // heights, as numerator and denominator, of all else on the upright line through the midpoint
-        let mut heights: Vec<(i128, i128)> = self.points.iter().map(|p| seen(*p)).filter(|p| 2 * p.0 as i128 == middle.x).map(|p| (p.1 as i128, 1)).collect();
+        let mut heights: Vec<(i128, i128)> =
+            self.points.iter().map(|p| seen(*p)).filter(|p| 2 * p.0 as i128 == middle.x).map(|p| (p.1 as i128, 1)).collect();
         for other in self.segments.iter().filter(|t| *t != s) {
             let (p, q) = (seen(other.left).min(seen(other.right)), seen(other.left).max(seen(other.right)));
             let (x, y, last_x, last_y) = (p.0 as i128, p.1 as i128, q.0 as i128, q.1 as i128);

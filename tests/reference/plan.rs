@@ -1,6 +1,6 @@
 //! Random planar graphs on whole-number points: the common ground from whose edges both objects of a scene are chosen, so that it is split.
 
-use crate::plane::{Point, Segment, LIMIT};
+use crate::plane::{turn, Point, Segment, LIMIT};
 use crate::random::Random;
 
 /// No two edges share a point that is not an end of both. Every set of edges with even ends, hence every region, is a sum of some rings.
@@ -14,6 +14,10 @@ impl Plan {
     pub fn segment(&self, edge: usize) -> Segment {
         let (p, q) = self.edges[edge];
         Segment::between(self.nodes[p], self.nodes[q])
+    }
+
+    pub fn edges_at(&self, node: usize) -> impl Iterator<Item = usize> + '_ {
+        (0..self.edges.len()).filter(move |e| self.edges[*e].0 == node || self.edges[*e].1 == node)
     }
 
     /// The edges that belong to an odd number of the chosen rings.
@@ -115,17 +119,18 @@ impl Plan {
         plan
     }
 
-    /// A hub with spokes to the corners of a square's outline around it, and the outline.
+    /// A hub with spokes to points around it, or to points next to each other at the far end of the range, and the edges between those.
     fn fan(random: &mut Random) -> Plan {
-        let rim = [(-2, -2), (0, -3), (2, -2), (3, 0), (2, 2), (0, 3), (-2, 2), (-3, 0)];
-        let mut plan = Plan { nodes: vec![(0, 0)], edges: Vec::new(), rings: Vec::new() };
+        let around = [(-2, -2), (0, -3), (2, -2), (3, 0), (2, 2), (0, 3), (-2, 2), (-3, 0)];
+        let far: [Point; 8] = std::array::from_fn(|i| (LIMIT, i as i64 - 4));
+        let (hub, rim) = if random.once_in(4) { ((-LIMIT, 0), far) } else { ((0, 0), around) };
         let kept: Vec<Point> = rim.into_iter().filter(|_| !random.once_in(4)).collect();
+        let mut plan = Plan { nodes: vec![hub], edges: (0..kept.len()).map(|i| (0, i + 1)).collect(), rings: Vec::new() };
         plan.nodes.extend(&kept);
-        plan.edges.extend((0..kept.len()).map(|i| (0, i + 1)));
         for i in 0..kept.len() {
-            // corners less than half a turn apart: the triangle with the hub stays clear of the others
+            // less than half a turn apart: the triangle with the hub stays clear of the others
             let next = (i + 1) % kept.len();
-            if crate::plane::turn((0, 0), kept[i], kept[next]) > 0 {
+            if turn(hub, kept[i], kept[next]) > 0 {
                 plan.rings.push(vec![i, next, plan.edges.len()]);
                 plan.edges.push((i + 1, next + 1));
             }

@@ -45,12 +45,17 @@ impl Random {
             return 0;
         }
         let mut left = self.below(total);
-        weights.iter().position(|w| if left < *w { true } else { left -= w; false }).unwrap()
-    }
-
-    /// n weights, about half of them 0.
-    pub fn weights(&mut self, n: usize) -> Vec<usize> {
-        (0..n).map(|_| self.pick(&[0, 0, 0, 1, 2, 6])).collect()
+        weights
+            .iter()
+            .position(|w| {
+                if left < *w {
+                    true
+                } else {
+                    left -= w;
+                    false
+                }
+            })
+            .unwrap()
     }
 
     pub fn shuffle<T>(&mut self, all: &mut [T]) {

@@ -54,9 +54,7 @@ impl Half {
     /// Document 01's order of halfsegments; equal for those that it does not order.
     pub fn order(&self, other: &Half) -> Ordering {
         let here = self.dominating();
-        here.cmp(&other.dominating())
-            .then(self.left.cmp(&other.left))
-            .then_with(|| 0.cmp(&turn(here, self.far(), other.far())))
+        here.cmp(&other.dominating()).then(self.left.cmp(&other.left)).then_with(|| 0.cmp(&turn(here, self.far(), other.far())))
     }
 }
 
@@ -149,7 +147,19 @@ fn coordinate(bytes: &[u8], at: usize) -> i64 {
     }
 }
 
-fn points_of(body: &[u8], count: usize) -> Vec<Point> {
+/// The body's length, if the kind is one of the five.
+pub fn body_length(kind: u8) -> Option<usize> {
+    match kind {
+        TYPE => Some(1),
+        POINT => Some(8),
+        LINE_HALF => Some(17),
+        REGION_HALF => Some(18),
+        END => Some(0),
+        _ => None,
+    }
+}
+
+pub fn points_of(body: &[u8], count: usize) -> Vec<Point> {
     (0..count).map(|i| (coordinate(body, 8 * i), coordinate(body, 8 * i + 4))).collect()
 }
 
@@ -179,12 +189,7 @@ fn read_object(bytes: &[u8], start: usize) -> Result<(Object, usize), Refusal> {
         if !first && object.places.len() == MOST {
             return refuse(6, at);
         }
-        let length = match kind {
-            TYPE => 1,
-            POINT => 8,
-            LINE_HALF => 17,
-            _ => 18,
-        };
+        let length = body_length(kind).unwrap_or(0);
         let Some(body) = bytes.get(at + 1..at + 1 + length) else { return refuse(1, at) };
         if first {
             if !(1..=3).contains(&body[0]) {

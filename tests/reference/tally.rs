@@ -76,7 +76,10 @@ impl Tally {
     /// Prints the counts; gives what is wrong with them. Too few of anything is wrong only in a run that is `complete`.
     pub fn report(&self, complete: bool) -> Vec<String> {
         let mut wrong = Vec::new();
-        println!("{} scenes, {} taken ({} with 1,024 elements, {} at the limits), {} questions", self.scenes, self.taken, self.full_size, self.at_limit, self.questions);
+        println!(
+            "{} scenes, {} taken ({} with 1,024 elements, {} at the limits), {} questions",
+            self.scenes, self.taken, self.full_size, self.at_limit, self.questions
+        );
         let times = |number| *self.refusals.get(&number).unwrap_or(&0);
         println!("refusals: {}", (1..=17).map(|number| format!("{}: {}", number, times(number))).collect::<Vec<_>>().join("  "));
         for number in 1..=17 {
