@@ -119,11 +119,10 @@ impl Plan {
         plan
     }
 
-    /// A hub with spokes to points around it, or to points next to each other at the far end of the range, and the edges between those.
+    /// A hub with spokes to points around it, or to points on a line across the whole range, and the edges between those.
     fn fan(random: &mut Random) -> Plan {
         let around = [(-2, -2), (0, -3), (2, -2), (3, 0), (2, 2), (0, 3), (-2, 2), (-3, 0)];
-        let far: [Point; 8] = std::array::from_fn(|i| (LIMIT, i as i64 - 4));
-        let (hub, rim) = if random.once_in(4) { ((-LIMIT, 0), far) } else { ((0, 0), around) };
+        let (hub, rim) = if random.once_in(3) { Plan::slivers(random) } else { ((0, 0), around) };
         let kept: Vec<Point> = rim.into_iter().filter(|_| !random.once_in(4)).collect();
         let mut plan = Plan { nodes: vec![hub], edges: (0..kept.len()).map(|i| (0, i + 1)).collect(), rings: Vec::new() };
         plan.nodes.extend(&kept);
@@ -136,6 +135,16 @@ impl Plan {
             }
         }
         plan
+    }
+
+    /// A hub in a corner of the range and points in a row: the triangle of the hub and two neighbours is as thin as whole numbers allow.
+    fn slivers(random: &mut Random) -> (Point, [Point; 8]) {
+        let hub = (-LIMIT, -LIMIT);
+        // the step from point to point, and the first of them beside the line of steps, the cross product of the two being 1
+        let (step, first) = random.pick(&[((1, 1), (1, 0)), ((2, 1), (1, 0)), ((3, 2), (2, 1)), ((1, 2), (1, 1)), ((0, 1), (1, 0))]);
+        let steps = random.pick(&[0, 500, 2 * LIMIT / 3 - 10]);
+        let wide = if step == (0, 1) { 2 * LIMIT } else { first.0 };
+        (hub, std::array::from_fn(|i| (hub.0 + wide + (steps + i as i64) * step.0, hub.1 + first.1 + (steps + i as i64) * step.1)))
     }
 
     /// Boxes beside and inside one another, none touching.
@@ -218,6 +227,8 @@ impl Plan {
 
     /// Moves the whole plan: turned, sheared, stretched or pushed to the limits of the range.
     fn place(&mut self, random: &mut Random) {
+        let (swapped, mirrored) = (random.once_in(4), random.pick(&[(1, 1), (1, 1), (-1, 1), (1, -1), (-1, -1)]));
+        self.move_by(|p| if swapped { (mirrored.0 * p.1, mirrored.1 * p.0) } else { (mirrored.0 * p.0, mirrored.1 * p.1) });
         if random.once_in(2) {
             let matrix = loop {
                 let m: [i64; 4] = std::array::from_fn(|_| random.between(-2, 2));
