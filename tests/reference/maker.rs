@@ -38,7 +38,7 @@ pub fn small(random: &mut Random, kinds: (u8, u8)) -> (Object, Object) {
     (f, g)
 }
 
-/// A scene whose objects have 1,024 elements each, but for one in four that is small beside a full one.
+/// A scene whose objects have 1,024 elements each, but for a line now and then that is small beside a full object.
 pub fn full(random: &mut Random, kinds: (u8, u8)) -> (Object, Object) {
     let plan = Plan::large(random);
     let mut fill = |kind: u8| {

@@ -1,5 +1,5 @@
 //! The rules that the reference goes by, and the ways of getting them wrong that document 01 names: its four mistakes to be shut out and
-//! its five imitations, and traps of its wording. A comparison under any of them must disagree.
+//! its five imitations, some of them in two forms. A comparison under any of them must disagree.
 
 use crate::flags::{common_dominating_point, line_boundary};
 use crate::judge::Judgement;
@@ -36,7 +36,7 @@ pub struct Mistake {
     pub rules: Rules,
 }
 
-/// Every mistake, by the name that `--mistake` takes.
+/// Every mistake, by the name that `--mistake` takes: the four, then from "refuse-all" on the imitations.
 pub const MISTAKES: [Mistake; 13] = [
     Mistake {
         name: "next-halfsegment",
