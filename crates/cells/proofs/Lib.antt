@@ -8,4 +8,3 @@ pub mod LineLine
 pub mod LineRegion
 pub mod RegionRegion
 pub mod Theorem
-pub mod Taken
