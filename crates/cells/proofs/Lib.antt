@@ -8,3 +8,4 @@ pub mod LineLine
 pub mod LineRegion
 pub mod RegionRegion
 pub mod Theorem
+pub mod Taken

@@ -46,31 +46,31 @@ row m r = record { c = getD m (index r) [] }
 -- number and values of every case: a taken scene has number 0; "Every refusal has vectors, .. and all other results 0, cells no"
 abbrev pub takenAs : List ℕ → Scene → Explored
 takenAs s sc =
-    record
-      { number = 0
-      ; place = 0
-      ; f = shapeNumber (sc .f .shape)
-      ; g = shapeNumber (sc .g .shape)
-      ; v = wholeVectorF s sc
-      ; w = wholeVectorG s sc
-      ; interior = row (sceneMatrix s sc) interior
-      ; boundary = row (sceneMatrix s sc) boundary
-      ; exterior = row (sceneMatrix s sc) exterior
-      }
+    record {
+      number = 0;
+      place = 0;
+      f = shapeNumber (sc .f .shape);
+      g = shapeNumber (sc .g .shape);
+      v = wholeVectorF s sc;
+      w = wholeVectorG s sc;
+      interior = row (sceneMatrix s sc) interior;
+      boundary = row (sceneMatrix s sc) boundary;
+      exterior = row (sceneMatrix s sc) exterior;
+    }
 
 abbrev pub refusedAs : Refusal → Explored
 refusedAs r =
-    record
-      { number = r .number
-      ; place = r .place
-      ; f = 0
-      ; g = 0
-      ; v = 0
-      ; w = 0
-      ; interior = row noCells interior
-      ; boundary = row noCells boundary
-      ; exterior = row noCells exterior
-      }
+    record {
+      number = r .number;
+      place = r .place;
+      f = 0;
+      g = 0;
+      v = 0;
+      w = 0;
+      interior = row noCells interior;
+      boundary = row noCells boundary;
+      exterior = row noCells exterior;
+    }
 
 abbrev pub answered : List ℕ → CheckedScene → Explored
 answered s (CheckedScene.Taken sc) = takenAs s sc

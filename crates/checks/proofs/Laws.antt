@@ -48,7 +48,7 @@ pub in-element : (l : Layout) (i : ℕ) → i ∈ elements l → i < l .count
 in-element l i m = omega (arith, indices-in (l .count) 0 i m .1)
 
 module _ (f : ℕ → Bool) where
-  keep-in : (is : List ℕ) {i : ℕ} → i ∈ keep f is → (i ∈ is) × (f i ≡ true)
+  pub keep-in : (is : List ℕ) {i : ℕ} → i ∈ keep f is → (i ∈ is) × (f i ≡ true)
   keep-in [] m = absurd (in-nil m)
   keep-in (j ∷ is) {i} m = go (f j) refl m (λ k. keep-in is k)
     where
