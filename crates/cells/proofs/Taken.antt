@@ -26,11 +26,14 @@ use Rattle.features.specs.Flags as F
 use Rattle.features.specs.Flags.{Edge, Elements, outline, segmentsOf, flagsOfF, flagsOfG, pack}
 use Rattle.features.specs.Walk.{edges, edgeOf, pointOf, pointsOf, elementsAs, elementsOf}
 use Rattle.features.specs.Wanted.{typeOf, only, maskOfF, maskOfG, wanted, vectorOfF, vectorOfG}
+use Rattle.features.specs.declared.Vectors.{Vectors}
+use Rattle.features.specs.Vectors.{sceneVectors}
 use Rattle.features.proofs.ByElement.{outline-edges}
 use Rattle.features.proofs.Wanted.{vector-all-F, vector-all-G}
+use Rattle.cells.specs.declared.Explored.{Explored}
 use Rattle.cells.specs.Matrix.{Part, interior, boundary, exterior, Meet, matrixOf, cellAt}
 use Rattle.cells.specs.Explored as E
-use Rattle.cells.specs.Explored.{sceneMatrix, wholeVectorF, wholeVectorG, allOfF, allOfG, exploredOf, answered, cellOf, NoCellWrong}
+use Rattle.cells.specs.Explored.{sceneMatrix, wholeVectorF, wholeVectorG, allOfF, allOfG, row, takenAs, exploredOf, answered, cellOf, NoCellWrong}
 use Rattle.cells.proofs.Common.{filled, filled-of}
 use Rattle.cells.proofs.RegionRegion.{Sound}
 use Rattle.cells.proofs.Theorem.{Accepted, Good, shapeOf, isEmpty, no-cell-wrong}
@@ -199,3 +202,26 @@ unfolding exploredOf checkScene
 scene-cells s sc e r c =
     subst (λ (x : CheckedScene). T (cellOf (answered s x) r c) ↔ Meet r (C.object s (sc .f)) c (C.object s (sc .g))) (sym e)
     (subst (λ (b : Bool). T b ↔ Meet r (C.object s (sc .f)) c (C.object s (sc .g))) (sym (cell-of-rows (sceneMatrix s sc) r c)) (cells-right s sc (sound-scene [] [] s sc e) r c))
+
+pub as-explored : (s : List ℕ) (k : CheckedScene) → checkScene s ≡ k → {x : Explored} → x ≡ answered s k → (x ≡ exploredOf s) × NoCellWrong s x
+unfolding exploredOf
+as-explored s k e {x} q =
+    let p : x ≡ exploredOf s = q ∙ ap (answered s) (sym e) in
+    (p, subst (NoCellWrong s) (sym p) (scene-cells s))
+
+-- what is handed back of a scene that is taken, from its parts
+abbrev shown : ℕ → ℕ → Vectors → List (List Bool) → Explored
+shown f g both m =
+    record { number = 0; place = 0; f = f; g = g; v = both .f; w = both .g; interior = row m interior; boundary = row m boundary; exterior = row m exterior }
+
+module _ (s : List ℕ) (sc : Scene) where
+  abbrev matrixBeside : Vectors → List (List Bool)
+  matrixBeside both = matrixOf (sc .f .shape) (sc .g .shape) (both .f) (both .g) (E.isEmpty (sc .f)) (E.isEmpty (sc .g))
+
+  pub shown-taken : {mf mg f g : ℕ} {both : Vectors} {m : List (List Bool)} → mf ≡ allOfF s sc → mg ≡ allOfG s sc → both ≡ sceneVectors s sc mf mg → m ≡ matrixBeside both
+      → f ≡ shapeNumber (sc .f .shape) → g ≡ shapeNumber (sc .g .shape) → shown f g both m ≡ takenAs s sc
+  shown-taken {both = both} {m} of-f of-g v cells f g =
+      ap₂ (λ (f g : ℕ). shown f g both m) f g ∙ ap₂ (shown (shapeNumber (sc .f .shape)) (shapeNumber (sc .g .shape))) whole (cells ∙ ap matrixBeside whole)
+    where
+      whole : both ≡ sceneVectors s sc (allOfF s sc) (allOfG s sc)
+      whole = v ∙ ap₂ (sceneVectors s sc) of-f of-g

@@ -24,6 +24,8 @@ pub struct Explored {
     pub exterior: Row,
 }
 
+pub mod question;
+
 // Is the bit with this place value set in a vector?
 fn has(v: u16, unit: u16) -> bool
     requires { ⌜ 0 < unit ⌝ }

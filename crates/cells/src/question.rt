@@ -1,0 +1,63 @@
+// The cells question over a scene's bytes.
+use crate::Explored;
+use crate::Row;
+use features::masks;
+use features::question;
+use scene::CheckedScene;
+use scene::Refusal;
+use scene::Scene;
+use scene::records;
+ghost use mathlib.Core.Path.{_≡_};
+ghost use Rattle.scene.specs.declared.CheckedScene.{CheckedScene as Checked};
+ghost use Rattle.scene.specs.Conditions.{checkScene};
+ghost use Rattle.cells.specs.Explored.{takenAs, refusedAs, exploredOf, NoCellWrong};
+
+fn refused(refusal: Refusal) -> Explored
+    ensures { λ r. ⌜ r ≡ refusedAs refusal ⌝ }
+{
+    Explored {
+        number: refusal.number,
+        place: refusal.place,
+        f: 0,
+        g: 0,
+        v: 0,
+        w: 0,
+        interior: Row { c: [false; 3] },
+        boundary: Row { c: [false; 3] },
+        exterior: Row { c: [false; 3] },
+    }
+}
+
+fn taken(s: &[u8], scene: Scene) -> Explored
+    requires { ⌜ checkScene (now s) ≡ Checked.Taken scene ⌝ }
+    ensures { λ r. ⌜ r ≡ takenAs (now (s .entry)) scene ⌝ }
+{
+    let f = scene.f;
+    let g = scene.g;
+    let of_f = f.shape;
+    let of_g = g.shape;
+    let all = masks::masks_of(of_f, of_g);
+    let both = question::vectors_of(s, scene, all.f, all.g);
+    let cells = crate::matrix(of_f, of_g, both.f, both.g, f.count == 0, g.count == 0);
+    Explored {
+        number: 0,
+        place: 0,
+        f: records::shape_number(of_f),
+        g: records::shape_number(of_g),
+        v: both.f,
+        w: both.g,
+        interior: Row { c: cells[0] },
+        boundary: Row { c: cells[1] },
+        exterior: Row { c: cells[2] },
+    }
+}
+
+// What a scene's bytes say: for a scene that is taken, no cell is wrong.
+pub fn explore(s: &[u8]) -> Explored
+    ensures { λ r. ⌜ (r ≡ exploredOf (now (s .entry))) × NoCellWrong (now (s .entry)) r ⌝ }
+{
+    match checks::check_scene(s) {
+        CheckedScene::Refused(r) => refused(r),
+        CheckedScene::Taken(scene) => taken(s, scene),
+    }
+}
