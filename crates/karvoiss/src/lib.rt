@@ -3,7 +3,8 @@ use features::Explored;
 use features::question;
 ghost use mathlib.Core.Path.{_≡_};
 ghost use Rattle.features.specs.Vectors.{vectorsOf};
-ghost use Rattle.karvoiss.specs.Answer.{vectorsAnswer};
+ghost use Rattle.cells.specs.Explored.{exploredOf};
+ghost use Rattle.karvoiss.specs.Answer.{vectorsAnswer, cellsAnswer, CellsRight};
 
 #[repr(C)]
 pub struct KarvoissVectors {
@@ -31,5 +32,33 @@ pub extern "C" fn karvoiss_vectors(scene: &[u8], want_f: u16, want_g: u16) -> Ka
             f: 0,
             g: 0,
         },
+    }
+}
+
+// The three rows lie as C's `bool cell[3][3]` does.
+#[repr(C)]
+pub struct KarvoissCells {
+    pub number: u32,
+    pub place: usize,
+    pub interior: [bool; 3],
+    pub boundary: [bool; 3],
+    pub exterior: [bool; 3],
+}
+
+// The cells question.
+#[no_mangle]
+pub extern "C" fn karvoiss_cells(scene: &[u8]) -> KarvoissCells
+    ensures { λ r. ⌜ (r ≡ cellsAnswer (exploredOf (now (scene .entry)))) × CellsRight (now (scene .entry)) r ⌝ }
+{
+    let answer = cells::question::explore(scene);
+    let interior = answer.interior.c;
+    let boundary = answer.boundary.c;
+    let exterior = answer.exterior.c;
+    KarvoissCells {
+        number: answer.number as u32,
+        place: answer.place,
+        interior,
+        boundary,
+        exterior,
     }
 }
