@@ -11,15 +11,15 @@ use lib.ListN.{length}
 use lib.Dec.{T, eqb}
 use borrow.Author.Tests.{eq-eqb, ne-eqb}
 use Rattle.whole.specs.Count.{bit, some, count}
-use Rattle.whole.proofs.Logic.{is-true}
 use Rattle.plane.specs.declared.Segment.{Segment}
 use Rattle.plane.specs.Plane.{segmentInRange}
 use Rattle.scene.specs.declared.Layout.{Layout}
+use Rattle.scene.specs.declared.Fault.the-variants.{At, Nothing}
 use Rattle.scene.specs.Read.{byte, segmentAt, size, place, after, IsObject}
-use Rattle.scene.specs.Conditions.{indices, elements, keep, hasSegments, half, isLeft, segments}
-use Rattle.scene.proofs.Taken.{TakenObject, taken-object}
-use Rattle.scene.proofs.Given.{GoodHalfsegment, good-halfsegment}
+use Rattle.scene.specs.Conditions.{indices, elements, keep, hasSegments, half, isLeft, segments, earliest}
+use Rattle.scene.proofs.Taken.{taken-object}
 use Rattle.checks.specs.Walked.{Readable, leftWith}
+use Rattle.checks.proofs.Elements.{fits, half-good}
 
 -- the numbers from i up to n
 abbrev pub between : ℕ → ℕ → List ℕ
@@ -72,6 +72,16 @@ module _ (f : ℕ → Bool) (i n : ℕ) where
 
   pub count-none : n ≤ i → count f (between i n) ≡ 0
   count-none h = rw (between-none i n h)
+
+module _ (l : Layout) (wrong : ℕ → Bool) (i n : ℕ) where
+  pub earliest-here : i < n → wrong i ≡ true → earliest l wrong (between i n) ≡ At (place l i)
+  earliest-here h e = rw (between-next i n h, e)
+
+  pub earliest-later : i < n → wrong i ≡ false → earliest l wrong (between i n) ≡ earliest l wrong (between (i + 1) n)
+  earliest-later h e = rw (between-next i n h, e)
+
+  pub earliest-none : n ≤ i → earliest l wrong (between i n) ≡ Nothing
+  earliest-none h = rw (between-none i n h)
 
 -- ---- the segments of an object, by the elements that are left halfsegments
 
@@ -129,16 +139,10 @@ pub record Step (s : List ℕ) (l : Layout) (at i : ℕ) : Type 0 where
 
 pub step : {s : List ℕ} {l : Layout} {at i : ℕ} → IsObject s l → hasSegments (l .shape) ≡ true → at ≡ place l i → i < l .count → Step s l at i
 step {s} {l} {at} {i} is has e h = subst (λ (at : ℕ). Step s l at i) (sym e) (record {
-  fits = omega (arith, taken .elements i h .whole);
-  readable = (good .there, good .in-range);
+  fits = fits s l is i h;
+  readable = (half-good s l is i h has .there, half-good s l is i h has .in-range);
   same = λ f. rw has;
 })
-  where
-    taken : TakenObject s (l .start) l
-    taken = taken-object s (l .start) l is
-
-    good : GoodHalfsegment s (place l i)
-    good = good-halfsegment taken i h (is-true (hasSegments (l .shape)) has)
 
 -- ---- the test on a record, as the code makes it
 

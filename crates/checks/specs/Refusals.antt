@@ -6,10 +6,12 @@ use mathlib.Core.List.{List, [], _∷_, _++_, map}
 use lib.Dec.{eqb}
 use Rattle.scene.specs.declared.Layout.{Layout}
 use Rattle.scene.specs.declared.Scene.{Scene}
+use Rattle.scene.specs.declared.Refusal.{Refusal}
 use Rattle.scene.specs.declared.Fault.{Fault}
 use Rattle.scene.specs.Read.{Condition, judge}
-use Rattle.scene.specs.Conditions.{elements, segments, earliest, isMisplaced, isUnpaired, isTouching, endsOddly, hasWrongIa, Rule, rule, conditions, objectRules, overBoth, touchingAcross}
+use Rattle.scene.specs.Conditions.{elements, segments, earliest, isMisplaced, isUnpaired, isTouching, endsOddly, hasWrongIa, Rule, rule, conditions, objectRules, orElse, overBoth, touchingAcross}
 use Rattle.checks.specs.declared.Verdict.{Verdict}
+use Rattle.checks.specs.declared.Verdict.the-variants.{Sound, Refused}
 
 -- is the element i of l at fault under the condition n? For 15, other is the scene's other object
 module _ (s : List ℕ) (l other : Layout) where
@@ -24,9 +26,14 @@ module _ (s : List ℕ) (l other : Layout) where
   abbrev pub faultUnder : ℕ → Fault
   faultUnder n = earliest l (isAtFault n) (elements l)
 
+-- the earliest record of a scene at fault under the condition n: 10 to 14 are about both objects, F first, and 15 is about the records of F
+abbrev pub sceneFaultUnder : List ℕ → Scene → ℕ → Fault
+sceneFaultUnder s sc n =
+    cond (eqb n 15) (faultUnder s (sc .f) (sc .g) n) (orElse (faultUnder s (sc .f) (sc .g) n) (faultUnder s (sc .g) (sc .f) n))
+
 -- the first of several conditions that refuses, if any does
 abbrev pub verdict : List Condition → Verdict
-verdict = judge Verdict.Refused Verdict.Sound
+verdict = judge Refused Sound
 
 -- 10 to 14 over one object
 unfoldable pub objectVerdict : List ℕ → Layout → Verdict
@@ -38,3 +45,8 @@ geometryRules = map overBoth objectRules ++ (rule 15 touchingAcross ∷ [])
 
 unfoldable pub geometryVerdict : List ℕ → Scene → Verdict
 geometryVerdict s sc = verdict (conditions geometryRules s sc)
+
+-- what follows a verdict: nothing where it refuses
+abbrev pub settle : {A : Type 0} → (Refusal → A) → Verdict → A → A
+settle refuse (Refused r) rest = refuse r
+settle refuse Sound rest = rest

@@ -8,9 +8,11 @@ use scene::Refusal;
 use scene::Scene;
 use scene::records;
 ghost use mathlib.Core.Path.{_≡_};
-ghost use Rattle.scene.specs.Read.{IsObject, IsScene};
+ghost use mathlib.Core.List.{List};
+ghost use Prim.Native.Nat.{ℕ};
+ghost use Rattle.scene.specs.Read.{IsObject};
 ghost use Rattle.scene.specs.Conditions.{typesDescend, checkScene, checkObject};
-ghost use Rattle.checks.specs.Refusals.{objectVerdict, geometryVerdict};
+ghost use Rattle.checks.specs.Refusals.{sceneFaultUnder, objectVerdict, geometryVerdict};
 
 pub mod conditions;
 pub mod segments;
@@ -19,4 +21,100 @@ pub mod segments;
 pub enum Verdict {
     Sound,
     Refused(Refusal),
+}
+
+// 8: F's type above G's, at G's type record.
+pub fn types_fault(scene: Scene) -> Fault
+    ensures { λ r. ⌜ ((s : List ℕ) → r ≡ typesDescend s scene) ⌝ }
+{
+    let f = scene.f;
+    let g = scene.g;
+    let of_f = f.shape;
+    let of_g = g.shape;
+    if records::shape_number(of_f) <= records::shape_number(of_g) {
+        Fault::Nothing
+    } else {
+        Fault::At(g.start)
+    }
+}
+
+// The earliest record of a scene at fault under one of the conditions 10 to 15.
+fn scene_fault(s: &[u8], scene: Scene, number: u8) -> Fault
+    requires { ⌜ IsObject (now s) (scene .f) × IsObject (now s) (scene .g) ⌝ }
+    ensures { λ r. ⌜ r ≡ sceneFaultUnder (now (s .entry)) scene number ⌝ }
+{
+    let f = scene.f;
+    let g = scene.g;
+    if number == 15 {
+        return conditions::fault_under(s, f, g, number);
+    }
+    match conditions::fault_under(s, f, g, number) {
+        Fault::At(place) => Fault::At(place),
+        Fault::Nothing => conditions::fault_under(s, g, f, number),
+    }
+}
+
+// The first refusal under 10 to 14 of one object.
+pub fn object_verdict(s: &[u8], l: Layout) -> Verdict
+    requires { ⌜ IsObject (now s) l ⌝ }
+    ensures { λ r. ⌜ r ≡ objectVerdict (now (s .entry)) l ⌝ }
+{
+    let mut number: u8 = 10;
+    while number < 15 {
+        match conditions::fault_under(s, l, l, number) {
+            Fault::At(place) => {
+                return Verdict::Refused(Refusal { number, place });
+            }
+            Fault::Nothing => {}
+        }
+        number += 1;
+    }
+    Verdict::Sound
+}
+
+// The first refusal under 10 to 15 of a scene.
+pub fn geometry_verdict(s: &[u8], scene: Scene) -> Verdict
+    requires { ⌜ IsObject (now s) (scene .f) × IsObject (now s) (scene .g) ⌝ }
+    ensures { λ r. ⌜ r ≡ geometryVerdict (now (s .entry)) scene ⌝ }
+{
+    let mut number: u8 = 10;
+    while number < 16 {
+        match scene_fault(s, scene, number) {
+            Fault::At(place) => {
+                return Verdict::Refused(Refusal { number, place });
+            }
+            Fault::Nothing => {}
+        }
+        number += 1;
+    }
+    Verdict::Sound
+}
+
+// A scene's bytes, checked whole: taken, or refused with one number and one place.
+pub fn check_scene(s: &[u8]) -> CheckedScene
+    ensures { λ r. ⌜ r ≡ checkScene (now (s .entry)) ⌝ }
+{
+    match records::read_scene(s) {
+        CheckedScene::Refused(r) => CheckedScene::Refused(r),
+        CheckedScene::Taken(scene) => match types_fault(scene) {
+            Fault::At(place) => CheckedScene::Refused(Refusal { number: 8, place }),
+            Fault::Nothing => match geometry_verdict(s, scene) {
+                Verdict::Refused(r) => CheckedScene::Refused(r),
+                Verdict::Sound => CheckedScene::Taken(scene),
+            },
+        },
+    }
+}
+
+// One object's bytes alone.
+pub fn check_object(s: &[u8]) -> CheckedObject
+    ensures { λ r. ⌜ r ≡ checkObject (now (s .entry)) ⌝ }
+{
+    match records::read_alone(s) {
+        CheckedObject::Refused(r) => CheckedObject::Refused(r),
+        CheckedObject::Taken(l) => match object_verdict(s, l) {
+            Verdict::Refused(r) => CheckedObject::Refused(r),
+            Verdict::Sound => CheckedObject::Taken(l),
+        },
+    }
 }

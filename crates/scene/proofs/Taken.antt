@@ -20,7 +20,7 @@ use Rattle.scene.specs.declared.Record.{Record}
 use Rattle.scene.specs.declared.Record.the-variants.{Good, Bad}
 use Rattle.scene.specs.declared.CheckedObject.{CheckedObject}
 use Rattle.scene.specs.declared.CheckedScene.{CheckedScene}
-use Rattle.scene.specs.Read.{shapeNumber, standsIn, startsObject, isEnd, recordAt, place, endPlace, after, next, most, elementsFrom, begun, readObject, shapeOf, byte, unless, decide, judge, endsWith, alone, readAlone, withG, withF, readScene}
+use Rattle.scene.specs.Read.{shapeNumber, standsIn, startsObject, isEnd, recordAt, place, endPlace, after, next, most, elementsFrom, begun, readObject, shapeOf, byte, unless, decide, judge, endsWith, alone, readAlone, withG, withF, readScene, IsObject}
 use Rattle.scene.proofs.Passed.{Passed, passed, same-shape}
 
 abbrev pub layout : Shape → ℕ → ℕ → Layout
@@ -189,13 +189,19 @@ taken-object s at l e = go (recordAt s at startsObject false) e
     go (Bad r) q = absurd (not-taken q)
     go (Good j) q = read q
 
+-- a layout says where its object starts
+is-object : (s : List ℕ) (at : ℕ) (l : Layout) → readObject s at ≡ CheckedObject.Taken l → IsObject s l
+is-object s at l e = subst (λ (at : ℕ). readObject s at ≡ CheckedObject.Taken l) (sym (taken-object s at l e .starts)) e
+
 -- ---- one object's bytes taken alone, and a taken scene: the bytes end where the last object does
 pub record TakenAlone (s : List ℕ) (at : ℕ) (l : Layout) : Type 0 where
   pub object : TakenObject s at l
+  pub read : IsObject s l
   pub all : length s ≡ after l
 
 pub record TakenScene (s : List ℕ) (sc : Scene) : Type 0 where
   pub f-taken : TakenObject s 0 (sc .f)
+  pub f-read : IsObject s (sc .f)
   pub g-taken : TakenAlone s (after (sc .f)) (sc .g)
 
 pub never-taken : {r : Refusal} {sc : Scene} → CheckedScene.Refused r ≡ CheckedScene.Taken sc → ⊥
@@ -213,7 +219,7 @@ module _ (s : List ℕ) (at : ℕ) (l : Layout) (e : readObject s at ≡ Checked
       taken = taken-object s at l e
 
       go : (b : Bool) → leb (length s) (after l) ≡ b → decide refuse 7 (unless b (after l)) a ≡ a′ → TakenAlone s at l × (a ≡ a′)
-      go true x q = (record { object = taken; all = omega (arith, taken .ends, leb-true (length s) (after l) x) }, q)
+      go true x q = (record { object = taken; read = is-object s at l e; all = omega (arith, taken .ends, leb-true (length s) (after l) x) }, q)
       go false x q = absurd (never (record { number = 7; place = after l }) q)
 
 pub taken-alone : (s : List ℕ) (l : Layout) → readAlone s ≡ CheckedObject.Taken l → TakenAlone s 0 l
@@ -234,7 +240,7 @@ taken-scene s sc e = of-f (readObject s 0) refl e
     of-g f p (CheckedObject.Refused r) q x = absurd (never-taken x)
     of-g f p (CheckedObject.Taken g) q x =
         let y = not-seven s (after f) g q CheckedScene.Refused (CheckedScene.Taken (record { f = f; g = g })) (CheckedScene.Taken sc) (λ r. never-taken) x in
-        subst (TakenScene s) (same-scene (y .1)) (record { f-taken = taken-object s 0 f p; g-taken = y .0 })
+        subst (TakenScene s) (same-scene (y .1)) (record { f-taken = taken-object s 0 f p; f-read = is-object s 0 f p; g-taken = y .0 })
 
     of-f : (o : CheckedObject) → readObject s 0 ≡ o → withF s o ≡ CheckedScene.Taken sc → TakenScene s sc
     of-f (CheckedObject.Refused r) q x = absurd (never-taken x)

@@ -1,0 +1,91 @@
+-- Verdicts: the conditions of a list one after the other by their numbers, and how the check of a question is put together from the verdicts of its
+-- parts, whatever conditions of its own it has.
+use Prim.Native.Nat.{ℕ, _+_, _<_, _≤_}
+use mathlib.Core.Path.{_≡_, refl, ap, _∙_}
+use mathlib.Core.List.{List, [], _∷_, _++_, map}
+use Rattle.scene.specs.declared.Layout.{Layout}
+use Rattle.scene.specs.declared.Scene.{Scene}
+use Rattle.scene.specs.declared.Refusal.{Refusal}
+use Rattle.scene.specs.declared.Fault.{Fault}
+use Rattle.scene.specs.declared.Fault.the-variants.{At, Nothing}
+use Rattle.scene.specs.declared.CheckedObject.{CheckedObject}
+use Rattle.scene.specs.declared.CheckedScene.{CheckedScene}
+use Rattle.scene.specs.Read.{Condition, condition, decide, judge, readScene, readAlone, IsScene}
+use Rattle.scene.specs.Conditions.{outOfOrder, unpaired, touching, touchingItself, oddEnd, wrongIa, typesDescend, Rule, conditions, sceneRules, checkedScene, checkSceneBy, checkScene, checkedObject, checkObject, objectRules}
+use Rattle.checks.specs.declared.Verdict.the-variants.{Sound, Refused}
+use Rattle.checks.specs.Refusals.{faultUnder, sceneFaultUnder, verdict, settle, objectVerdict, geometryRules, geometryVerdict}
+use Rattle.checks.proofs.Walk.{between, between-next, between-none}
+
+-- ---- by number
+
+module _ (fault : ℕ → Fault) where
+  -- the conditions from the number i up to n
+  abbrev pub numbered : ℕ → ℕ → List Condition
+  numbered i n = map (λ (m : ℕ). condition m (fault m)) (between i n)
+
+  module _ (i n : ℕ) where
+    pub refuses : i < n → (p : ℕ) → fault i ≡ At p → verdict (numbered i n) ≡ Refused (record { number = i; place = p })
+    refuses h p e = rw (between-next i n h, e)
+
+    pub passes : i < n → fault i ≡ Nothing → verdict (numbered i n) ≡ verdict (numbered (i + 1) n)
+    passes h e = rw (between-next i n h, e)
+
+    pub sound : n ≤ i → verdict (numbered i n) ≡ Sound
+    sound h = rw (between-none i n h)
+
+pub object-numbered : (s : List ℕ) (l : Layout) → objectVerdict s l ≡ verdict (numbered (faultUnder s l l) 10 15)
+unfolding objectVerdict outOfOrder unpaired touchingItself touching oddEnd wrongIa
+object-numbered s l = refl
+
+pub geometry-numbered : (s : List ℕ) (sc : Scene) → geometryVerdict s sc ≡ verdict (numbered (sceneFaultUnder s sc) 10 16)
+unfolding geometryVerdict outOfOrder unpaired touchingItself touching oddEnd wrongIa
+geometry-numbered s sc = refl
+
+-- ---- one list of conditions after another
+
+module _ {A : Type 0} (refuse : Refusal → A) (taken : A) where
+  pub judge-append : (cs ds : List Condition) → judge refuse taken (cs ++ ds) ≡ settle refuse (verdict cs) (judge refuse taken ds)
+  judge-append [] ds = refl
+  judge-append (c ∷ cs) ds = go (c .fault) (judge-append cs ds)
+    where
+      go : (f : Fault) → judge refuse taken (cs ++ ds) ≡ settle refuse (verdict cs) (judge refuse taken ds)
+          → decide refuse (c .number) f (judge refuse taken (cs ++ ds)) ≡ settle refuse (decide Refused (c .number) f (verdict cs)) (judge refuse taken ds)
+      go (At p) e = refl
+      go Nothing e = e
+
+  module _ {B : Type 0} (s : List ℕ) (b : B) where
+    conditions-append : (rules more : List (Rule B)) → conditions (rules ++ more) s b ≡ conditions rules s b ++ conditions more s b
+    conditions-append [] more = refl
+    conditions-append (r ∷ rules) more = ap (λ (cs : List Condition). condition (r .number) (r .fault s b) ∷ cs) (conditions-append rules more)
+
+    pub judge-rules : (rules more : List (Rule B))
+        → judge refuse taken (conditions (rules ++ more) s b) ≡ settle refuse (verdict (conditions rules s b)) (judge refuse taken (conditions more s b))
+    judge-rules rules more = ap (judge refuse taken) (conditions-append rules more) ∙ judge-append (conditions rules s b) (conditions more s b)
+
+-- ---- the check of a question: 1 to 7, then 8, its nine, 10 to 15, and its later ones
+
+pub check-refused : (rules : List (Rule Scene)) (s : List ℕ) (r : Refusal) → readScene s ≡ CheckedScene.Refused r → checkSceneBy rules s ≡ CheckedScene.Refused r
+unfolding checkSceneBy
+check-refused rules s r e = rw e
+
+pub check-read : (nine later : List (Rule Scene)) (s : List ℕ) (sc : Scene) → IsScene s sc
+    → checkSceneBy (sceneRules nine later) s
+    ≡ decide CheckedScene.Refused 8 (typesDescend s sc)
+    (settle CheckedScene.Refused (verdict (conditions nine s sc))
+    (settle CheckedScene.Refused (geometryVerdict s sc) (judge CheckedScene.Refused (CheckedScene.Taken sc) (conditions later s sc))))
+unfolding checkSceneBy geometryVerdict
+check-read nine later s sc e =
+    ap (checkedScene (sceneRules nine later) s) e
+    ∙ ap (decide CheckedScene.Refused 8 (typesDescend s sc))
+    (judge-rules CheckedScene.Refused (CheckedScene.Taken sc) s sc nine (geometryRules ++ later)
+    ∙ ap (settle CheckedScene.Refused (verdict (conditions nine s sc))) (judge-rules CheckedScene.Refused (CheckedScene.Taken sc) s sc geometryRules later))
+
+-- and of one object
+pub object-refused : (s : List ℕ) (r : Refusal) → readAlone s ≡ CheckedObject.Refused r → checkObject s ≡ CheckedObject.Refused r
+unfolding checkObject
+object-refused s r e = rw e
+
+pub object-read : (s : List ℕ) (l : Layout) → readAlone s ≡ CheckedObject.Taken l
+    → checkObject s ≡ settle CheckedObject.Refused (objectVerdict s l) (CheckedObject.Taken l)
+unfolding checkObject objectVerdict
+object-read s l e = ap (checkedObject s) e ∙ judge-append CheckedObject.Refused (CheckedObject.Taken l) (conditions objectRules s l) []
