@@ -5,3 +5,4 @@ pub mod Wanted
 pub mod ByElement
 pub mod Searching
 pub mod Inside
+pub mod OfElement

@@ -1,20 +1,22 @@
 -- The flags element by element: what the walk over an object's records collects. A flag of an object is set when it is set for some element of that
 -- object, given the other object as a whole; proofs/Walk.antt says that these are the flags of Flags.antt.
 use Prim.Native.Nat.{ℕ}
+use mathlib.Core.Path.{_≡_}
 use mathlib.Core.Bool.{Bool, true, false, not, _&&_, _||_}
 use mathlib.Core.List.{List, [], _∷_, _++_, map}
 use lib.ListN.{getD}
 use Rattle.whole.specs.Count.{some}
 use Rattle.plane.specs.declared.Point.{Point}
 use Rattle.plane.specs.declared.Segment.{Segment}
-use Rattle.plane.specs.Plane.{grid, midpoint, sameSegment, isEnd, inside}
+use Rattle.plane.specs.Plane.{grid, midpoint, sameSegment, isEnd, onSome, inside}
 use Rattle.scene.specs.declared.Shape.{Shape}
 use Rattle.scene.specs.declared.Shape.the-variants.{Points, Line, Region}
 use Rattle.scene.specs.declared.Layout.{Layout}
 use Rattle.scene.specs.Read.{pointAt, place}
 use Rattle.scene.specs.Conditions.{indices, elements, keep, half, ia, isLeft, segments}
 use Rattle.features.specs.declared.Found.{Found}
-use Rattle.features.specs.Flags.{Edge, Elements, points, line, region, outline, hasPoint, hasSegment, onObject, hasEnd, isBound, joins, midInside, midOutside, flagsOfF, flagsOfG}
+use Rattle.features.specs.declared.Middle.{Middle}
+use Rattle.features.specs.Flags.{Edge, Elements, points, line, region, outline, hasPoint, hasSegment, onObject, hasEnd, isBound, joins, flagsOfF, flagsOfG}
 
 -- ---- the elements that the bytes of an object stand for
 
@@ -93,30 +95,34 @@ sameEdge s above e = sameSegment s (e .segment) && sameIa above (e .ia)
 abbrev pub hasEdge : List Edge → Segment → Bool → Bool
 hasEdge l s above = some (sameEdge s above) l
 
--- ---- the flags of one element as tests of it, bit 0 first: of F (true), then of G (false), beside the other object
+-- ---- the flags of one element as tests of it, bit 0 first, for each pair of types: beside the other object, and own is the line that a segment
+-- belongs to
 
 abbrev pub Tests : Type 0 → Type 0
 Tests A = List (A → Bool)
 
-abbrev pub pointTests : Bool → Elements → Tests Point
-pointTests true (points G) = (λ f. not (hasPoint G f)) ∷ (λ f. hasPoint G f) ∷ []
-pointTests true (line G) = (λ f. not (onObject G f)) ∷ (λ f. onObject G f && not (isBound G f)) ∷ (λ f. isBound G f) ∷ []
-pointTests true (region G) =
-    (λ f. inside (outline G) (grid f))
-    ∷ (λ f. onObject (outline G) f)
-    ∷ (λ f. not (inside (outline G) (grid f)) && not (onObject (outline G) f))
-    ∷ []
-pointTests false (points F) = (λ g. not (hasPoint F g)) ∷ []
-pointTests false (line F) = []
-pointTests false (region F) = []
-
 abbrev pub atEnd : (Segment → Point → Bool) → Segment → Bool
 atEnd f s = f s (s .left) || f s (s .right)
 
--- own is the line that the segment belongs to
-abbrev pub segmentTests : Bool → List Segment → Elements → Tests Segment
-segmentTests true own (points G) = []
-segmentTests true own (line G) =
+-- 1, 1: of F, and of G
+abbrev pub pointByPoints : Bool → List Point → Tests Point
+pointByPoints true G = (λ f. not (hasPoint G f)) ∷ (λ f. hasPoint G f) ∷ []
+pointByPoints false F = (λ g. not (hasPoint F g)) ∷ []
+
+-- 1, 2 and 1, 3: of F
+abbrev pub pointByLine : List Segment → Tests Point
+pointByLine G = (λ f. not (onObject G f)) ∷ (λ f. onObject G f && not (isBound G f)) ∷ (λ f. isBound G f) ∷ []
+
+abbrev pub pointByRegion : List Segment → Tests Point
+pointByRegion G = (λ f. inside G (grid f)) ∷ (λ f. onObject G f) ∷ (λ f. not (inside G (grid f)) && not (onObject G f)) ∷ []
+
+-- 1, 2: of G
+abbrev pub segmentByPoints : List Segment → List Point → Tests Segment
+segmentByPoints own F = atEnd (λ g v. isBound own v && not (hasPoint F v)) ∷ []
+
+-- 2, 2: of F, and of G
+abbrev pub segmentByLine : Bool → List Segment → List Segment → Tests Segment
+segmentByLine true own G =
     (λ f. hasSegment G f)
     ∷ atEnd (λ f v. hasEnd G v && not (isBound own v) && not (isBound G v))
     ∷ (λ f. not (hasSegment G f))
@@ -124,45 +130,124 @@ segmentTests true own (line G) =
     ∷ atEnd (λ f v. isBound own v && isBound G v)
     ∷ atEnd (λ f v. isBound own v && not (onObject G v))
     ∷ []
-segmentTests true own (region G) =
-    (λ f. not (hasSegment (outline G) f) && inside (outline G) (midpoint f))
-    ∷ (λ f. hasSegment (outline G) f)
-    ∷ (λ f. not (hasSegment (outline G) f) && not (inside (outline G) (midpoint f)))
-    ∷ atEnd (λ f v. joins (outline G) f v && not (isBound own v))
-    ∷ atEnd (λ f v. inside (outline G) (grid v) && isBound own v)
-    ∷ atEnd (λ f v. joins (outline G) f v && isBound own v)
-    ∷ atEnd (λ f v. not (inside (outline G) (grid v)) && isBound own v && not (onObject (outline G) v))
-    ∷ []
-segmentTests false own (points F) = atEnd (λ g v. isBound own v && not (hasPoint F v)) ∷ []
-segmentTests false own (line F) =
+segmentByLine false own F =
     (λ g. not (hasSegment F g))
     ∷ atEnd (λ g v. isBound own v && onObject F v && not (isBound F v))
     ∷ atEnd (λ g v. isBound own v && not (onObject F v))
     ∷ []
-segmentTests false own (region F) = []
 
--- those of a segment by its class
-abbrev pub classTests : List Edge → Tests Edge
-classTests G =
-    (λ (f : Edge). f .ia && midOutside G f)
-    ∷ (λ (f : Edge). not (f .ia) && midOutside G f)
-    ∷ (λ (f : Edge). f .ia && midInside G f)
-    ∷ (λ (f : Edge). not (f .ia) && midInside G f)
+-- 2, 3: of F, and of G
+abbrev pub segmentByRegion : List Segment → List Segment → Tests Segment
+segmentByRegion own G =
+    (λ f. not (hasSegment G f) && inside G (midpoint f))
+    ∷ (λ f. hasSegment G f)
+    ∷ (λ f. not (hasSegment G f) && not (inside G (midpoint f)))
+    ∷ atEnd (λ f v. joins G f v && not (isBound own v))
+    ∷ atEnd (λ f v. inside G (grid v) && isBound own v)
+    ∷ atEnd (λ f v. joins G f v && isBound own v)
+    ∷ atEnd (λ f v. not (inside G (grid v)) && isBound own v && not (onObject G v))
     ∷ []
 
-abbrev pub edgeTests : Bool → Elements → Tests Edge
-edgeTests true (points G) = []
-edgeTests true (line G) = []
-edgeTests true (region G) =
-    classTests G
+abbrev pub edgeByLine : List Segment → Tests Edge
+edgeByLine F = (λ (g : Edge). not (hasSegment F (g .segment))) ∷ []
+
+-- 3, 3: (0/1), (1/0), (1/2), (2/1), of both; and the others, of F
+abbrev pub edgeByOutline : List Segment → Tests Edge
+edgeByOutline G =
+    (λ (f : Edge). f .ia && (not (onSome G (midpoint (f .segment))) && not (inside G (midpoint (f .segment)))))
+    ∷ (λ (f : Edge). not (f .ia) && (not (onSome G (midpoint (f .segment))) && not (inside G (midpoint (f .segment)))))
+    ∷ (λ (f : Edge). f .ia && inside G (midpoint (f .segment)))
+    ∷ (λ (f : Edge). not (f .ia) && inside G (midpoint (f .segment)))
+    ∷ []
+
+abbrev pub edgeByRegion : Bool → List Segment → List Edge → Tests Edge
+edgeByRegion true outline G =
+    edgeByOutline outline
     ++ ((λ (f : Edge). f .ia && hasEdge G (f .segment) true)
     ∷ (λ (f : Edge). not (f .ia) && hasEdge G (f .segment) false)
     ∷ (λ (f : Edge). hasEdge G (f .segment) (not (f .ia)))
-    ∷ (λ (f : Edge). atEnd (joins (outline G)) (f .segment))
+    ∷ (λ (f : Edge). atEnd (joins outline) (f .segment))
     ∷ [])
-edgeTests false (points F) = []
-edgeTests false (line F) = (λ (g : Edge). not (hasSegment F (g .segment))) ∷ []
-edgeTests false (region F) = classTests F
+edgeByRegion false outline F = edgeByOutline outline
+
+-- by the kind of the other object: of F (true), or of G (false)
+abbrev pub pointTests : Bool → Elements → Tests Point
+pointTests isF (points l) = pointByPoints isF l
+pointTests true (line l) = pointByLine l
+pointTests true (region l) = pointByRegion (outline l)
+pointTests false (line l) = []
+pointTests false (region l) = []
+
+abbrev pub segmentTests : Bool → List Segment → Elements → Tests Segment
+segmentTests true own (points l) = []
+segmentTests false own (points l) = segmentByPoints own l
+segmentTests isF own (line l) = segmentByLine isF own l
+segmentTests true own (region l) = segmentByRegion own (outline l)
+segmentTests false own (region l) = []
+
+abbrev pub edgeTests : Bool → Elements → Tests Edge
+edgeTests isF (points l) = []
+edgeTests true (line l) = []
+edgeTests false (line l) = edgeByLine l
+edgeTests isF (region l) = edgeByRegion isF (outline l) l
+
+-- ---- parts of these flags, as the program finds them
+
+-- what one end v of a segment gives: 2, 2
+abbrev pub endByLine : List Segment → List Segment → Point → Found
+endByLine own other v =
+    found
+    (false
+    ∷ (hasEnd other v && not (isBound own v) && not (isBound other v))
+    ∷ false
+    ∷ (isBound own v && onObject other v && not (isBound other v))
+    ∷ (isBound own v && isBound other v)
+    ∷ (isBound own v && not (onObject other v))
+    ∷ [])
+
+-- 2, 3: an end v of t
+abbrev pub endByRegion : List Segment → List Segment → Segment → Point → Found
+endByRegion own other t v =
+    found
+    (false
+    ∷ false
+    ∷ false
+    ∷ (joins other t v && not (isBound own v))
+    ∷ (inside other (grid v) && isBound own v)
+    ∷ (joins other t v && isBound own v)
+    ∷ (not (inside other (grid v)) && isBound own v && not (onObject other v))
+    ∷ [])
+
+-- the midpoint of a segment beside a region that shares no point with it but common ends: it lies on the region's segments where the segment is one
+-- of them, and nowhere else
+abbrev pub Clear : List Segment → Segment → Type 0
+Clear other t = onSome other (midpoint t) ≡ hasSegment other t
+
+abbrev pub middleOf : List Segment → Segment → Middle
+middleOf other t = record { shared = hasSegment other t; inside = not (hasSegment other t) && inside other (midpoint t) }
+
+-- 3, 3: (0/1), (1/0), (1/2), (2/1)
+abbrev pub classByMiddle : Middle → Bool → Found
+classByMiddle m above =
+    found
+    ((above && (not (m .shared) && not (m .inside)))
+    ∷ (not above && (not (m .shared) && not (m .inside)))
+    ∷ (above && m .inside)
+    ∷ (not above && m .inside)
+    ∷ [])
+
+-- 3, 3: (0/2), (2/0) and (1/1)
+abbrev pub sharedByRegion : List Edge → Segment → Bool → Found
+sharedByRegion other t above =
+    found
+    (false
+    ∷ false
+    ∷ false
+    ∷ false
+    ∷ (above && hasEdge other t true)
+    ∷ (not above && hasEdge other t false)
+    ∷ hasEdge other t (not above)
+    ∷ [])
 
 -- ---- the flags of the element of an index, and of all elements
 

@@ -12,6 +12,13 @@ pub struct Found {
     pub b7: bool,
 }
 
+// A segment beside a region: one of the region's segments, or with its midpoint inside the region, or neither.
+pub struct Middle {
+    pub shared: bool,
+    pub inside: bool,
+}
+
 pub mod collected;
+pub mod pairs;
 pub mod position;
 pub mod searches;
