@@ -7,3 +7,4 @@ pub struct Overlap {
     pub count: usize,
 }
 
+pub mod merged;

@@ -1,0 +1,2 @@
+-- The laws of the walk over the different segments of two regions.
+pub mod Merging
