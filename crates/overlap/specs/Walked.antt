@@ -4,10 +4,12 @@ use mathlib.Core.Path.{_≡_}
 use mathlib.Core.Bool.{true, false, cond}
 use mathlib.Core.List.{List, [], _∷_, map}
 use lib.Dec.{T}
+use Rattle.whole.specs.Count.{_∈_}
 use Rattle.plane.specs.declared.Segment.{Segment}
 use Rattle.plane.specs.Plane.{segmentInRange, sameSegment}
 use Rattle.scene.specs.declared.Layout.{Layout}
-use Rattle.scene.specs.Conditions.{indices, keep, half, isLeft}
+use Rattle.scene.specs.Conditions.{indices, keep, half, isLeft, segments}
+use Rattle.features.specs.Walk.{Clear}
 use Rattle.overlap.specs.declared.merged.Step.{Step}
 use Rattle.overlap.specs.declared.merged.Step.the-variants.{Next, End}
 use Rattle.overlap.specs.Overlap.{leftBefore, merge}
@@ -15,6 +17,10 @@ use Rattle.overlap.specs.Overlap.{leftBefore, merge}
 -- the segments of the elements from i on
 unfoldable pub segmentsFrom : List ℕ → Layout → ℕ → List Segment
 segmentsFrom s l i = map (λ k. half s l k .segment) (keep (isLeft s l) (indices (l .count - i) i))
+
+-- the midpoint of each of the different segments lies on a region's segments where the segment is one of them, and nowhere else
+abbrev pub AllClear : List ℕ → Layout → Layout → Type 0
+AllClear s f g = (t : Segment) → t ∈ merge (segments s f) (segments s g) → Clear (segments s f) t × Clear (segments s g) t
 
 -- k is the first left halfsegment from i on, or the number of elements where there is none
 pub record NextLeft (s : List ℕ) (l : Layout) (i k : ℕ) : Type 0 where

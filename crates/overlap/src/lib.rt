@@ -7,4 +7,5 @@ pub struct Overlap {
     pub count: usize,
 }
 
+pub mod listed;
 pub mod merged;
