@@ -11,7 +11,7 @@ use Rattle.scene.specs.declared.Fault.the-variants.{At, Nothing}
 use Rattle.scene.specs.declared.CheckedObject.{CheckedObject}
 use Rattle.scene.specs.declared.CheckedScene.{CheckedScene}
 use Rattle.scene.specs.Read.{Condition, condition, decide, judge, readScene, readAlone, IsScene}
-use Rattle.scene.specs.Conditions.{outOfOrder, unpaired, touching, touchingItself, oddEnd, wrongIa, typesDescend, Rule, conditions, sceneRules, checkedScene, checkSceneBy, checkScene, checkedObject, checkObject, objectRules}
+use Rattle.scene.specs.Conditions.{outOfOrder, unpaired, touching, touchingItself, oddEnd, wrongIa, typesDescend, Rule, conditions, sceneRules, checkedScene, checkSceneBy, checkedObject, checkObject, objectRules}
 use Rattle.checks.specs.declared.Verdict.the-variants.{Sound, Refused}
 use Rattle.checks.specs.Refusals.{faultUnder, sceneFaultUnder, verdict, settle, objectVerdict, geometryRules, geometryVerdict}
 use Rattle.checks.proofs.Walk.{between, between-next, between-none}

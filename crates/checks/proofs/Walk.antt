@@ -1,6 +1,6 @@
 -- The elements of an object one after the other: what is left of them from the element i on, of a search, a count and the earliest fault; and one
 -- step of a walk over its segments.
-use Prim.Native.Nat.{ℕ, zero, suc, _+_, _-_, _<_, _≤_}
+use Prim.Native.Nat.{ℕ, suc, _+_, _-_, _<_, _≤_}
 use native.Mathlib.Omega.{arith}
 use native.Mathlib.Numerals.{add-one}
 use mir.Val.{boolByte}
@@ -12,7 +12,7 @@ use lib.Dec.{T, eqb}
 use borrow.Author.Tests.{eq-eqb, ne-eqb}
 use Rattle.whole.specs.Count.{bit, some, count}
 use Rattle.plane.specs.declared.Segment.{Segment}
-use Rattle.plane.specs.Plane.{segmentInRange}
+use Rattle.plane.specs.Plane.{segmentInRange, ordered}
 use Rattle.scene.specs.declared.Layout.{Layout}
 use Rattle.scene.specs.declared.Fault.the-variants.{At, Nothing}
 use Rattle.scene.specs.Read.{byte, segmentAt, size, place, after, IsObject}
@@ -135,12 +135,14 @@ object-fits s l is = taken-object s (l .start) l is .ends
 pub record Step (s : List ℕ) (l : Layout) (at i : ℕ) : Type 0 where
   pub fits : at + size (l .shape) ≤ length s
   pub readable : Readable s at
+  pub in-order : T (ordered (segmentAt s at))
   pub same : (f : Segment → Bool) → leftPasses s l f i ≡ leftWith f s at
 
 pub step : {s : List ℕ} {l : Layout} {at i : ℕ} → IsObject s l → hasSegments (l .shape) ≡ true → at ≡ place l i → i < l .count → Step s l at i
 step {s} {l} {at} {i} is has e h = subst (λ (at : ℕ). Step s l at i) (sym e) (record {
   fits = fits s l is i h;
   readable = (half-good s l is i h has .there, half-good s l is i h has .in-range);
+  in-order = half-good s l is i h has .in-order;
   same = λ f. rw has;
 })
 
@@ -150,8 +152,15 @@ module _ (f : Segment → Bool) (s : List ℕ) (at : ℕ) where
   pub at-left : byte s (at + 17) ≡ 1 → {t : Segment} {r : Bool} → t ≡ segmentAt s at → r ≡ f t → r ≡ leftWith f s at
   at-left e {t} {r} q p = p ∙ ap f q ∙ rw (eq-eqb (byte s (at + 17)) 1 e)
 
-  pub at-right : (byte s (at + 17) ≡ 1 → ⊥) → eqb (byte s (at + 17)) 1 ≡ leftWith f s at
-  at-right n = rw (ne-eqb (byte s (at + 17)) 1 n)
+  not-left : (byte s (at + 17) ≡ 1 → ⊥) → eqb (byte s (at + 17)) 1 ≡ false
+  not-left n = ne-eqb (byte s (at + 17)) 1 n
 
-pub in-range-at : {t u : Segment} → t ≡ u → T (segmentInRange u) → T (segmentInRange t)
-in-range-at e r = subst (λ (t : Segment). T (segmentInRange t)) (sym e) r
+  pub at-right : (byte s (at + 17) ≡ 1 → ⊥) → eqb (byte s (at + 17)) 1 ≡ leftWith f s at
+  at-right n = rw (not-left n)
+
+module _ {t u : Segment} (e : t ≡ u) where
+  pub in-range-at : T (segmentInRange u) → T (segmentInRange t)
+  in-range-at r = subst (λ (t : Segment). T (segmentInRange t)) (sym e) r
+
+  pub in-order-at : T (ordered u) → T (ordered t)
+  in-order-at r = subst (λ (t : Segment). T (ordered t)) (sym e) r

@@ -1,4 +1,5 @@
 // Searches over the segments of an object in the bytes. Each walks the records by offset, once, and reads the left halfsegments.
+use crate::boxes;
 use plane::Point;
 use plane::Segment;
 use scene::Layout;
@@ -9,8 +10,8 @@ ghost use mathlib.Core.Path.{_≡_};
 ghost use Prim.Native.Nat.{_*_};
 ghost use lib.Dec.{T};
 ghost use Rattle.whole.specs.Count.{some, count};
-ghost use Rattle.plane.specs.Plane.{limit, within, segmentInRange, grid, halved, isEnd, endsAt, countsBelow, countsBelowLeft, touch};
-ghost use Rattle.scene.specs.Read.{IsObject};
+ghost use Rattle.plane.specs.Plane.{limit, within, segmentInRange, ordered, grid, halved, isEnd, endsAt, countsBelow, countsBelowLeft, touch};
+ghost use Rattle.scene.specs.Read.{segmentAt, IsObject};
 ghost use Rattle.scene.specs.Conditions.{hasSegments, isRegion, segments};
 ghost use Rattle.checks.specs.Walked.{Readable, leftWith};
 
@@ -37,10 +38,17 @@ pub fn is_region(k: Shape) -> bool
 // ---- the tests on the record at an offset
 
 fn is_touched_at(s: &[u8], at: usize, t: Segment) -> bool
-    requires { ⌜ Readable (now s) at × T (segmentInRange t) ⌝ }
+    requires { ⌜ Readable (now s) at × T (ordered (segmentAt (now s) at)) × T (segmentInRange t) × T (ordered t) ⌝ }
     ensures { λ r. ⌜ r ≡ leftWith (touch t) (now (s .entry)) at ⌝ }
 {
-    s[at + 17] == 1 && plane::touches(t, bytes::segment(s, at))
+    if s[at + 17] != 1 {
+        return false;
+    }
+    let u = bytes::segment(s, at);
+    if boxes::are_apart(t, u) {
+        return false;
+    }
+    plane::touches(t, u)
 }
 
 fn ends_at(s: &[u8], at: usize, p: Point) -> bool
@@ -68,7 +76,7 @@ fn counts_below_left_at(s: &[u8], at: usize, m: Point) -> bool
 
 // Does t touch some segment of l?
 pub fn touches_some(s: &[u8], l: Layout, t: Segment) -> bool
-    requires { ⌜ IsObject (now s) l × T (segmentInRange t) ⌝ }
+    requires { ⌜ IsObject (now s) l × T (segmentInRange t) × T (ordered t) ⌝ }
     ensures { λ r. ⌜ r ≡ some (touch t) (segments (now (s .entry)) l) ⌝ }
 {
     let k = l.shape;

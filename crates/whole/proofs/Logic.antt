@@ -6,7 +6,7 @@ use native.Mathlib.Omega.{arith}
 use mathlib.Core.Path.{_≡_, refl, sym, ap, _∙_, subst}
 use mathlib.Core.Logic.{_⊎_, inl, inr, ⊎-elim}
 use mathlib.Core.Bool.{Bool, true, false, not, _&&_, _||_}
-use mathlib.Core.List.{List, [], _∷_, _++_}
+use mathlib.Core.List.{List, [], _∷_, _++_, map}
 use lib.Dec.{T, T-not, not-T}
 use lib.ListN.{length, getD}
 use Rattle.whole.specs.Count.{_∈_, here, there, some, every}
@@ -114,6 +114,10 @@ module _ {A : Type 0} where
   in-append (b ∷ l) here = inl here
   in-append (b ∷ l) (there h) = ⊎-elim (λ k. inl (there k)) inr (in-append l h)
 
+  -- what no element passes, none does
+  pub none-of : (f : A → Bool) {l : List A} → some f l ≡ false → {a : A} → a ∈ l → f a ≡ false
+  none-of f {l} e {a} m = refute (f a) (λ t. T-not (some f l) (is-false (some f l) e) (some-make f m t))
+
   -- membership by index
   pub in-at : (l : List A) (d : A) (i : ℕ) → i < length l → getD l i d ∈ l
   in-at [] d i h = absurd (not-suc-le-zero h)
@@ -124,12 +128,31 @@ module _ {A : Type 0} where
   in-index d here = (0, omega arith, refl)
   in-index d (there m) = let w = in-index d m in (suc (w .0), omega arith, w .2)
 
+-- ---- the image of a list
+
+module _ {A B : Type 0} (f : A → B) where
+  pub in-map : {a : A} {l : List A} → a ∈ l → f a ∈ map f l
+  in-map here = here
+  in-map (there m) = there (in-map m)
+
+  pub map-in : {b : B} (l : List A) → b ∈ map f l → (a : A) × (a ∈ l) × (f a ≡ b)
+  map-in [] m = absurd (in-nil m)
+  map-in (a ∷ l) m = ⊎-elim (λ e. (a, here, sym e)) (λ k. let w = map-in l k in (w .0, there (w .1), w .2)) (in-cons m)
+
 -- ---- lists in strict order
 
 -- each element is so related to every later one
 pub data Sorted {A : Type 0} (R : A → A → Type 0) : List A → Type 0 where
   sorted-nil : Sorted R []
   sorted-cons : {a : A} {l : List A} → ((b : A) → b ∈ l → R a b) → Sorted R l → Sorted R (a ∷ l)
+
+-- the image of a list in order is in order
+pub sorted-map : {A B : Type 0} (f : A → B) {Q : A → A → Type 0} {R : B → B → Type 0} {l : List A} → Sorted Q l
+    → ((a b : A) → a ∈ l → b ∈ l → Q a b → R (f a) (f b)) → Sorted R (map f l)
+sorted-map f sorted-nil h = sorted-nil
+sorted-map f {R = R} (sorted-cons {a = a} {l = l} first rest) h =
+    sorted-cons (λ b m. let w = map-in f l m in subst (R (f a)) (w .2) (h a (w .0) here (there (w .1)) (first (w .0) (w .1))))
+    (sorted-map f rest (λ b c m k. h b c (there m) (there k)))
 
 -- from neighbours to all, where R is transitive on what P holds of
 module _ {A : Type 0} (P : A → Type 0) (R : A → A → Type 0) (trans : (a b c : A) → P a → P b → P c → R a b → R b c → R a c) where

@@ -8,7 +8,7 @@ use Rattle.scene.specs.declared.Refusal.{Refusal}
 use Rattle.scene.specs.declared.CheckedObject.{CheckedObject}
 use Rattle.scene.specs.Read.{readAlone}
 use Rattle.scene.specs.Conditions.{checkObject}
-use Rattle.scene.proofs.Taken.{TakenAlone, taken-alone}
+use Rattle.scene.proofs.Taken.{taken-alone}
 use Rattle.checks.specs.declared.Verdict.the-variants.{Sound, Refused}
 use Rattle.checks.specs.Refusals.{objectVerdict}
 use Rattle.checks.proofs.Verdicts.{object-refused, object-read}

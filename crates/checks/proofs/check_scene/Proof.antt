@@ -9,7 +9,7 @@ use Rattle.scene.specs.declared.Fault.the-variants.{At, Nothing}
 use Rattle.scene.specs.declared.CheckedScene.{CheckedScene}
 use Rattle.scene.specs.Read.{IsScene}
 use Rattle.scene.specs.Conditions.{typesDescend, sceneRules, checkScene}
-use Rattle.scene.proofs.Taken.{TakenScene, taken-scene}
+use Rattle.scene.proofs.Taken.{taken-scene}
 use Rattle.checks.specs.declared.Verdict.the-variants.{Sound, Refused}
 use Rattle.checks.specs.Refusals.{geometryVerdict}
 use Rattle.checks.proofs.Verdicts.{check-refused, check-read}

@@ -1,5 +1,5 @@
 -- `checks::scene_fault` meets its contract: F's earliest, else G's; and F's alone for 15.
-use mathlib.Core.Path.{_≡_, sym, ap, _∙_}
+use mathlib.Core.Path.{_≡_, _∙_}
 use mathlib.Core.List.{List}
 use Prim.Native.Nat.{ℕ}
 use borrow.Author.Needs.{needs}

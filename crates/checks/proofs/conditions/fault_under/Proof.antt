@@ -4,7 +4,6 @@ use Prim.Native.Nat.{ℕ, _-_, _≤_}
 use native.Mathlib.Omega.{arith}
 use mathlib.Core.Path.{_≡_, sym, ap, _∙_}
 use mathlib.Core.Bool.{Bool}
-use borrow.Author.Needs.{needs}
 use Rattle.scene.specs.declared.Fault.the-variants.{At}
 use Rattle.scene.specs.Conditions.{earliest}
 use Rattle.checks.specs.Refusals.{isAtFault, faultUnder}

@@ -9,7 +9,6 @@ use Rattle.whole.specs.Count.{some}
 use Rattle.whole.proofs.Logic.{true-is}
 use Rattle.scene.specs.Read.{iaAt, place}
 use Rattle.scene.specs.Conditions.{elements, hasSegments, isRegion, half, ia, partner}
-use Rattle.scene.proofs.Given.{GoodHalfsegment}
 use Rattle.checks.proofs.Elements.{fits, half-good, half-is, partner-is}
 use Rattle.checks.proofs.Walk.{between, all-between, some-found, some-passed, some-none, Step, step, object-fits}
 use Rattle.checks.proofs.conditions.has_partner.Statement.{statement}

@@ -1,9 +1,8 @@
 -- `checks::conditions::has_wrong_ia` meets its contract: the record's ia against the rule's.
 use native.Mathlib.Omega.{arith}
 use mathlib.Core.Path.{_≡_, ap, ap₂, _∙_}
-use mathlib.Core.Bool.{Bool, true, not, Bool·beq}
+use mathlib.Core.Bool.{true, not, Bool·beq}
 use borrow.Author.Needs.{needs}
-use Rattle.plane.specs.declared.Segment.{Segment}
 use Rattle.plane.specs.Plane.{interiorAbove}
 use Rattle.scene.specs.Read.{segmentAt, iaAt, place}
 use Rattle.scene.specs.Conditions.{isRegion, half, segments}

@@ -1,7 +1,7 @@
 -- `checks::conditions::ia_at` meets its contract: a region's record has the byte, and for the other types it counts as 0.
 use Prim.Native.Nat.{_+_, _≤_}
 use native.Mathlib.Omega.{arith}
-use mathlib.Core.Path.{sym, subst, _∙_}
+use mathlib.Core.Path.{subst}
 use lib.ListN.{length}
 use borrow.Author.Needs.{needs}
 use Rattle.scene.specs.declared.Shape.{Shape}

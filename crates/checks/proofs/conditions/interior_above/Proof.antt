@@ -1,11 +1,9 @@
 -- `checks::conditions::interior_above` meets its contract: the rule for upright segments, or the one for the others.
 use mathlib.Core.Path.{_≡_, sym, ap, _∙_}
-use mathlib.Core.Bool.{Bool, true, false, not, or-false}
-use borrow.Author.Needs.{needs}
+use mathlib.Core.Bool.{not, or-false}
 use mir.Syntax.{w32}
 use mir.Val.{ofZ}
-use Rattle.whole.specs.Count.{eqZ, odd, count}
-use Rattle.plane.specs.declared.Segment.{Segment}
+use Rattle.whole.specs.Count.{odd, count}
 use Rattle.plane.specs.Plane.{HPoint, midpoint, countsBelow, countsBelowLeft, interiorAbove}
 use Rattle.plane.proofs.Machine.{Held, bits-eq, eqZ-yes, eqZ-no, left-in-doubled, right-in-doubled, doubled-held}
 use Rattle.scene.specs.Conditions.{segments}

@@ -1,7 +1,7 @@
 -- `checks::conditions::is_misplaced` meets its contract: the first element is never at fault, any other where it is not in order after the one before.
 use Prim.Native.Nat.{_<_}
 use native.Mathlib.Omega.{arith}
-use mathlib.Core.Path.{_≡_, sym, ap, _∙_}
+use mathlib.Core.Path.{ap}
 use mathlib.Core.Bool.{not}
 use borrow.Author.Needs.{needs}
 use borrow.Author.Tests.{lt-ltb}

@@ -1,13 +1,15 @@
 -- `checks::conditions::is_touching` meets its contract: a left halfsegment's segment is held against the other object's segments.
 use native.Mathlib.Omega.{arith}
-use mathlib.Core.Path.{_≡_, sym, _∙_}
+use mathlib.Core.Path.{_≡_, ap}
 use mathlib.Core.Bool.{true}
 use borrow.Author.Needs.{needs}
+use Rattle.plane.specs.declared.Halfsegment.{Halfsegment}
 use Rattle.scene.specs.Read.{place}
 use Rattle.scene.specs.Conditions.{hasSegments, half, segments}
 use Rattle.scene.proofs.Flags.{refuted, upheld}
 use Rattle.scene.proofs.Given.{GoodHalfsegment}
-use Rattle.checks.proofs.Elements.{fits, half-good, half-is, half-in-range, touching-is}
+use Rattle.checks.proofs.Elements.{fits, half-good, half-is, touching-is}
+use Rattle.checks.proofs.Walk.{in-range-at, in-order-at}
 use Rattle.checks.proofs.conditions.is_touching.Statement.{statement}
 use Rattle.checks.proofs.conditions.is_touching.Tie as tie
 
@@ -42,7 +44,8 @@ halfsegment-requires c κs = omega (arith, good (c .before) .there, c .place .en
 touches-some-requires : tie.Need-touches-some-requires
 touches-some-requires c κs =
     let d = c .before .before .before in
-    (z d .pre .1, half-in-range (z d .args .s .now) (z d .args .l) (z d .args .i) (is-half (c .before)) (good d))
+    let e = ap (λ (h : Halfsegment). h .segment) (is-half (c .before)) in
+    (z d .pre .1, in-range-at e (good d .in-range), in-order-at e (good d .in-order))
 
 returns-2 : tie.Need-returns-2
 returns-2 c =

@@ -3,12 +3,12 @@
 use Prim.Native.Nat.{ℕ, _-_, _≤_}
 use native.Mathlib.Omega.{arith}
 use mathlib.Core.Path.{_≡_, sym, ap, _∙_}
-use mathlib.Core.Bool.{Bool, true}
+use mathlib.Core.Bool.{Bool}
 use borrow.Author.Needs.{needs}
 use Rattle.whole.specs.Count.{some}
 use Rattle.plane.specs.Plane.{touch}
 use Rattle.scene.specs.Read.{place}
-use Rattle.scene.specs.Conditions.{hasSegments, segments}
+use Rattle.scene.specs.Conditions.{segments}
 use Rattle.scene.proofs.Flags.{refuted, upheld}
 use Rattle.checks.proofs.Walk.{between, leftPasses, some-found, some-passed, some-none, no-segments, some-segments, Step, step, object-fits}
 use Rattle.checks.proofs.segments.touches_some.Statement.{statement}
@@ -60,7 +60,7 @@ loop-holds c =
     (omega arith, omega arith, some-segments (z .s .now) (z .l) (touch (z .t)))
 
 is-touched-at-requires : tie.Need-is-touched-at-requires Inv-loop μ-loop
-is-touched-at-requires c κs = (here c .readable, z c .pre .1)
+is-touched-at-requires c κs = (here c .readable, here c .in-order, z c .pre .1, z c .pre .2)
 
 returns-2 : tie.Need-returns-2 Inv-loop μ-loop
 returns-2 c =

@@ -1,0 +1,370 @@
+-- What a taken scene or object gives, in the form that the plane's lemmas take: elements in range and in strict order, partners, segments that are
+-- split, even ends and right ia for regions, and no touch across the two objects.
+use Prim.Native.Nat.{ℕ, zero, suc, _+_, _-_, _<_, _≤_}
+use native.Mathlib.Nat.{eq-or-lt-of-le}
+use native.Mathlib.Omega.{arith}
+use mathlib.Core.Path.{_≡_, refl, sym, ap, subst, subst₂, _∙_}
+use mathlib.Core.Logic.{⊎-elim}
+use mathlib.Core.Bool.{Bool, true, false, not, _&&_, cond, Bool·beq}
+use mathlib.Core.List.{List, [], _∷_, _++_, map}
+use lib.Dec.{T, leb, ltb, leb→le}
+use borrow.Author.Tests.{lt-ltb, not-false}
+use Rattle.whole.specs.Count.{odd, some, _∈_, here, there}
+use Rattle.whole.proofs.Logic.{and-left, and-right, is-true, true-is, in-nil, in-cons, some-find, none-of, in-map, map-in, Sorted, sorted-nil, sorted-cons, sorted-map, rising}
+use Rattle.plane.specs.declared.Point.{Point}
+use Rattle.plane.specs.declared.Segment.{Segment}
+use Rattle.plane.specs.declared.Halfsegment.{Halfsegment}
+use Rattle.plane.specs.Plane.{inRange, segmentInRange, before, sameSegment, ordered, dominating, comesBefore, grid, endsAt, interiorAbove, touch}
+use Rattle.plane.proofs.Equal.{sameSegment-read}
+use Rattle.plane.proofs.Order.{before-trans, comes-trans, LeftBefore, halfOf}
+use Rattle.plane.proofs.Accepted.{Split, Regular, Across, AllOrdered, across-from-touch, split-from-order, even-from-ends}
+use Rattle.scene.specs.declared.Layout.{Layout}
+use Rattle.scene.specs.declared.Scene.{Scene}
+use Rattle.scene.specs.declared.Fault.{Fault}
+use Rattle.scene.specs.declared.Fault.the-variants.{At, Nothing}
+use Rattle.scene.specs.declared.CheckedObject.{CheckedObject}
+use Rattle.scene.specs.declared.CheckedScene.{CheckedScene}
+use Rattle.scene.specs.Read.{pointAt, shapeNumber, place, unless, IsObject}
+use Rattle.scene.specs.Conditions.{indices, elements, keep, hasSegments, isRegion, half, ia, isLeft, segments, earliest, inOrder, isMisplaced, outOfOrder, partner, isUnpaired, unpaired, isTouching, touching, touchingItself, endsOddly, oddEnd, hasWrongIa, wrongIa, Rule, rule, objectRules, orElse, overBoth, touchingAcross, sceneRules, checkSceneBy, checkObject}
+use Rattle.scene.proofs.Taken.{TakenScene}
+use Rattle.scene.proofs.Given.{NoFault, checked-scene, checked-object}
+use Rattle.checks.proofs.Elements.{point-good, half-good, order-of-points, order-of-halves}
+
+-- ---- the indices of an object's elements
+
+pub in-indices : (n j i : ℕ) → j ≤ i → i < j + n → i ∈ indices n j
+in-indices zero j i h k = absurd (omega arith)
+in-indices (suc n) j i h k = ⊎-elim (λ e. subst (λ (m : ℕ). m ∈ indices (suc n) j) e here) (λ l. there (in-indices n (suc j) i l (omega arith))) (eq-or-lt-of-le h)
+
+indices-in : (n j i : ℕ) → i ∈ indices n j → (j ≤ i) × (i < j + n)
+indices-in zero j i m = absurd (in-nil m)
+indices-in (suc n) j i m =
+    ⊎-elim (λ e. (omega arith, omega arith)) (λ k. let w = indices-in n (suc j) i k in (omega arith, omega arith)) (in-cons m)
+
+pub element-in : (l : Layout) (i : ℕ) → i < l .count → i ∈ elements l
+element-in l i h = in-indices (l .count) 0 i (omega arith) (omega arith)
+
+pub in-element : (l : Layout) (i : ℕ) → i ∈ elements l → i < l .count
+in-element l i m = omega (arith, indices-in (l .count) 0 i m .1)
+
+module _ (f : ℕ → Bool) where
+  keep-in : (is : List ℕ) {i : ℕ} → i ∈ keep f is → (i ∈ is) × (f i ≡ true)
+  keep-in [] m = absurd (in-nil m)
+  keep-in (j ∷ is) {i} m = go (f j) refl m (λ k. keep-in is k)
+    where
+      go : (b : Bool) → f j ≡ b → i ∈ cond b (j ∷ keep f is) (keep f is) → (i ∈ keep f is → (i ∈ is) × (f i ≡ true)) → (i ∈ (j ∷ is)) × (f i ≡ true)
+      go true e m later = ⊎-elim (λ q. (subst (λ (k : ℕ). k ∈ (j ∷ is)) (sym q) here, ap f q ∙ e)) (λ k. (there (later k .0), later k .1)) (in-cons m)
+      go false e m later = (there (later m .0), later m .1)
+
+  in-keep : {is : List ℕ} {i : ℕ} → i ∈ is → f i ≡ true → i ∈ keep f is
+  in-keep {i = i} (here {l = is}) e = subst (λ (b : Bool). i ∈ cond b (i ∷ keep f is) (keep f is)) (sym e) here
+  in-keep {i = i} (there {b = j} {l = is} m) e = go (f j) (in-keep m e)
+    where
+      go : (b : Bool) → i ∈ keep f is → i ∈ cond b (j ∷ keep f is) (keep f is)
+      go true k = there k
+      go false k = k
+
+  kept-rise : (n j : ℕ) → Sorted _<_ (keep f (indices n j))
+  kept-rise zero j = sorted-nil
+  kept-rise (suc n) j = go (f j) (kept-rise n (suc j))
+    where
+      go : (b : Bool) → Sorted _<_ (keep f (indices n (suc j))) → Sorted _<_ (cond b (j ∷ keep f (indices n (suc j))) (keep f (indices n (suc j))))
+      go true r = sorted-cons (λ i m. indices-in n (suc j) i (keep-in (indices n (suc j)) m .0) .0) r
+      go false r = r
+
+not-nothing : {p : ℕ} → At p ≡ Nothing → ⊥
+not-nothing e = let z : _≡_ {A = ℕ} 0 1 = cc in omega arith
+
+-- no element is at fault
+none-wrong : (l : Layout) (wrong : ℕ → Bool) → earliest l wrong (elements l) ≡ Nothing → (i : ℕ) → i < l .count → wrong i ≡ false
+none-wrong l wrong e i h = go (elements l) e (element-in l i h)
+  where
+    go : (is : List ℕ) → earliest l wrong is ≡ Nothing → i ∈ is → wrong i ≡ false
+    go [] e m = absurd (in-nil m)
+    go (j ∷ is) e m = at (wrong j) refl e (go is)
+      where
+        at : (b : Bool) → wrong j ≡ b → cond b (At (place l j)) (earliest l wrong is) ≡ Nothing → (earliest l wrong is ≡ Nothing → i ∈ is → wrong i ≡ false) → wrong i ≡ false
+        at true q e later = absurd (not-nothing e)
+        at false q e later = ⊎-elim (λ x. ap wrong x ∙ q) (later e) (in-cons m)
+
+-- ---- an object that 10 to 14 do not refuse
+
+pub record SoundObject (s : List ℕ) (l : Layout) : Type 0 where
+  pub read : IsObject s l
+  pub order : outOfOrder s l ≡ Nothing
+  pub paired : unpaired s l ≡ Nothing
+  pub apart : touchingItself s l ≡ Nothing
+  pub even : oddEnd s l ≡ Nothing
+  pub right-ia : wrongIa s l ≡ Nothing
+
+-- the halfsegment i, with one segment, on one side
+module _ (s : List ℕ) (l : Layout) (i : ℕ) where
+  as-half : (b : Bool) → half s l i .«is_left» ≡ b → half s l i ≡ halfOf b (half s l i .segment)
+  as-half b e = ap (λ (b : Bool). halfOf b (half s l i .segment)) e
+
+  left-segments : isLeft s l i ≡ true → (hasSegments (l .shape) ≡ true) × (half s l i .«is_left» ≡ true)
+  left-segments e =
+      (true-is _ (and-left (hasSegments (l .shape)) (half s l i .«is_left») (is-true (isLeft s l i) e)), true-is _ (and-right (hasSegments (l .shape)) (half s l i .«is_left») (is-true (isLeft s l i) e)))
+
+-- the halfsegment "of opposite d, equal ends and ia"
+pub record Partner (s : List ℕ) (l : Layout) (i : ℕ) : Type 0 where
+  pub index : ℕ
+  pub there : index < l .count
+  pub other-side : half s l index .«is_left» ≡ not (half s l i .«is_left»)
+  pub same-segment : half s l index .segment ≡ half s l i .segment
+  pub same-ia : ia s l index ≡ ia s l i
+
+beq-not : (a b : Bool) → T (not (Bool·beq a b)) → b ≡ not a
+beq-not true true t = absurd t
+beq-not true false t = refl
+beq-not false true t = refl
+beq-not false false t = absurd t
+
+beq-same : (a b : Bool) → T (Bool·beq a b) → a ≡ b
+beq-same true true t = refl
+beq-same true false t = absurd t
+beq-same false true t = absurd t
+beq-same false false t = refl
+
+as-partner : (s : List ℕ) (l : Layout) (i j : ℕ) → j < l .count → T (partner s l i j) → Partner s l i
+unfolding partner
+as-partner s l i j h t = record {
+  index = j;
+  there = h;
+  other-side = beq-not (half s l i .«is_left») (half s l j .«is_left») (and-left sides segments′ both);
+  same-segment = sym (sameSegment-read (half s l i .segment) (half s l j .segment) (and-right sides segments′ both));
+  same-ia = sym (beq-same (ia s l i) (ia s l j) (and-right (sides && segments′) (Bool·beq (ia s l i) (ia s l j)) t));
+}
+  where
+    sides : Bool
+    sides = not (Bool·beq (half s l i .«is_left») (half s l j .«is_left»))
+
+    segments′ : Bool
+    segments′ = sameSegment (half s l i .segment) (half s l j .segment)
+
+    both : T (sides && segments′)
+    both = and-left (sides && segments′) (Bool·beq (ia s l i) (ia s l j)) t
+
+module _ {s : List ℕ} {l : Layout} (o : SoundObject s l) where
+  -- 10: each element comes before every later one
+  neighbours : (i : ℕ) → suc i < l .count → T (inOrder s l i (suc i))
+  unfolding outOfOrder
+  neighbours i h = is-true (inOrder s l i (suc i)) (not-false (inOrder s l i (suc i)) (go (none-wrong l (isMisplaced s l) (o .order) (suc i) h)))
+    where
+      back : suc i - 1 ≡ i
+      back = omega arith
+
+      go : ltb 0 (suc i) && not (inOrder s l (suc i - 1) (suc i)) ≡ false → not (inOrder s l i (suc i)) ≡ false
+      go e = rw (lt-ltb 0 (suc i) (omega arith), back) at e
+
+  halves-rise : hasSegments (l .shape) ≡ true → (i j : ℕ) → i < j → j < l .count → T (comesBefore (half s l i) (half s l j))
+  halves-rise e =
+      rising (λ (h : Halfsegment). T (ordered (h .segment))) (λ h k. T (comesBefore h k)) comes-trans (half s l) (l .count)
+      (λ i h. half-good s l (o .read) i h e .in-order) (λ i h. subst T (order-of-halves s l i (suc i) e) (neighbours i h))
+
+  points-rise : hasSegments (l .shape) ≡ false → (i j : ℕ) → i < j → j < l .count → T (before (pointAt s (place l i)) (pointAt s (place l j)))
+  points-rise e =
+      rising (λ (p : Point). Unit {0}) (λ p q. T (before p q)) (λ p q r _ _ _. before-trans p q r) (λ i. pointAt s (place l i)) (l .count) (λ i h. tt)
+      (λ i h. subst T (order-of-points s l i (suc i) e) (neighbours i h))
+
+  pub in-strict-order : (i j : ℕ) → i < j → j < l .count → T (inOrder s l i j)
+  in-strict-order i j h k = go (hasSegments (l .shape)) refl
+    where
+      go : (b : Bool) → hasSegments (l .shape) ≡ b → T (inOrder s l i j)
+      go true e = subst T (sym (order-of-halves s l i j e)) (halves-rise e i j h k)
+      go false e = subst T (sym (order-of-points s l i j e)) (points-rise e i j h k)
+
+  -- the segments are those of the left halfsegments
+  pub left-in : (i : ℕ) → i < l .count → isLeft s l i ≡ true → half s l i .segment ∈ segments s l
+  unfolding segments
+  left-in i h e = in-map (λ i. half s l i .segment) (in-keep (isLeft s l) (element-in l i h) e)
+
+  pub in-left : {t : Segment} → t ∈ segments s l → (i : ℕ) × (i < l .count) × (isLeft s l i ≡ true) × (half s l i .segment ≡ t)
+  unfolding segments
+  in-left m =
+      let w = map-in (λ i. half s l i .segment) (keep (isLeft s l) (elements l)) m in
+      let k = keep-in (isLeft s l) (elements l) (w .1) in
+      (w .0, in-element l (w .0) (k .0), k .1, w .2)
+
+  good-segment : {t : Segment} → t ∈ segments s l → T (segmentInRange t) × T (ordered t)
+  good-segment {t} m =
+      let w = in-left m in
+      let g = half-good s l (o .read) (w .0) (w .1) (left-segments s l (w .0) (w .2) .0) in
+      subst (λ (t : Segment). T (segmentInRange t) × T (ordered t)) (w .3) (g .in-range, g .in-order)
+
+  pub segments-in-range : {t : Segment} → t ∈ segments s l → T (segmentInRange t)
+  segments-in-range m = good-segment m .0
+
+  pub all-ordered : AllOrdered (segments s l)
+  all-ordered t m = good-segment m .1
+
+  -- 10: they come in the order of their left halfsegments
+  pub segments-sorted : Sorted LeftBefore (segments s l)
+  unfolding segments
+  segments-sorted = sorted-map (λ i. half s l i .segment) (kept-rise (isLeft s l) (l .count) 0) rise
+    where
+      rise : (i j : ℕ) → i ∈ keep (isLeft s l) (elements l) → j ∈ keep (isLeft s l) (elements l) → i < j → LeftBefore (half s l i .segment) (half s l j .segment)
+      rise i j m k h =
+          let a = keep-in (isLeft s l) (elements l) m in
+          let b = keep-in (isLeft s l) (elements l) k in
+          subst₂ (λ (h k : Halfsegment). T (comesBefore h k)) (as-half s l i true (left-segments s l i (a .1) .1)) (as-half s l j true (left-segments s l j (b .1) .1))
+          (halves-rise (left-segments s l i (a .1) .0) i j h (in-element l j (b .0)))
+
+  -- 12: no two of them touch
+  pub no-touch : (t u : Segment) → t ∈ segments s l → u ∈ segments s l → touch t u ≡ false
+  unfolding touchingItself touching
+  no-touch t u m k =
+      let w = in-left m in
+      subst (λ (t : Segment). touch t u ≡ false) (w .3)
+      (none-of (touch (half s l (w .0) .segment)) (rw (w .2) at (none-wrong l (isTouching s l (segments s l)) (o .apart) (w .0) (w .1))) k)
+
+  pub split : Split (segments s l)
+  split = split-from-order (segments s l) all-ordered no-touch segments-sorted
+
+  -- 11: every halfsegment has its partner
+  pub partner-of : hasSegments (l .shape) ≡ true → (i : ℕ) → i < l .count → Partner s l i
+  unfolding unpaired
+  partner-of e i h =
+      let w = some-find (partner s l i) (elements l) (is-true (some (partner s l i) (elements l)) found) in
+      as-partner s l i (w .0) (in-element l (w .0) (w .1)) (w .2)
+    where
+      found : some (partner s l i) (elements l) ≡ true
+      found = not-false (some (partner s l i) (elements l)) (rw e at (none-wrong l (isUnpaired s l) (o .paired) i h))
+
+  -- so the segment of a right halfsegment is one of the list too
+  pub segment-in : hasSegments (l .shape) ≡ true → (i : ℕ) → i < l .count → half s l i .segment ∈ segments s l
+  segment-in e i h = go (half s l i .«is_left») refl
+    where
+      left : (i : ℕ) → half s l i .«is_left» ≡ true → isLeft s l i ≡ true
+      left i q = rw (e, q)
+
+      go : (b : Bool) → half s l i .«is_left» ≡ b → half s l i .segment ∈ segments s l
+      go true q = left-in i h (left i q)
+      go false q =
+          let p = partner-of e i h in
+          subst (λ (t : Segment). t ∈ segments s l) (p .same-segment) (left-in (p .index) (p .there) (left (p .index) (p .other-side ∙ ap not q)))
+
+  -- and each segment of the list is that of a left and of a right halfsegment
+  pub half-of : (b : Bool) {t : Segment} → t ∈ segments s l → (i : ℕ) × (i < l .count) × (half s l i ≡ halfOf b t)
+  half-of b {t} m = go b
+    where
+      w : (i : ℕ) × (i < l .count) × (isLeft s l i ≡ true) × (half s l i .segment ≡ t)
+      w = in-left m
+
+      is-left : half s l (w .0) .«is_left» ≡ true
+      is-left = left-segments s l (w .0) (w .2) .1
+
+      go : (b : Bool) → (i : ℕ) × (i < l .count) × (half s l i ≡ halfOf b t)
+      go true = (w .0, w .1, as-half s l (w .0) true is-left ∙ ap (halfOf true) (w .3))
+      go false =
+          let p = partner-of (left-segments s l (w .0) (w .2) .0) (w .0) (w .1) in
+          (p .index, p .there, as-half s l (p .index) false (p .other-side ∙ ap not is-left) ∙ ap (halfOf false) (p .same-segment ∙ w .3))
+
+  -- 13: an even number of segments ends at each end
+  module _ (region : isRegion (l .shape) ≡ true) where
+    even-at : (i : ℕ) → i < l .count → odd (endsAt (segments s l) (grid (dominating (half s l i)))) ≡ false
+    unfolding oddEnd
+    even-at i h = rw region at (none-wrong l (endsOddly s l) (o .even) i h)
+
+    pub regular : Regular (segments s l)
+    unfolding dominating
+    regular = record {
+      split = split;
+      even = even-from-ends (segments s l) all-ordered (λ t m. (at true m, at false m));
+    }
+      where
+        at : (b : Bool) {t : Segment} → t ∈ segments s l → odd (endsAt (segments s l) (grid (dominating (halfOf b t)))) ≡ false
+        at b m = let w = half-of b m in subst (λ (h : Halfsegment). odd (endsAt (segments s l) (grid (dominating h))) ≡ false) (w .2) (even-at (w .0) (w .1))
+
+    -- 14: ia is as the rule has it
+    pub ia-is : (i : ℕ) → i < l .count → ia s l i ≡ interiorAbove (segments s l) (half s l i .segment)
+    unfolding wrongIa
+    ia-is i h =
+        beq-same (ia s l i) (interiorAbove (segments s l) (half s l i .segment))
+        (is-true (Bool·beq (ia s l i) (interiorAbove (segments s l) (half s l i .segment))) (not-false (Bool·beq (ia s l i) (interiorAbove (segments s l) (half s l i .segment))) right))
+      where
+        right : not (Bool·beq (ia s l i) (interiorAbove (segments s l) (half s l i .segment))) ≡ false
+        right = rw region (rw region at (none-wrong l (hasWrongIa s l) (o .right-ia) i h))
+
+  -- points: in range, and in strict order
+  module _ (points : hasSegments (l .shape) ≡ false) where
+    pub point-in-range : (i : ℕ) → i < l .count → T (inRange (pointAt s (place l i)))
+    point-in-range i h = point-good s l (o .read) i h points .in-range
+
+    pub points-sorted : Sorted (λ p q. T (before p q)) (map (λ i. pointAt s (place l i)) (elements l))
+    points-sorted =
+        sorted-map (λ i. pointAt s (place l i)) (rise (l .count) 0) (λ i j m k h. points-rise points i j h (in-element l j k))
+      where
+        rise : (n j : ℕ) → Sorted _<_ (indices n j)
+        rise zero j = sorted-nil
+        rise (suc n) j = sorted-cons (λ i m. indices-in n (suc j) i m .0) (rise n (suc j))
+
+-- ---- a scene that 8 and 10 to 15 do not refuse
+
+pub record SoundScene (s : List ℕ) (sc : Scene) : Type 0 where
+  pub taken : TakenScene s sc
+  pub f-sound : SoundObject s (sc .f)
+  pub g-sound : SoundObject s (sc .g)
+  pub ascending : shapeNumber (sc .f .shape) ≤ shapeNumber (sc .g .shape)
+  pub apart : touchingAcross s sc ≡ Nothing
+
+-- 15: no segment of F touches one of G
+pub across : {s : List ℕ} {sc : Scene} → SoundScene s sc → Across (segments s (sc .f)) (segments s (sc .g))
+unfolding touching
+across {s} {sc} o =
+    across-from-touch (segments s (sc .f)) (segments s (sc .g)) (all-ordered (o .f-sound)) (all-ordered (o .g-sound)) none
+  where
+    none : (t u : Segment) → t ∈ segments s (sc .f) → u ∈ segments s (sc .g) → touch t u ≡ false
+    none t u m k =
+        let w = in-left (o .f-sound) m in
+        subst (λ (t : Segment). touch t u ≡ false) (w .3)
+        (none-of (touch (half s (sc .f) (w .0) .segment)) (rw (w .2) at (none-wrong (sc .f) (isTouching s (sc .f) (segments s (sc .g))) (o .apart) (w .0) (w .1))) k)
+
+neither : (a b : Fault) → orElse a b ≡ Nothing → (a ≡ Nothing) × (b ≡ Nothing)
+neither (At p) b e = absurd (not-nothing e)
+neither Nothing b e = (refl, e)
+
+holds : (b : Bool) (p : ℕ) → unless b p ≡ Nothing → T b
+holds true p e = tt
+holds false p e = absurd (not-nothing e)
+
+no-fault-after : {A : Type 0} (s : List ℕ) (a : A) (rules more : List (Rule A)) → NoFault s a (rules ++ more) → NoFault s a more
+no-fault-after s a [] more n = n
+no-fault-after s a (r ∷ rules) more n = no-fault-after s a rules more (n .1)
+
+pub sound-object : (s : List ℕ) (l : Layout) → checkObject s ≡ CheckedObject.Taken l → SoundObject s l
+sound-object s l e =
+    let c = checked-object s l e in
+    let n = c .1 in
+    record { read = c .0 .read; order = n .0; paired = n .1 .0; apart = n .1 .1 .0; even = n .1 .1 .1 .0; right-ia = n .1 .1 .1 .1 .0 }
+
+-- whatever conditions of its own a question has
+pub sound-scene : (nine later : List (Rule Scene)) (s : List ℕ) (sc : Scene) → checkSceneBy (sceneRules nine later) s ≡ CheckedScene.Taken sc → SoundScene s sc
+sound-scene nine later s sc e = record {
+  taken = c .0;
+  f-sound = record { read = c .0 .f-read; order = order .0; paired = paired .0; apart = apart .0; even = even .0; right-ia = right-ia .0 };
+  g-sound = record { read = c .0 .g-taken .read; order = order .1; paired = paired .1; apart = apart .1; even = even .1; right-ia = right-ia .1 };
+  ascending = leb→le (shapeNumber (sc .f .shape)) (shapeNumber (sc .g .shape)) (holds (leb (shapeNumber (sc .f .shape)) (shapeNumber (sc .g .shape))) (sc .g .start) (c .1 .0));
+  apart = n .1 .1 .1 .1 .1 .0;
+}
+  where
+    c : TakenScene s sc × NoFault s sc (sceneRules nine later)
+    c = checked-scene (sceneRules nine later) s sc e
+
+    n : NoFault s sc (map overBoth objectRules ++ (rule 15 touchingAcross ∷ later))
+    n = no-fault-after s sc nine (map overBoth objectRules ++ (rule 15 touchingAcross ∷ later)) (c .1 .1)
+
+    order : (outOfOrder s (sc .f) ≡ Nothing) × (outOfOrder s (sc .g) ≡ Nothing)
+    order = neither (outOfOrder s (sc .f)) (outOfOrder s (sc .g)) (n .0)
+
+    paired : (unpaired s (sc .f) ≡ Nothing) × (unpaired s (sc .g) ≡ Nothing)
+    paired = neither (unpaired s (sc .f)) (unpaired s (sc .g)) (n .1 .0)
+
+    apart : (touchingItself s (sc .f) ≡ Nothing) × (touchingItself s (sc .g) ≡ Nothing)
+    apart = neither (touchingItself s (sc .f)) (touchingItself s (sc .g)) (n .1 .1 .0)
+
+    even : (oddEnd s (sc .f) ≡ Nothing) × (oddEnd s (sc .g) ≡ Nothing)
+    even = neither (oddEnd s (sc .f)) (oddEnd s (sc .g)) (n .1 .1 .1 .0)
+
+    right-ia : (wrongIa s (sc .f) ≡ Nothing) × (wrongIa s (sc .g) ≡ Nothing)
+    right-ia = neither (wrongIa s (sc .f)) (wrongIa s (sc .g)) (n .1 .1 .1 .1 .0)
