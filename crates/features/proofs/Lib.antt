@@ -6,3 +6,6 @@ pub mod ByElement
 pub mod Searching
 pub mod Inside
 pub mod OfElement
+pub mod AtIndex
+pub mod Gathered
+pub mod Clear

@@ -83,7 +83,7 @@ module _ (s : List ℕ) (l : Layout) (f : Segment → Bool) where
 
   pub among-segments : {r : Bool} {by : ℕ} → IsObject s l → r ≡ hasSegments (l .shape) → not r ≡ false → by ≡ size (l .shape) → AmongSegments by (l .start + 2) 0
   among-segments is e n b = record {
-    each = λ j h. let g = good-halfsegment taken j h (is-true (hasSegments (l .shape)) (upheld e n)) in ((g .there, g .in-range), omega (arith, taken .elements j h .whole));
+    each = λ j h. let g = good-halfsegment taken j h (is-true (hasSegments (l .shape)) (upheld e n)) in ((g .there, g .in-range, g .in-order), omega (arith, taken .elements j h .whole));
     by-size = b;
     at-is = omega arith;
     few = omega arith;
@@ -103,7 +103,7 @@ module _ (s : List ℕ) (l : Layout) (t : Segment) (above : Bool) where
   pub among-edges : {by : ℕ} → IsObject s l → T (isRegion (l .shape)) → by ≡ size (l .shape) → AmongEdges by (l .start + 2) 0
   unfolding edges
   among-edges is region b = record {
-    each = λ j h. let g = good-halfsegment taken j h (segmented (l .shape) region) in (((g .there, g .in-range), ia-there taken j h region), omega (arith, taken .elements j h .whole));
+    each = λ j h. let g = good-halfsegment taken j h (segmented (l .shape) region) in (((g .there, g .in-range, g .in-order), ia-there taken j h region), omega (arith, taken .elements j h .whole));
     by-size = b;
     at-is = omega arith;
     few = omega arith;

@@ -1,9 +1,10 @@
 -- The flags element by element: what the walk over an object's records collects. A flag of an object is set when it is set for some element of that
 -- object, given the other object as a whole; proofs/Walk.antt says that these are the flags of Flags.antt.
-use Prim.Native.Nat.{ℕ}
+use Prim.Native.Nat.{ℕ, _<_}
 use mathlib.Core.Path.{_≡_}
 use mathlib.Core.Bool.{Bool, true, false, not, _&&_, _||_}
 use mathlib.Core.List.{List, [], _∷_, _++_, map}
+use lib.Dec.{T}
 use lib.ListN.{getD}
 use Rattle.whole.specs.Count.{some}
 use Rattle.plane.specs.declared.Point.{Point}
@@ -266,6 +267,13 @@ module _ (isF : Bool) (s : List ℕ) (own other : Layout) where
 
   abbrev pub allFlags : Found
   allFlags = gather elementFlags (elements own)
+
+-- what the walk asks of two objects: the midpoint of an own segment lies on the other's segments where it is one of them, and nowhere else
+abbrev pub ClearAt : List ℕ → Layout → Layout → ℕ → Type 0
+ClearAt s own other i = T (isLeft s own i) → Clear (segments s other) (half s own i .segment)
+
+abbrev pub AllClear : List ℕ → Layout → Layout → Type 0
+AllClear s own other = (i : ℕ) → i < own .count → ClearAt s own other i
 
 -- the vector of the object that is walked, beside the other
 abbrev pub flagsOf : Bool → Elements → Elements → List Bool

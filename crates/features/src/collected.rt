@@ -1,10 +1,10 @@
-// Flags as eight bools: none, those of either, and to and from the bits of a number.
+// Flags as eight bools: none, those of either, those wanted, and to and from the bits of a number.
 use crate::Found;
 ghost use mathlib.Core.Path.{_≡_};
 ghost use Prim.Native.Nat.{_<_};
 ghost use Rattle.whole.specs.Count.{bit};
-ghost use Rattle.features.specs.Flags.{pack};
-ghost use Rattle.features.specs.Walk.{bits, nothing, either, lacks};
+ghost use Rattle.features.specs.Flags.{pack, hasBit};
+ghost use Rattle.features.specs.Walk.{bits, bitwise, nothing, either, masked, lacks};
 
 pub fn nothing() -> Found
     ensures { λ r. ⌜ r ≡ nothing ⌝ }
@@ -33,6 +33,21 @@ pub fn either(a: Found, b: Found) -> Found
         b5: a.b5 | b.b5,
         b6: a.b6 | b.b6,
         b7: a.b7 | b.b7,
+    }
+}
+
+pub fn masked(want: Found, a: Found) -> Found
+    ensures { λ r. ⌜ r ≡ masked want a ⌝ }
+{
+    Found {
+        b0: want.b0 & a.b0,
+        b1: want.b1 & a.b1,
+        b2: want.b2 & a.b2,
+        b3: want.b3 & a.b3,
+        b4: want.b4 & a.b4,
+        b5: want.b5 & a.b5,
+        b6: want.b6 & a.b6,
+        b7: want.b7 & a.b7,
     }
 }
 
@@ -68,4 +83,19 @@ pub fn packed(a: Found) -> u16
                                 + 2
                                     * (bit(a.b4)
                                         + 2 * (bit(a.b5) + 2 * (bit(a.b6) + 2 * bit(a.b7)))))))
+}
+
+pub fn unpacked(mask: u16) -> Found
+    ensures { λ r. ⌜ r ≡ bitwise (λ k. hasBit mask k) ⌝ }
+{
+    Found {
+        b0: mask % 2 == 1,
+        b1: mask / 2 % 2 == 1,
+        b2: mask / 4 % 2 == 1,
+        b3: mask / 8 % 2 == 1,
+        b4: mask / 16 % 2 == 1,
+        b5: mask / 32 % 2 == 1,
+        b6: mask / 64 % 2 == 1,
+        b7: mask / 128 % 2 == 1,
+    }
 }

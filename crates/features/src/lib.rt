@@ -18,7 +18,15 @@ pub struct Middle {
     pub inside: bool,
 }
 
+// The flags that F and G have, a bit for each.
+pub struct FlagMasks {
+    pub f: u16,
+    pub g: u16,
+}
+
 pub mod collected;
+pub mod masks;
 pub mod pairs;
 pub mod position;
 pub mod searches;
+pub mod walk;
