@@ -9,3 +9,5 @@ pub mod OfElement
 pub mod AtIndex
 pub mod Gathered
 pub mod Clear
+pub mod Packed
+pub mod Answered

@@ -3,3 +3,4 @@ pub mod Flags
 pub mod Sentences
 pub mod Wanted
 pub mod Walk
+pub mod Vectors

@@ -1,4 +1,16 @@
 // The topological feature vectors of two objects.
+use scene::Refusal;
+
+// A 16-bit vector for each object.
+pub struct Vectors {
+    pub f: u16,
+    pub g: u16,
+}
+
+pub enum Explored {
+    Taken(Vectors),
+    Refused(Refusal),
+}
 
 // The flags of a vector, bit 0 first; a bit without a flag is false.
 pub struct Found {
@@ -28,5 +40,6 @@ pub mod collected;
 pub mod masks;
 pub mod pairs;
 pub mod position;
+pub mod question;
 pub mod searches;
 pub mod walk;
