@@ -1,3 +1,5 @@
--- The laws of the walk over the different segments of two regions, and of the list of their bytes.
+-- The laws of the merged segments of two regions, of the walk over them, of the list of their bytes, and of the check before it.
+pub mod Members
 pub mod Merging
 pub mod Listing
+pub mod Checked

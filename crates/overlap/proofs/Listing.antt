@@ -21,7 +21,7 @@ use Rattle.features.specs.Flags.{Edge, outline, hasSegment}
 use Rattle.features.specs.Walk.{edges, sameIa, sameEdge, hasEdge, Clear}
 use Rattle.features.proofs.ByElement.{outline-edges}
 use Rattle.overlap.specs.Overlap.{merge, adjoins, byteOf, overlapBytes}
-use Rattle.overlap.specs.Walked.{mergedFrom, AllClear}
+use Rattle.overlap.specs.Walked.{mergedFrom, MergedClear}
 use Rattle.overlap.proofs.Merging.{region-size, from-start}
 
 -- ---- the byte of a segment
@@ -73,7 +73,7 @@ module _ (s : List ℕ) (f g : Layout) where
   abbrev pub ClearFrom : ℕ → ℕ → Type 0
   ClearFrom i j = (t : Segment) → t ∈ mergedFrom s f g i j → Clear (segments s f) t × Clear (segments s g) t
 
-  pub clear-start : AllClear s f g → ClearFrom 0 0
+  pub clear-start : MergedClear s f g → ClearFrom 0 0
   clear-start h t m = h t (subst (λ (l : List Segment). t ∈ l) (sym whole) m)
 
 -- ---- the buffer

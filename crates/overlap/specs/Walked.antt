@@ -19,8 +19,8 @@ unfoldable pub segmentsFrom : List ℕ → Layout → ℕ → List Segment
 segmentsFrom s l i = map (λ k. half s l k .segment) (keep (isLeft s l) (indices (l .count - i) i))
 
 -- the midpoint of each of the different segments lies on a region's segments where the segment is one of them, and nowhere else
-abbrev pub AllClear : List ℕ → Layout → Layout → Type 0
-AllClear s f g = (t : Segment) → t ∈ merge (segments s f) (segments s g) → Clear (segments s f) t × Clear (segments s g) t
+abbrev pub MergedClear : List ℕ → Layout → Layout → Type 0
+MergedClear s f g = (t : Segment) → t ∈ merge (segments s f) (segments s g) → Clear (segments s f) t × Clear (segments s g) t
 
 -- k is the first left halfsegment from i on, or the number of elements where there is none
 pub record NextLeft (s : List ℕ) (l : Layout) (i k : ℕ) : Type 0 where

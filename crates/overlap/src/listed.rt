@@ -16,7 +16,7 @@ ghost use Rattle.scene.specs.Read.{IsObject};
 ghost use Rattle.scene.specs.Conditions.{isRegion, segments};
 ghost use Rattle.features.specs.Walk.{edges, Clear};
 ghost use Rattle.overlap.specs.Overlap.{adjoinsBelow, adjoinsAbove, byteOf, overlapBytes};
-ghost use Rattle.overlap.specs.Walked.{AllClear};
+ghost use Rattle.overlap.specs.Walked.{MergedClear};
 
 // Whether the interior of a region adjoins a segment below (right, if vertical) and above (left).
 struct Sides {
@@ -86,7 +86,7 @@ pub fn count(s: &[u8], f: Layout, g: Layout) -> usize
 
 // Writes their bytes, from the start of a buffer with room for them.
 pub fn write(s: &[u8], f: Layout, g: Layout, list: &mut [u8]) -> usize
-    requires { ⌜ IsObject (now s) f × IsObject (now s) g × T (isRegion (f .shape)) × T (isRegion (g .shape)) × AllClear (now s) f g × (length (overlapBytes (edges (now s) f) (edges (now s) g)) ≤ length (now list)) ⌝ }
+    requires { ⌜ IsObject (now s) f × IsObject (now s) g × T (isRegion (f .shape)) × T (isRegion (g .shape)) × MergedClear (now s) f g × (length (overlapBytes (edges (now s) f) (edges (now s) g)) ≤ length (now list)) ⌝ }
     ensures { λ r. ⌜ (r ≡ length (overlapBytes (edges (now (s .entry)) f) (edges (now (s .entry)) g))) × (now (list .exit) ≡ overlapBytes (edges (now (s .entry)) f) (edges (now (s .entry)) g) ++ drop (length (overlapBytes (edges (now (s .entry)) f) (edges (now (s .entry)) g))) (now (list .entry))) ⌝ }
 {
     let mut n: usize = 0;
