@@ -10,11 +10,11 @@ use Rattle.scene.specs.declared.Scene.{Scene}
 use Rattle.scene.specs.declared.Refusal.{Refusal}
 use Rattle.scene.specs.declared.Fault.the-variants.{At, Nothing}
 use Rattle.scene.specs.declared.CheckedScene.{CheckedScene}
-use Rattle.scene.specs.Read.{shapeNumber, readScene, IsObject, IsScene}
-use Rattle.scene.specs.Conditions.{rule, sceneRules, typesDescend, touchingAcross, checkSceneBy, checkScene}
-use Rattle.scene.proofs.Given.{checked-scene}
+use Rattle.scene.specs.Read.{shapeNumber, readScene, IsScene}
+use Rattle.scene.specs.Conditions.{rule, typesDescend, checkScene}
 use Rattle.checks.specs.declared.Verdict.the-variants.{Sound, Refused}
 use Rattle.checks.specs.Refusals.{geometryVerdict}
+use Rattle.checks.proofs.Laws.{SoundScene, sound-scene}
 use Rattle.checks.proofs.Verdicts.{check-refused, check-read}
 use Rattle.features.specs.declared.Found.{Found}
 use Rattle.features.specs.declared.Vectors.{Vectors}
@@ -22,21 +22,14 @@ use Rattle.features.specs.declared.Explored.{Explored}
 use Rattle.features.specs.Flags.{flagsOfF, flagsOfG, pack, hasBit}
 use Rattle.features.specs.Wanted.{anyStray, strayWanted, only, typeOf, maskOfF, maskOfG, wanted, vectorOfF, vectorOfG}
 use Rattle.features.specs.Walk.{bits, bitwise, masked, elementsAs, elementsOf, allFlags}
-use Rattle.features.specs.Vectors.{sceneVectors, vectorsRules, explored, vectorsOf}
+use Rattle.features.specs.Vectors.{sceneVectors, vectorsRules, vectorsOf}
 use Rattle.features.proofs.Packed.{walked}
 
 -- ---- a scene that is taken
 
-pub record Accepted (s : List ℕ) (sc : Scene) : Type 0 where
-  pub f-is : IsObject s (sc .f)
-  pub g-is : IsObject s (sc .g)
-  pub fifteen : touchingAcross s sc ≡ Nothing
-
-pub accepted : (s : List ℕ) (sc : Scene) → checkScene s ≡ CheckedScene.Taken sc → Accepted s sc
+pub accepted : (s : List ℕ) (sc : Scene) → checkScene s ≡ CheckedScene.Taken sc → SoundScene s sc
 unfolding checkScene
-accepted s sc e =
-    let w = checked-scene (sceneRules [] []) s sc e in
-    record { f-is = w .0 .f-read; g-is = w .0 .g-taken .read; fifteen = w .1 .1 .1 .1 .1 .1 .1 .0 }
+accepted s sc e = sound-scene [] [] s sc e
 
 -- ---- its vectors
 

@@ -1,7 +1,7 @@
 -- The element of an index, whose record stands at an offset: what can be read there, and which flags it has.
 use Prim.Native.Nat.{ℕ, _+_, _<_, _≤_}
 use native.Mathlib.Omega.{arith}
-use mathlib.Core.Path.{_≡_, refl, sym, ap, ap₂, subst, _∙_}
+use mathlib.Core.Path.{_≡_, sym, ap, ap₂, subst, _∙_}
 use mathlib.Core.Bool.{Bool, true, false, _&&_}
 use mathlib.Core.List.{List}
 use lib.Dec.{T, eqb}
@@ -10,11 +10,10 @@ use borrow.Author.Tests.{eq-eqb, ne-eqb}
 use Rattle.whole.proofs.Logic.{is-true, true-is}
 use Rattle.plane.specs.declared.Point.{Point}
 use Rattle.plane.specs.declared.Segment.{Segment}
-use Rattle.plane.specs.Plane.{inRange, segmentInRange}
 use Rattle.scene.specs.declared.Shape.{Shape}
 use Rattle.scene.specs.declared.Shape.the-variants.{Points, Line, Region}
 use Rattle.scene.specs.declared.Layout.{Layout}
-use Rattle.scene.specs.Read.{byte, pointAt, segmentAt, iaAt, size, place, IsObject}
+use Rattle.scene.specs.Read.{byte, pointAt, segmentAt, iaAt, place, IsObject}
 use Rattle.scene.specs.Conditions.{hasSegments, isRegion, half, isLeft, segments}
 use Rattle.scene.proofs.Taken.{TakenObject, taken-object}
 use Rattle.scene.proofs.Given.{GoodPoint, GoodHalfsegment, good-point, good-halfsegment, ia-there}

@@ -13,7 +13,7 @@ use Rattle.scene.specs.declared.Layout.{Layout}
 use Rattle.scene.specs.Conditions.{elements, keep, half, isLeft, segments}
 use Rattle.features.specs.declared.Found.{Found}
 use Rattle.features.specs.Flags.{Edge, Elements, points, line, region, outline, hasSegment, joins, class01, class10, class12, class21, class02, class20, class11}
-use Rattle.features.specs.Walk.{pointOf, pointsOf, edgeOf, edges, elementsAs, elementsOf, bits, flag, bitwise, found, given, gather, Tests, pointTests, sameEdge, hasEdge, atEnd, segmentTests, edgeTests, tested, flagsAs, elementFlags, allFlags, flagsOf}
+use Rattle.features.specs.Walk.{pointOf, pointsOf, edgeOf, edges, elementsAs, elementsOf, bits, flag, bitwise, found, given, gather, Tests, pointTests, sameEdge, hasEdge, atEnd, segmentTests, edgeTests, tested, flagsAs, allFlags, flagsOf}
 
 -- ---- "some" over lists
 
@@ -30,11 +30,6 @@ module _ {A : Type 0} where
   some-map f g [] = refl
   some-map f g (a ∷ l) = ap (λ b. f (g a) || b) (some-map f g l)
 
-  -- a test that does not turn on the element
-  pub some-and : (b : Bool) (f : A → Bool) (l : List A) → some (λ a. b && f a) l ≡ b && some f l
-  some-and true f l = refl
-  some-and false f l = some-never l
-
 pub some-keep : (f q : ℕ → Bool) (l : List ℕ) → some f (keep q l) ≡ some (λ i. q i && f i) l
 some-keep f q [] = refl
 some-keep f q (i ∷ l) = go (q i) (some-keep f q l)
@@ -44,9 +39,6 @@ some-keep f q (i ∷ l) = go (q i) (some-keep f q l)
     go false e = e
 
 -- ---- flags of a list of elements
-
-pub same-bits : (f g : ℕ → Bool) → ((k : ℕ) → f k ≡ g k) → bitwise f ≡ bitwise g
-same-bits f g e = λ i. bitwise (λ k. e k i)
 
 pub gather-map : {A B : Type 0} (f : B → Found) (g : A → B) (l : List A) → gather f (map g l) ≡ gather (λ a. f (g a)) l
 gather-map f g l = λ i. bitwise (λ k. some-map (λ b. flag k (bits (f b))) g l i)

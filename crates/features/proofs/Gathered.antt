@@ -1,13 +1,11 @@
 -- Collecting flags element by element: one more element, the end of the elements, and an early end once every wanted flag is set.
-use Prim.Native.Nat.{ℕ, zero, suc, _+_, _<_, _≤_}
+use Prim.Native.Nat.{ℕ, _+_, _<_, _≤_}
 use native.Mathlib.Omega.{arith}
-use native.Mathlib.Numerals.{add-one}
-use native.Mathlib.Decide.{ℕ-discrete}
-use mathlib.Core.Path.{_≡_, refl, sym, ap, subst, _∙_}
+use mathlib.Core.Path.{_≡_, refl, sym, ap, _∙_}
 use mathlib.Core.Bool.{Bool, true, false, not, _&&_, _||_, or-assoc, or-false, true≢false}
-use mathlib.Core.List.{List, [], _∷_}
-use Rattle.whole.specs.Count.{some}
+use Rattle.whole.proofs.Logic.{none-of}
 use Rattle.scene.specs.Conditions.{indices}
+use Rattle.checks.proofs.Laws.{in-indices}
 use Rattle.checks.proofs.Walk.{between, all-between, between-next, between-none}
 use Rattle.features.specs.declared.Found.{Found}
 use Rattle.features.specs.Walk.{bits, flag, bitwise, nothing, either, masked, lacks, gather}
@@ -33,24 +31,11 @@ either-assoc a b c = λ i. bitwise (λ k. or-assoc (flag k (bits a)) (flag k (bi
 either-nothing : (a : Found) → either a nothing ≡ a
 either-nothing a = λ i. bitwise (λ k. or-false (flag k (bits a)) i)
 
--- none of the numbers from i on
-pub none-of : (f : ℕ → Bool) (n i : ℕ) → some f (indices n i) ≡ false → (k : ℕ) → i ≤ k → k < i + n → f k ≡ false
-none-of f zero i e k h j = absurd (omega arith)
-none-of f (suc n) i e k h j = go (f i) refl e (none-of f n (suc i))
-  where
-    go : (b : Bool) → f i ≡ b → b || some f (indices n (suc i)) ≡ false → (some f (indices n (suc i)) ≡ false → (k : ℕ) → suc i ≤ k → k < suc i + n → f k ≡ false) → f k ≡ false
-    go true q e later = absurd (true≢false e)
-    go false q e later = which (ℕ-discrete i k)
-      where
-        which : Dec (i ≡ k) → f k ≡ false
-        which (yes p) = subst (λ k. f k ≡ false) p q
-        which (no p) = later e k (omega arith) (omega arith)
-
 -- where no wanted flag is missing, the rest does not show
 pub enough : (want a b : Found) → lacks want a ≡ false → masked want (either a b) ≡ masked want a
 enough want a b e =
     same-bits (λ k. flag k (bits want) && (flag k (bits a) || flag k (bits b))) (λ k. flag k (bits want) && flag k (bits a))
-    (λ k h. one (flag k (bits want)) (flag k (bits a)) (flag k (bits b)) (none-of (λ k. flag k (bits want) && not (flag k (bits a))) 8 0 e k (omega arith) (omega arith)))
+    (λ k h. one (flag k (bits want)) (flag k (bits a)) (flag k (bits b)) (none-of (λ k. flag k (bits want) && not (flag k (bits a))) e (in-indices 8 0 k (omega arith) (omega arith))))
   where
     one : (w a b : Bool) → w && not a ≡ false → w && (a || b) ≡ w && a
     one true true b e = refl

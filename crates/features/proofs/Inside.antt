@@ -9,7 +9,7 @@ use Rattle.whole.proofs.Sign.{one-pos}
 use Rattle.plane.specs.declared.Point.{Point}
 use Rattle.plane.specs.declared.Segment.{Segment}
 use Rattle.plane.specs.Plane.{HPoint, grid, halved, countsBelow, onSome, inside}
-use Rattle.plane.proofs.Homogeneous.{_⋆_, triple-eq}
+use Rattle.plane.proofs.Homogeneous.{triple-eq}
 use Rattle.plane.proofs.Scale.{count-scale, countsBelow-scale}
 
 pub inside-off : (l : List Segment) (p : HPoint) → onSome l p ≡ false → inside l p ≡ odd (count (countsBelow p) l)

@@ -1,13 +1,13 @@
 -- From the flags that a walk collects to the vector: the wanted flags, packed, are the packed flags under the mask.
-use Prim.Native.Nat.{ℕ, zero, suc, _+_, _*_, _<_, _≤_}
+use Prim.Native.Nat.{ℕ, zero, suc, _<_, _≤_}
 use native.Mathlib.Decide.{ℕ-discrete, decLt}
 use native.Mathlib.Omega.{arith}
-use mathlib.Core.Path.{_≡_, refl, sym, ap, ap₂, subst, _∙_}
+use mathlib.Core.Path.{_≡_, refl, sym, ap, subst, _∙_}
 use mathlib.Core.Bool.{Bool, true, false, _&&_, and-comm}
-use mathlib.Core.List.{List, [], _∷_}
+use mathlib.Core.List.{List}
 use lib.Bits as bits-of
 use lib.Dec.{T, T-not}
-use lib.ListN.{length, getD, List·getD-eq-default}
+use lib.ListN.{length, List·getD-eq-default}
 use Rattle.scene.specs.declared.Layout.{Layout}
 use Rattle.features.specs.Flags.{Elements, points, line, region, pack, hasBit}
 use Rattle.features.specs.Wanted.{only}

@@ -1,8 +1,8 @@
 -- A search over the elements of an object, turn by turn: what is known where the record of the element i stands at an offset, and what the test on
 -- that record decides. The same for segments, for the edges of a region and for points.
-use Prim.Native.Nat.{ℕ, _+_, _*_, _<_, _≤_}
+use Prim.Native.Nat.{ℕ, _+_, _<_, _≤_}
 use native.Mathlib.Omega.{arith}
-use mathlib.Core.Path.{_≡_, refl, sym, ap, subst, _∙_}
+use mathlib.Core.Path.{_≡_, sym, ap, subst, _∙_}
 use mathlib.Core.Bool.{Bool, true, false, not, _&&_, and-assoc}
 use mathlib.Core.List.{List}
 use lib.Dec.{T}
@@ -19,7 +19,7 @@ use Rattle.scene.specs.Read.{pointAt, iaAt, size, place, IsObject}
 use Rattle.scene.specs.Conditions.{elements, keep, hasSegments, isRegion, half, isLeft, segments}
 use Rattle.scene.proofs.Flags.{refuted, upheld}
 use Rattle.scene.proofs.Taken.{TakenObject, taken-object}
-use Rattle.scene.proofs.Given.{GoodHalfsegment, good-halfsegment, ia-there}
+use Rattle.scene.proofs.Given.{good-halfsegment, ia-there}
 use Rattle.checks.specs.Walked.{Readable, leftWith}
 use Rattle.features.specs.Flags.{hasPoint}
 use Rattle.features.specs.Walk.{pointOf, pointsOf, edgeOf, edges, sameIa, sameEdge, hasEdge}
@@ -83,7 +83,7 @@ module _ (s : List ℕ) (l : Layout) (f : Segment → Bool) where
 
   pub among-segments : {r : Bool} {by : ℕ} → IsObject s l → r ≡ hasSegments (l .shape) → not r ≡ false → by ≡ size (l .shape) → AmongSegments by (l .start + 2) 0
   among-segments is e n b = record {
-    each = λ j h. let g = good-halfsegment taken j h (is-true (hasSegments (l .shape)) (upheld e n)) in ((g .there, g .in-range, g .in-order), omega (arith, taken .elements j h .whole));
+    each = λ j h. let g = good-halfsegment taken j h (is-true (hasSegments (l .shape)) (upheld e n)) in ((g .there, g .in-range), omega (arith, taken .elements j h .whole));
     by-size = b;
     at-is = omega arith;
     few = omega arith;
@@ -103,7 +103,7 @@ module _ (s : List ℕ) (l : Layout) (t : Segment) (above : Bool) where
   pub among-edges : {by : ℕ} → IsObject s l → T (isRegion (l .shape)) → by ≡ size (l .shape) → AmongEdges by (l .start + 2) 0
   unfolding edges
   among-edges is region b = record {
-    each = λ j h. let g = good-halfsegment taken j h (segmented (l .shape) region) in (((g .there, g .in-range, g .in-order), ia-there taken j h region), omega (arith, taken .elements j h .whole));
+    each = λ j h. let g = good-halfsegment taken j h (segmented (l .shape) region) in (((g .there, g .in-range), ia-there taken j h region), omega (arith, taken .elements j h .whole));
     by-size = b;
     at-is = omega arith;
     few = omega arith;

@@ -13,10 +13,10 @@ ghost use mathlib.Core.Path.{_≡_};
 ghost use mathlib.Core.Bool.{not, _&&_};
 ghost use mathlib.Core.List.{[], _∷_};
 ghost use lib.Dec.{T};
-ghost use Rattle.plane.specs.Plane.{inRange, segmentInRange, midpoint, inside};
+ghost use Rattle.plane.specs.Plane.{inRange, segmentInRange, inside};
 ghost use Rattle.scene.specs.Read.{IsObject};
 ghost use Rattle.scene.specs.Conditions.{isRegion, segments};
-ghost use Rattle.features.specs.Flags.{Edge, hasPoint, hasSegment, isBound, joins};
+ghost use Rattle.features.specs.Flags.{hasPoint, hasSegment, isBound, joins};
 ghost use Rattle.features.specs.Walk.{pointsOf, edges, found, tested, pointByPoints, pointByLine, pointByRegion, segmentByPoints, segmentByLine, segmentByRegion, edgeByRegion, atEnd, endByLine, endByRegion, sharedByRegion, Clear, middleOf, classByMiddle};
 
 // ---- 1, 1 to 1, 3: a point; first where it is F's

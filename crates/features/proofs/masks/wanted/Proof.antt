@@ -1,5 +1,4 @@
 -- `features::masks::wanted` meets its contract: all flags where both masks are 0.
-use mathlib.Core.Path.{refl}
 use borrow.Author.Tests.{eq-eqb, ne-eqb}
 use Rattle.features.specs.Wanted.{wanted}
 use Rattle.features.proofs.masks.wanted.Statement.{statement}

@@ -1,6 +1,4 @@
 -- `features::pairs::edge_by_region` meets its contract: the class of the midpoint, and, of F, the classes of shared segments and the joint ends.
-use mathlib.Core.Path.{_≡_}
-use mathlib.Core.Bool.{not}
 use borrow.Author.Needs.{needs}
 use borrow.Author.Tests.{not-true, not-false}
 use Rattle.scene.specs.Conditions.{segments}

@@ -1,5 +1,4 @@
 -- `features::pairs::point_by_line` meets its contract, by its two searches.
-use mathlib.Core.Path.{sym}
 use borrow.Author.Needs.{needs}
 use Rattle.features.proofs.pairs.point_by_line.Statement.{statement}
 use Rattle.features.proofs.pairs.point_by_line.Tie as tie

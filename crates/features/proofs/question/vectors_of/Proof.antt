@@ -1,12 +1,12 @@
 -- `features::question::vectors_of` meets its contract: the masks, a walk over each object, and the wanted flags packed.
-use mathlib.Core.Path.{_≡_}
 use borrow.Author.Needs.{needs}
-use Rattle.features.proofs.Answered.{Accepted, accepted, vector-f, vector-g}
+use Rattle.features.proofs.Answered.{accepted, vector-f, vector-g}
+use Rattle.checks.proofs.Laws.{SoundScene}
 use Rattle.features.proofs.Clear.{clear-f, clear-g}
 use Rattle.features.proofs.question.vectors_of.Statement.{statement}
 use Rattle.features.proofs.question.vectors_of.Tie as tie
 
-taken : (z : tie.Start) → Accepted (z .args .s .now) (z .args .scene)
+taken : (z : tie.Start) → SoundScene (z .args .s .now) (z .args .scene)
 taken z = accepted (z .args .s .now) (z .args .scene) (z .pre)
 
 masks-of-requires : tie.Need-masks-of-requires
@@ -25,7 +25,7 @@ walk-requires : tie.Need-walk-requires
 walk-requires c κs =
     let z = c .before .before .before .before .before .before .before in
     let a = taken z in
-    (a .f-is, a .g-is, clear-f (z .args .s .now) (z .args .scene) (a .f-is) (a .g-is) (a .fifteen))
+    (a .f-sound .read, a .g-sound .read, clear-f a)
 
 unpacked-requires-2 : tie.Need-unpacked-requires-2
 unpacked-requires-2 c κs = search needs
@@ -34,7 +34,7 @@ walk-requires-2 : tie.Need-walk-requires-2
 walk-requires-2 c κs =
     let z = c .before .before .before .before .before .before .before .before .before in
     let a = taken z in
-    (a .g-is, a .f-is, clear-g (z .args .s .now) (z .args .scene) (a .f-is) (a .g-is) (a .fifteen))
+    (a .g-sound .read, a .f-sound .read, clear-g a)
 
 packed-requires : tie.Need-packed-requires
 packed-requires c κs = search needs

@@ -2,7 +2,7 @@
 -- the number of elements that are left. Where no wanted flag is missing, the rest does not show under the mask.
 use Prim.Native.Nat.{_-_}
 use native.Mathlib.Omega.{arith}
-use mathlib.Core.Path.{_≡_, sym, ap, subst, _∙_}
+use mathlib.Core.Path.{sym, ap, subst, _∙_}
 use borrow.Author.Needs.{needs}
 use Rattle.scene.proofs.Flags.{refuted}
 use Rattle.features.specs.Walk.{masked, elementFlags}
