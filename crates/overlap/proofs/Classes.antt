@@ -35,13 +35,13 @@ module _ (R : List Edge) where
   edge-there : {e : Edge} → e ∈ R → hasSegment (outline R) (e .segment) ≡ true
   edge-there {e} m = true-is (hasSegment (outline R) (e .segment)) (some-make (sameSegment (e .segment)) (in-map (λ (e : Edge). e .segment) m) (sameSegment-refl (e .segment)))
 
-  edge-find : (t : Segment) → T (hasSegment (outline R) t) → (e : Edge) × (e ∈ R) × (t ≡ e .segment)
+  pub edge-find : (t : Segment) → T (hasSegment (outline R) t) → (e : Edge) × (e ∈ R) × (t ≡ e .segment)
   edge-find t h =
       let w = some-find (sameSegment t) (outline R) h in
       let v = map-in (λ (e : Edge). e .segment) R (w .1) in
       (v .0, v .1, sameSegment-read t (w .0) (w .2) ∙ sym (v .2))
 
-  abbrev Marked : (Segment → Bool) → Type 0
+  abbrev pub Marked : (Segment → Bool) → Type 0
   Marked a = (e : Edge) → e ∈ R → e .ia ≡ a (e .segment)
 
   module _ (a : Segment → Bool) (mark : Marked a) {e : Edge} (m : e ∈ R) (above : Bool) where
@@ -58,7 +58,7 @@ module _ (R : List Edge) where
         from : T (sameIa above (e .ia)) → T (hasEdge R (e .segment) above)
         from h = some-make (sameEdge (e .segment) above) m (and-make (sameSegment (e .segment) (e .segment)) (sameIa above (e .ia)) (sameSegment-refl (e .segment)) h)
 
-    adjoins-edge : adjoins above R (e .segment) ≡ sameIa above (e .ia)
+    pub adjoins-edge : adjoins above R (e .segment) ≡ sameIa above (e .ia)
     adjoins-edge = sym (adjoins-own R (e .segment) above refl (edge-there m)) ∙ own-edge
 
 -- ---- the byte by ia, and by "inside"
@@ -324,7 +324,7 @@ kept f (j ∷ is) {i} m = go (f j) m (λ k. kept f is k)
     go false m later = there (later m)
 
 -- 14 decides ia by the segment
-marked : {s : List ℕ} {l : Layout} → SoundObject s l → T (isRegion (l .shape)) → Marked (edges s l) (interiorAbove (segments s l))
+pub marked : {s : List ℕ} {l : Layout} → SoundObject s l → T (isRegion (l .shape)) → Marked (edges s l) (interiorAbove (segments s l))
 unfolding edges
 marked {s} {l} o r e m =
     let w = map-in (edgeOf s l) (keep (isLeft s l) (elements l)) m in

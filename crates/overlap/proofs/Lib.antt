@@ -6,3 +6,4 @@ pub mod Merging
 pub mod Listing
 pub mod Checked
 pub mod Classes
+pub mod Beside
