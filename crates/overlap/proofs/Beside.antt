@@ -1,20 +1,17 @@
 -- "whose interior adjoins it below (right, if vertical) .. above (left)", in points: for all large n, the point one n-th below the middle of the segment
 -- (right of it, if it is vertical) is inside the region exactly if the region adjoins the segment below, and so for above (left).
-use Prim.Native.Nat.{ℕ}
 use mathlib.Core.Path.{_≡_, refl, sym, ap, subst, _∙_}
-use mathlib.Core.Logic.{_⊎_, ⊎-elim}
+use mathlib.Core.Logic.{_⊎_}
 use mathlib.Core.Bool.{Bool, true, false, not, true≢false}
 use mathlib.Core.List.{List}
-use lib.Dec.{T}
 use Rattle.whole.specs.Count.{_∈_}
 use Rattle.whole.proofs.Logic.{is-true, true-is, refute, some-find, some-make, in-map}
 use Rattle.whole.proofs.Parity.{_⊻_, xor-false, parity, parity-none, odd-count}
 use Rattle.plane.specs.declared.Segment.{Segment}
 use Rattle.plane.specs.Plane.{HPoint, midpoint, sameSegment, on, onSome, inside, countsBelow, interiorAbove}
-use Rattle.plane.proofs.Equal.{sameSegment-read, sameSegment-refl}
 use Rattle.plane.proofs.OnSegment.{Ordered, Away, away-off}
 use Rattle.plane.proofs.AlongSegment.{Apart}
-use Rattle.plane.proofs.Accepted.{Regular, AllOrdered, middle-away, interior-above}
+use Rattle.plane.proofs.Accepted.{Regular, middle-away, interior-above}
 use Rattle.plane.proofs.Order.{ordered-make}
 use Rattle.plane.proofs.Steps.{Large, large-map, large-and}
 use Rattle.plane.proofs.Flip.{lower, upper, lower-away, upper-away, flip-lower, flip-upper}

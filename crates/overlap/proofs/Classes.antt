@@ -5,7 +5,7 @@ use native.Mathlib.Omega.{arith}
 use mathlib.Core.Path.{_≡_, refl, sym, ap, ap₂, subst, _∙_}
 use mathlib.Core.Logic.{⊎-elim}
 use mathlib.Core.Bool.{Bool, true, false, not, _&&_, _||_, and-true, and-false, cond, true≢false}
-use mathlib.Core.List.{List, [], _∷_, map}
+use mathlib.Core.List.{List, [], _∷_}
 use lib.Dec.{T, eqb}
 use lib.ListN.{take}
 use Rattle.whole.specs.Count.{bit, some, _∈_, here, there}
@@ -24,7 +24,7 @@ use Rattle.features.specs.Flags.{Edge, Elements, region, outline, hasSegment, m
 use Rattle.features.specs.Walk.{edgeOf, edges, elementsOf, elementsAs, sameIa, sameEdge, hasEdge, Clear}
 use Rattle.features.proofs.ByElement.{outline-edges}
 use Rattle.overlap.specs.Overlap.{merge, adjoins, byteOf, listRules, checkList}
-use Rattle.overlap.specs.Classes.{Whose, of-f, of-g, of-both, belongs, hasByte, classesOfF, classesOfG}
+use Rattle.overlap.specs.Classes.{of-f, of-g, of-both, belongs, hasByte, classesOfF, classesOfG}
 use Rattle.overlap.proofs.Members.{merge-in, in-merge-f, in-merge-g}
 use Rattle.overlap.proofs.Listing.{adjoins-own, adjoins-other}
 use Rattle.overlap.proofs.Checked.{Listable, listable}

@@ -2,8 +2,8 @@
 -- and neither turns left from the other, the shorter would end on the longer.
 use Prim.Native.Nat.{ℕ}
 use mathlib.Core.Path.{_≡_, refl, sym, ap, ap₂, subst, _∙_}
-use mathlib.Core.Logic.{_⊎_, inl, inr, ⊎-elim}
-use mathlib.Core.Bool.{Bool, true, false, _&&_, _||_, true≢false}
+use mathlib.Core.Logic.{_⊎_, ⊎-elim}
+use mathlib.Core.Bool.{true, false, _&&_, _||_, true≢false}
 use mathlib.Core.List.{List, [], _∷_}
 use lib.Dec.{T}
 use lib.IntN.{ℤ, pos, negℤ, _+ℤ_, _-ℤ_, _*ℤ_}
@@ -14,8 +14,8 @@ use Rattle.whole.proofs.Sign.{Pos, NonNeg, Neg, pos-nonneg, neg-pos, one-pos, l
 use Rattle.whole.proofs.Logic.{and-make, or-left, or-right, true-is, Sorted}
 use Rattle.plane.specs.declared.Point.{Point}
 use Rattle.plane.specs.declared.Segment.{Segment}
-use Rattle.plane.specs.Plane.{HPoint, grid, before, samePoint, sameSegment, ordered, side, dominating, farEnd, comesBefore}
-use Rattle.plane.proofs.Homogeneous.{_⋆_, _⊞_, triple-eq}
+use Rattle.plane.specs.Plane.{grid, before, samePoint, sameSegment, ordered, side, dominating, farEnd, comesBefore}
+use Rattle.plane.proofs.Homogeneous.{triple-eq}
 use Rattle.plane.proofs.OnSegment.{Ordered, slanting, upright, Along, ordered-read}
 use Rattle.plane.proofs.Means.{At, EndOf, left-end, right-end}
 use Rattle.plane.proofs.Equal.{point-eq, samePoint-refl, sameSegment-refl}

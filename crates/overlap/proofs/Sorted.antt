@@ -5,7 +5,7 @@ use mathlib.Core.Bool.{Bool, true, false, cond}
 use mathlib.Core.List.{List, [], _∷_}
 use lib.Dec.{T}
 use Rattle.whole.specs.Count.{_∈_, here, there}
-use Rattle.whole.proofs.Logic.{is-true, in-cons, Sorted, sorted-nil, sorted-cons}
+use Rattle.whole.proofs.Logic.{is-true, in-cons, Sorted, sorted-cons}
 use Rattle.plane.specs.declared.Segment.{Segment}
 use Rattle.plane.specs.Plane.{sameSegment, ordered}
 use Rattle.plane.proofs.Equal.{sameSegment-read}

@@ -1,7 +1,7 @@
 -- What the walk over the different segments of two regions promises: the segments from an element on, and the next of both objects.
 use Prim.Native.Nat.{ℕ, _+_, _-_, _<_, _≤_}
 use mathlib.Core.Path.{_≡_}
-use mathlib.Core.Bool.{true, false, cond}
+use mathlib.Core.Bool.{true, cond}
 use mathlib.Core.List.{List, [], _∷_, map}
 use lib.Dec.{T}
 use Rattle.whole.specs.Count.{_∈_}

@@ -6,7 +6,7 @@ use mathlib.Core.List.{List, []}
 use lib.ListN.{length}
 use borrow.Author.Needs.{needs}
 use Rattle.scene.specs.declared.Scene.{Scene}
-use Rattle.scene.specs.declared.Fault.the-variants.{At, Nothing}
+use Rattle.scene.specs.declared.Fault.the-variants.{Nothing}
 use Rattle.scene.specs.declared.CheckedScene.{CheckedScene}
 use Rattle.scene.specs.Conditions.{checkScene}
 use Rattle.checks.proofs.Laws.{SoundScene, sound-scene}

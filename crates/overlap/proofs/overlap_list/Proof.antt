@@ -1,7 +1,6 @@
 -- `overlap::overlap_list` meets its contract: a refusal leaves the buffer as it was, and a scene that is taken has its list written.
 use Prim.Native.Nat.{ℕ}
 use mathlib.Core.Path.{_≡_, sym, ap, _∙_}
-use mathlib.Core.List.{List}
 use lib.ListN.{length}
 use borrow.Author.Needs.{needs}
 use Rattle.scene.specs.declared.Scene.{Scene}

@@ -1,5 +1,5 @@
 -- `overlap::regions_fault` meets its contract: F's type, then G's.
-use mathlib.Core.Path.{_≡_, sym, _∙_}
+use mathlib.Core.Path.{sym, _∙_}
 use borrow.Author.Needs.{needs}
 use Rattle.scene.proofs.Flags.{refuted, upheld}
 use Rattle.overlap.proofs.regions_fault.Statement.{statement}

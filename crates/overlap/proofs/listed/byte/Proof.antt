@@ -1,6 +1,6 @@
 -- `overlap::listed::byte` meets its contract: 3m + n.
 use Prim.Native.Nat.{ℕ, _+_, _*_}
-use mathlib.Core.Path.{_≡_, ap₂, _∙_}
+use mathlib.Core.Path.{ap₂, _∙_}
 use borrow.Author.Needs.{needs}
 use Rattle.whole.specs.Count.{bit}
 use Rattle.overlap.proofs.listed.byte.Statement.{statement}

@@ -1,6 +1,6 @@
 -- `overlap::listed::sides_of` meets its contract: by ia where the segment is one of the region's, and by its midpoint where it is not.
 use mathlib.Core.Path.{_≡_, sym, _∙_}
-use mathlib.Core.Bool.{Bool, true, false}
+use mathlib.Core.Bool.{true, false}
 use borrow.Author.Needs.{needs}
 use Rattle.scene.specs.Conditions.{segments}
 use Rattle.features.specs.Flags.{hasSegment}

@@ -2,7 +2,7 @@
 -- them, and the buffer is as it was from there on. The measure is the number of elements that are left.
 use Prim.Native.Nat.{ℕ, _+_, _-_, _<_, _≤_}
 use native.Mathlib.Omega.{arith}
-use mathlib.Core.Path.{_≡_, sym, ap, subst, _∙_}
+use mathlib.Core.Path.{sym, ap, subst}
 use mathlib.Core.List.{List, [], _∷_, map}
 use lib.ListN.{length, set}
 use borrow.Author.Needs.{needs}

@@ -1,5 +1,5 @@
 -- `overlap::merged::first` meets its contract: the tests pick the case.
-use mathlib.Core.Path.{_≡_, sym, _∙_}
+use mathlib.Core.Path.{sym, _∙_}
 use borrow.Author.Needs.{needs}
 use Rattle.overlap.proofs.merged.first.Statement.{statement}
 use Rattle.overlap.proofs.merged.first.Tie as tie

@@ -1,6 +1,6 @@
 -- `overlap::merged::next_step` meets its contract: the first left halfsegment of each object from its place on, and which of the two comes first.
 use native.Mathlib.Omega.{arith}
-use mathlib.Core.Path.{_≡_, sym, subst}
+use mathlib.Core.Path.{sym, subst}
 use borrow.Author.Needs.{needs}
 use Rattle.overlap.specs.declared.merged.Step.{Step}
 use Rattle.overlap.specs.Walked.{NextLeft, Stepped}

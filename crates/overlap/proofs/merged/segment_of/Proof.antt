@@ -1,6 +1,6 @@
 -- `overlap::merged::segment_of` meets its contract: the record of the element can be read, and its ends are in range.
 use native.Mathlib.Omega.{arith}
-use mathlib.Core.Path.{_≡_, ap, sym, subst, _∙_}
+use mathlib.Core.Path.{ap, sym, subst, _∙_}
 use lib.Dec.{T}
 use Rattle.whole.proofs.Logic.{true-is}
 use Rattle.plane.specs.declared.Segment.{Segment}
