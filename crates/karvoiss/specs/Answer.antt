@@ -11,6 +11,8 @@ use Rattle.features.specs.declared.Explored.{Explored}
 use Rattle.cells.specs.declared.Explored as C
 use Rattle.cells.specs.Matrix.{Part, Meet, cellAt}
 use Rattle.karvoiss.specs.declared.KarvoissVectors.{KarvoissVectors}
+use Rattle.overlap.specs.declared.Overlap.{Overlap}
+use Rattle.karvoiss.specs.declared.KarvoissOverlap.{KarvoissOverlap}
 use Rattle.karvoiss.specs.declared.KarvoissCells.{KarvoissCells}
 
 abbrev pub vectorsAnswer : Explored → KarvoissVectors
@@ -23,3 +25,6 @@ cellsAnswer e = record { number = e .number; place = e .place; interior = e .int
 -- Demand 3: of a scene that is taken, a cell is true exactly if some point with fraction coordinates lies in the row's part of F and the column's of G
 abbrev pub CellsRight : List ℕ → KarvoissCells → Type 0
 CellsRight s a = (sc : Scene) → checkScene s ≡ CheckedScene.Taken sc → (r c : Part) → T (cellAt (a .interior ∷ a .boundary ∷ a .exterior ∷ []) r c) ↔ Meet r (object s (sc .f)) c (object s (sc .g))
+
+abbrev pub overlapAnswer : Overlap → KarvoissOverlap
+overlapAnswer o = record { number = o .number; place = o .place; count = o .count }

@@ -4,7 +4,8 @@ use features::question;
 ghost use mathlib.Core.Path.{_≡_};
 ghost use Rattle.features.specs.Vectors.{vectorsOf};
 ghost use Rattle.cells.specs.Explored.{exploredOf};
-ghost use Rattle.karvoiss.specs.Answer.{vectorsAnswer, cellsAnswer, CellsRight};
+ghost use Rattle.overlap.specs.Overlap.{overlapOf, bufferAfter};
+ghost use Rattle.karvoiss.specs.Answer.{vectorsAnswer, cellsAnswer, CellsRight, overlapAnswer};
 
 #[repr(C)]
 pub struct KarvoissVectors {
@@ -60,5 +61,26 @@ pub extern "C" fn karvoiss_cells(scene: &[u8]) -> KarvoissCells
         interior,
         boundary,
         exterior,
+    }
+}
+
+#[repr(C)]
+pub struct KarvoissOverlap {
+    pub number: u32,
+    pub place: usize,
+    pub count: usize,
+}
+
+// The overlap list question, into a lent buffer.
+#[no_mangle]
+pub extern "C" fn karvoiss_overlap(scene: &[u8], list: &mut [u8]) -> KarvoissOverlap
+    ensures { λ r. ⌜ (r ≡ overlapAnswer (overlapOf (now (scene .entry)) (now (list .entry))))
+        × (now (list .exit) ≡ bufferAfter (now (scene .entry)) (now (list .entry))) ⌝ }
+{
+    let answer = overlap::overlap_list(scene, list);
+    KarvoissOverlap {
+        number: answer.number as u32,
+        place: answer.place,
+        count: answer.count,
     }
 }
