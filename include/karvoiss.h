@@ -53,8 +53,10 @@
  *  13  a region's end belongs to an odd number of its segments
  *  14  wrong ia
  *  15  unequal segments of F and G share a point that is not an end of both
+ *  16  a type is not 3 (karvoiss_overlap only)
+ *  17  the buffer is shorter than the count (place 0; karvoiss_overlap only)
  *
- * 1 to 7 are found record by record; then 8 to 15 in this order, each over the
+ * 1 to 7 are found record by record; then 8 to 17 in this order, each over the
  * whole scene.
  */
 #ifndef KARVOISS_H
@@ -116,6 +118,24 @@ typedef struct {
 } karvoiss_cells_t;
 
 karvoiss_cells_t karvoiss_cells(const uint8_t *scene, size_t length);
+
+/* The overlap list of two regions: each different segment, in the order of left
+ * halfsegments, gives one byte 3m + n. m is the number of regions whose interior
+ * adjoins it below (right, if it is vertical), n above (left).
+ *
+ * `list` points to `room` bytes that the list is written to; it may be null where
+ * `room` is 0, and must not overlap the scene. Taken: the first `count` bytes are
+ * the list and later bytes are as they were. Refused: `count` is 0 and all bytes
+ * are as they were. 2,048 bytes are enough for any scene.
+ */
+typedef struct {
+    uint32_t number;
+    size_t place;
+    size_t count;
+} karvoiss_overlap_t;
+
+karvoiss_overlap_t karvoiss_overlap(const uint8_t *scene, size_t length,
+                                    uint8_t *list, size_t room);
 
 #ifdef __cplusplus
 }
