@@ -1,13 +1,37 @@
-# make test: everything that the gate checks. make run: a first answer.
-.PHONY: test run fmt clean
+# make test: everything that the gate checks. make run: builds explore and answers the sample scenes; make run SCENE=file answers a file.
+.PHONY: test run archive tools pictures fmt clean
 
-# The format check, then the toolchain's own gate over every crate of crates.txt.
 test:
 	@bash tests/gate
 
-run:
-	@rt check sides
-	@target/bin/sides
+# The proved program, and the archive for C
+target/bin/explore: $(shell find crates -name '*.rt' -o -name '*.antt')
+	@rt check explore
+
+archive:
+	@rt staticlib karvoiss
+
+ifdef SCENE
+run: target/bin/explore
+	@target/bin/explore < $(SCENE)
+else
+run: target/bin/explore target/tools/scene
+	@for text in scenes/[a-l].wkt; do \
+	    printf '%s ' "$$(basename $$text .wkt)"; \
+	    target/tools/scene make --beyond $$text | target/bin/explore; \
+	done
+endif
+
+# The companion tool, outside the proved crates: scenes as text, listings, pictures
+tools: target/tools/scene target/bin/explore
+
+target/tools/scene: $(shell find tools -type f)
+	@tools/build
+
+pictures: $(patsubst scenes/%.wkt,docs/scenes/%.svg,$(wildcard scenes/*.wkt))
+
+docs/scenes/%.svg: scenes/%.wkt target/tools/scene target/bin/explore
+	@target/tools/scene make --beyond $< | target/tools/scene draw -o $@
 
 fmt:
 	@rt fmt

@@ -1,4 +1,4 @@
--- Demand 3, pair by pair.
+-- Demand 3, pair by pair, and over the bytes of a scene.
 pub mod Common
 pub mod PointsPoints
 pub mod PointsLine
@@ -6,3 +6,5 @@ pub mod Beside
 pub mod PointsRegion
 pub mod LineLine
 pub mod LineRegion
+pub mod RegionRegion
+pub mod Theorem

@@ -1,9 +1,9 @@
 -- The topological flags: document 01's section "Flags, bit 0 first", over the elements of two objects, each flag as a test that computes. A flag is "some
 -- element as named exists". `Sentences.antt` has each flag in words, with "some" and "every".
-use Prim.Native.Nat.{ℕ, _+_, _*_}
+use Prim.Native.Nat.{ℕ, _+_, _*_, _/_, _^_}
 use mathlib.Core.Bool.{Bool, true, false, not, _&&_, _||_}
 use mathlib.Core.List.{List, [], _∷_, map}
-use Rattle.whole.specs.Count.{bit, some}
+use Rattle.whole.specs.Count.{bit, odd, some}
 use Rattle.plane.specs.declared.Point.{Point}
 use Rattle.plane.specs.declared.Segment.{Segment}
 use Rattle.plane.specs.Plane.{grid, midpoint, samePoint, sameSegment, isEnd, onSome, inside, isBoundary, endsAt, Object}
@@ -210,3 +210,7 @@ flagsOfG (region F) (region G) = class01 G F ∷ class10 G F ∷ class12 G F ∷
 abbrev pub pack : List Bool → ℕ
 pack [] = 0
 pack (b ∷ l) = bit b + 2 * pack l
+
+-- Bit k of a vector
+unfoldable pub hasBit : ℕ → ℕ → Bool
+hasBit v k = odd (v / 2 ^ k)

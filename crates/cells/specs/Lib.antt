@@ -1,0 +1,3 @@
+-- The nine-intersection matrix, and what it means.
+pub mod Matrix
+pub mod Explored

@@ -1,0 +1,89 @@
+-- The answer of the vectors question by the verdicts that lead to it; and what a scene that is taken gives the walks.
+use Prim.Native.Nat.{ℕ}
+use mathlib.Core.Path.{_≡_, refl, sym, ap, ap₂, _∙_}
+use mathlib.Core.Bool.{true, false}
+use mathlib.Core.List.{List, [], _∷_}
+use Rattle.scene.specs.declared.Shape.{Shape}
+use Rattle.scene.specs.declared.Shape.the-variants.{Points, Line, Region}
+use Rattle.scene.specs.declared.Layout.{Layout}
+use Rattle.scene.specs.declared.Scene.{Scene}
+use Rattle.scene.specs.declared.Refusal.{Refusal}
+use Rattle.scene.specs.declared.Fault.the-variants.{At, Nothing}
+use Rattle.scene.specs.declared.CheckedScene.{CheckedScene}
+use Rattle.scene.specs.Read.{shapeNumber, readScene, IsScene}
+use Rattle.scene.specs.Conditions.{rule, typesDescend, checkScene}
+use Rattle.checks.specs.declared.Verdict.the-variants.{Sound, Refused}
+use Rattle.checks.specs.Refusals.{geometryVerdict}
+use Rattle.checks.proofs.Laws.{SoundScene, sound-scene}
+use Rattle.checks.proofs.Verdicts.{check-refused, check-read}
+use Rattle.features.specs.declared.Found.{Found}
+use Rattle.features.specs.declared.Vectors.{Vectors}
+use Rattle.features.specs.declared.Explored.{Explored}
+use Rattle.features.specs.Flags.{flagsOfF, flagsOfG, pack, hasBit}
+use Rattle.features.specs.Wanted.{anyStray, strayWanted, only, typeOf, maskOfF, maskOfG, wanted, vectorOfF, vectorOfG}
+use Rattle.features.specs.Walk.{bits, bitwise, masked, elementsAs, elementsOf, allFlags}
+use Rattle.features.specs.Vectors.{sceneVectors, vectorsRules, vectorsOf}
+use Rattle.features.proofs.Packed.{walked}
+
+-- ---- a scene that is taken
+
+pub accepted : (s : List ℕ) (sc : Scene) → checkScene s ≡ CheckedScene.Taken sc → SoundScene s sc
+unfolding checkScene
+accepted s sc e = sound-scene [] [] s sc e
+
+-- ---- its vectors
+
+type-of : (s : List ℕ) (l : Layout) → typeOf (elementsOf s l) ≡ shapeNumber (l .shape)
+type-of s l = go (l .shape)
+  where
+    go : (k : Shape) → typeOf (elementsAs s l k) ≡ shapeNumber k
+    go Points = refl
+    go Line = refl
+    go Region = refl
+
+module _ (s : List ℕ) (sc : Scene) (wantF wantG : ℕ) {all mask r : ℕ} {want flags : Found} (w : want ≡ bitwise (λ k. hasBit mask k)) (p : r ≡ pack (bits flags)) where
+  pub vector-f :
+      all ≡ maskOfF (shapeNumber (sc .f .shape)) (shapeNumber (sc .g .shape)) → mask ≡ wanted all wantF wantG
+      → flags ≡ masked want (allFlags true s (sc .f) (sc .g)) → r ≡ sceneVectors s sc wantF wantG .f
+  unfolding vectorOfF
+  vector-f a m q =
+      p ∙ ap (λ f. pack (bits f)) (q ∙ ap (λ w. masked w (allFlags true s (sc .f) (sc .g))) w) ∙ walked true s (sc .f) (sc .g) mask
+      ∙ ap (λ m. only m (pack (flagsOfF (elementsOf s (sc .f)) (elementsOf s (sc .g))))) (m ∙ ap (λ a. wanted a wantF wantG) (a ∙ sym (ap₂ maskOfF (type-of s (sc .f)) (type-of s (sc .g)))))
+
+  pub vector-g :
+      all ≡ maskOfG (shapeNumber (sc .f .shape)) (shapeNumber (sc .g .shape)) → mask ≡ wanted all wantG wantF
+      → flags ≡ masked want (allFlags false s (sc .g) (sc .f)) → r ≡ sceneVectors s sc wantF wantG .g
+  unfolding vectorOfG
+  vector-g a m q =
+      p ∙ ap (λ f. pack (bits f)) (q ∙ ap (λ w. masked w (allFlags false s (sc .g) (sc .f))) w) ∙ walked false s (sc .g) (sc .f) mask
+      ∙ ap (λ m. only m (pack (flagsOfG (elementsOf s (sc .f)) (elementsOf s (sc .g))))) (m ∙ ap (λ a. wanted a wantG wantF) (a ∙ sym (ap₂ maskOfG (type-of s (sc .f)) (type-of s (sc .g)))))
+
+-- ---- the answer
+
+pub unread : (s : List ℕ) (wantF wantG : ℕ) (r : Refusal) → readScene s ≡ CheckedScene.Refused r → Explored.Refused r ≡ vectorsOf s wantF wantG
+unfolding vectorsOf
+unread s wantF wantG r e = rw (check-refused (vectorsRules wantF wantG) s r e)
+
+module _ (s : List ℕ) (sc : Scene) (is : IsScene s sc) where
+  pub sound : typesDescend s sc ≡ Nothing → geometryVerdict s sc ≡ Sound → checkScene s ≡ CheckedScene.Taken sc
+  unfolding checkScene
+  sound d g = rw (check-read [] [] s sc is, d, g)
+
+  module _ (wantF wantG : ℕ) where
+    pub descending : (p : ℕ) → typesDescend s sc ≡ At p → Explored.Refused (record { number = 8; place = p }) ≡ vectorsOf s wantF wantG
+    unfolding vectorsOf
+    descending p d = rw (check-read (rule 9 (strayWanted wantF wantG) ∷ []) [] s sc is, d)
+
+    module _ (rising : typesDescend s sc ≡ Nothing) where
+      pub stray : anyStray (shapeNumber (sc .f .shape)) (shapeNumber (sc .g .shape)) wantF wantG ≡ true → Explored.Refused (record { number = 9; place = 0 }) ≡ vectorsOf s wantF wantG
+      unfolding vectorsOf
+      stray e = rw (check-read (rule 9 (strayWanted wantF wantG) ∷ []) [] s sc is, rising, e)
+
+      module _ (tidy : anyStray (shapeNumber (sc .f .shape)) (shapeNumber (sc .g .shape)) wantF wantG ≡ false) where
+        pub at-fault : (r : Refusal) → geometryVerdict s sc ≡ Refused r → Explored.Refused r ≡ vectorsOf s wantF wantG
+        unfolding vectorsOf
+        at-fault r g = rw (check-read (rule 9 (strayWanted wantF wantG) ∷ []) [] s sc is, rising, tidy, g)
+
+        pub taken : geometryVerdict s sc ≡ Sound → {v : Vectors} → v ≡ sceneVectors s sc wantF wantG → Explored.Taken v ≡ vectorsOf s wantF wantG
+        unfolding vectorsOf
+        taken g e = ap Explored.Taken e ∙ rw (check-read (rule 9 (strayWanted wantF wantG) ∷ []) [] s sc is, rising, tidy, g)

@@ -1,0 +1,1 @@
+// The twelve scenes of document 01, proved against the definitions: lemmas only.

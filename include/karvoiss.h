@@ -1,0 +1,124 @@
+/* karvoiss.h: how two shapes lie to each other, exactly.
+ *
+ * A scene is a byte string of two objects, F then G. Each is points, a line or
+ * a region. The functions below read a scene and answer a question about it.
+ * They are total: any bytes of any length may be passed, nothing need be tested
+ * beforehand. They keep no state, allocate nothing, and may be called from
+ * several threads at once. The scene's bytes are only read.
+ *
+ * `scene` points to `length` bytes; it may be null where `length` is 0.
+ *
+ * Scene bytes
+ * -----------
+ * A record is one byte of kind and a body. Coordinates are signed 32-bit, low
+ * byte first, from -1,000,000 to 1,000,000.
+ *
+ *   kind  body
+ *   84    type: 1 byte: 1 points, 2 line, 3 region
+ *   80    point: x, y
+ *   76    line halfsegment: left x, left y, right x, right y, d (1 byte)
+ *   82    region halfsegment: as 76, then ia (1 byte)
+ *   69    end
+ *
+ * An object is a type record, 0 to 1,024 elements of its kind, and an end
+ * record. A scene is two objects and no more; F's type is not above G's.
+ * Points are ordered by x, then y. A segment's left end comes before its right
+ * end. It is stored as two halfsegments: d = 1, whose dominating point is the
+ * left end, and d = 0, whose dominating point is the right end. Elements are
+ * in strict order: by dominating point; at one point, right (d = 0) before left
+ * (d = 1); on the same side, h before k where k's far end is strictly to the left
+ * of the ray from the dominating point through h's far end. ia is 1 where the
+ * region's interior is above the segment, or left of it if it is vertical.
+ * Crossings are split beforehand: two segments share only common ends.
+ *
+ * Refusals
+ * --------
+ * Every result has a number and a place. Number 0: the scene was taken. Any
+ * other number: it was turned away, every other result is 0 or false, and
+ * `place` is a byte offset in the scene, the record at fault, the earliest if
+ * several.
+ *
+ *   1  bytes end before a record or inside it
+ *   2  kind not allowed here
+ *   3  type not 1 to 3; d or ia not 0 or 1
+ *   4  coordinate outside the range
+ *   5  left end not before right end
+ *   6  element 1,025 of an object
+ *   7  bytes after the second end
+ *   8  F's type above G's
+ *   9  a wanted bit has no flag (place 0; karvoiss_vectors only)
+ *  10  element not strictly after the one before
+ *  11  halfsegment with no partner of opposite d, equal ends and ia
+ *  12  two segments of one object share a point that is not an end of both
+ *  13  a region's end belongs to an odd number of its segments
+ *  14  wrong ia
+ *  15  unequal segments of F and G share a point that is not an end of both
+ *
+ * 1 to 7 are found record by record; then 8 to 15 in this order, each over the
+ * whole scene.
+ */
+#ifndef KARVOISS_H
+#define KARVOISS_H
+
+#include <stdbool.h>
+#include <stddef.h>
+#include <stdint.h>
+
+#ifdef __cplusplus
+extern "C" {
+#endif
+
+/* The topological feature vectors of F and G.
+ *
+ * A flag is set exactly if some element as named exists. Bits by the types of
+ * F and G, bit 0 first:
+ *
+ *   1, 1  f: poi_disjoint, poi_shared
+ *         g: poi_disjoint
+ *   1, 2  f: poi_disjoint, poi_on_interior, poi_on_bound
+ *         g: bound_poi_disjoint
+ *   1, 3  f: poi_inside, poi_on_bound, poi_outside
+ *         g: none
+ *   2, 2  f: seg_shared, interior_poi_shared, seg_unshared, bound_on_interior,
+ *            bound_shared, bound_disjoint
+ *         g: seg_unshared, bound_on_interior, bound_disjoint
+ *   2, 3  f: seg_inside, seg_shared, seg_outside, poi_shared, bound_inside,
+ *            bound_shared, bound_disjoint
+ *         g: seg_unshared
+ *   3, 3  f: (0/1), (1/0), (1/2), (2/1), (0/2), (2/0), (1/1), bound_poi_shared
+ *         g: (0/1), (1/0), (1/2), (2/1)
+ *
+ * (m/n) is a segment with m of the two interiors below it and n above it, right
+ * and left of it if it is vertical. A line's boundary points are the ends that
+ * belong to exactly one of its segments.
+ *
+ * want_f and want_g say which flags are wanted: a flag that is not wanted is 0.
+ * If both are 0, all flags of the pair are wanted. A bit that has no flag is
+ * refused with number 9.
+ */
+typedef struct {
+    uint32_t number;
+    size_t place;
+    uint16_t f;
+    uint16_t g;
+} karvoiss_vectors_t;
+
+karvoiss_vectors_t karvoiss_vectors(const uint8_t *scene, size_t length,
+                                    uint16_t want_f, uint16_t want_g);
+
+/* The nine-intersection matrix: cell[r][c] is true exactly if some point lies in
+ * part r of F and part c of G. Parts: 0 interior, 1 boundary, 2 exterior.
+ */
+typedef struct {
+    uint32_t number;
+    size_t place;
+    bool cell[3][3];
+} karvoiss_cells_t;
+
+karvoiss_cells_t karvoiss_cells(const uint8_t *scene, size_t length);
+
+#ifdef __cplusplus
+}
+#endif
+
+#endif

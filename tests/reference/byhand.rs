@@ -1,0 +1,304 @@
+//! Scenes made by hand: document 01's twelve with their lines, its refusal table, traps of its wording, and pictures of rare matrices.
+
+use crate::picture;
+use crate::plane::{Point, Segment};
+use crate::scene::{half_record, point_record, scene_bytes, Half, Object, LINE, REGION};
+
+/// A name, the scene's bytes, and the line that `explore` must write.
+pub struct Known {
+    pub name: &'static str,
+    pub bytes: Vec<u8>,
+    pub line: &'static str,
+}
+
+pub fn points(points: &[Point]) -> Object {
+    Object::of_points(points)
+}
+
+/// A line or a region through these chains of points; a ring is a chain that ends where it began.
+pub fn drawn(kind: u8, chains: &[&[Point]]) -> Object {
+    let segments: Vec<Segment> = chains.iter().flat_map(|chain| chain.windows(2).map(|pair| Segment::between(pair[0], pair[1]))).collect();
+    Object::of_segments(kind, &segments)
+}
+
+pub fn line(chains: &[&[Point]]) -> Object {
+    drawn(LINE, chains)
+}
+
+pub fn region(chains: &[&[Point]]) -> Object {
+    drawn(REGION, chains)
+}
+
+pub fn rectangle(x: i64, y: i64, last_x: i64, last_y: i64) -> Vec<Point> {
+    vec![(x, y), (last_x, y), (last_x, last_y), (x, last_y), (x, y)]
+}
+
+pub fn square(a: i64, b: i64) -> Object {
+    region(&[&rectangle(a, a, b, b)])
+}
+
+/// Document 01's scene e, whose overlap list is 1 3 3 1 4 3 1.
+pub fn scene_e() -> Vec<u8> {
+    scene_bytes(&square(0, 2), &region(&[&rectangle(2, 0, 4, 2)]))
+}
+
+/// The twelve scenes, and the two beside them that document 01 says are taken.
+pub fn twelve() -> Vec<Known> {
+    let known = |name, f: Object, g: Object, line| Known { name, bytes: scene_bytes(&f, &g), line };
+    let none = || points(&[]);
+    let triangle: [Point; 4] = [(0, 0), (4, 0), (0, 3), (0, 0)];
+    let split_square: [Point; 6] = [(0, 0), (4, 0), (4, 2), (4, 4), (0, 4), (0, 0)];
+    let many: Vec<Point> = (0..1024).map(|i| (i / 32, i % 32)).collect();
+    vec![
+        known("a", points(&[(0, 0), (2, 2)]), line(&[&[(0, 0), (4, 0), (4, 3)]]), "ok 1 2 5 1 011000111"),
+        known("b", points(&[(2, 2), (4, 2), (5, 5)]), square(0, 4), "ok 1 3 7 0 111000111"),
+        known("c", square(0, 4), square(1, 3), "ok 3 3 3 12 111001001"),
+        known("d", square(0, 2), square(2, 4), "ok 3 3 131 3 001011111"),
+        Known { name: "e", bytes: scene_e(), line: "ok 3 3 195 3 001011111" },
+        known("f", square(0, 4), square(0, 4), "ok 3 3 176 0 100010001"),
+        known("g", none(), none(), "ok 1 1 0 0 000000001"),
+        known("h", none(), square(0, 4), "ok 1 3 0 0 000000111"),
+        known("i", line(&[&[(0, 2), (2, 2), (4, 2)]]), line(&[&[(2, 0), (2, 2), (2, 4)]]), "ok 2 2 38 5 101001111"),
+        known("j", line(&[&[(2, 2), (4, 2), (6, 2)]]), region(&[&split_square]), "ok 2 3 93 1 111101111"),
+        known("k", none(), line(&[&triangle]), "ok 1 2 0 0 000000101"),
+        known("l", points(&[(1_000_001, 0)]), none(), "no 4 2"),
+        known("l with 1000000", points(&[(1_000_000, 0)]), none(), "ok 1 1 1 0 001000001"),
+        known("1,024 points", points(&many), none(), "ok 1 1 1 0 001000001"),
+    ]
+}
+
+fn half(left: Point, right: Point, d: bool, ia: bool) -> Half {
+    Half { segment: Segment { left, right }, left: d, ia }
+}
+
+/// An object of these halfsegments as they stand, in no order but this.
+pub fn as_given(kind: u8, halves: &[Half]) -> Object {
+    Object { kind, halves: halves.to_vec(), places: vec![0; halves.len()], ..Object::default() }
+}
+
+/// Both halves of each segment, in order, with this ia.
+fn with_ia(segments: &[(Point, Point, bool)]) -> Object {
+    let mut halves: Vec<Half> = segments.iter().flat_map(|(p, q, ia)| [half(*p, *q, true, *ia), half(*p, *q, false, *ia)]).collect();
+    halves.sort_by(Half::order);
+    as_given(REGION, &halves)
+}
+
+fn joined(parts: &[&[u8]]) -> Vec<u8> {
+    parts.concat()
+}
+
+/// The refusal table's small examples, but for 9, 16 and 17, which belong to single questions.
+pub fn refusal_table() -> Vec<Known> {
+    let known = |name, bytes, line| Known { name, bytes, line };
+    let scene = |name, f: Object, g: Object, line| Known { name, bytes: scene_bytes(&f, &g), line };
+    let empty = |kind| as_given(kind, &[]);
+    let many: Vec<u8> = (0..1025).flat_map(|i| point_record((i / 32, i % 32))).collect();
+    let bottom_wrong = with_ia(&[((0, 0), (4, 0), false), ((0, 0), (0, 4), false), ((0, 4), (4, 4), false), ((4, 0), (4, 4), true)]);
+    vec![
+        known("1", vec![84, 1], "no 1 2"),
+        known("2", vec![84, 1, 76], "no 2 2"),
+        known("3", vec![84, 4], "no 3 0"),
+        known("4", joined(&[&[84, 1], &point_record((1_000_001, 0))]), "no 4 2"),
+        known("5", joined(&[&[84, 2], &half_record(LINE, &half((3, 0), (3, 0), true, false))]), "no 5 2"),
+        known("6", joined(&[&[84, 1], &many]), "no 6 9218"),
+        known("7", vec![84, 1, 69, 84, 1, 69, 0], "no 7 6"),
+        known("8", vec![84, 2, 69, 84, 1, 69], "no 8 3"),
+        known("10", joined(&[&[84, 1], &point_record((1, 1)), &point_record((1, 1)), &[69, 84, 1, 69]]), "no 10 11"),
+        scene("11", as_given(LINE, &[half((0, 0), (4, 0), true, false)]), empty(LINE), "no 11 2"),
+        scene("12", line(&[&[(0, 0), (4, 0)], &[(2, 0), (2, 3)]]), empty(LINE), "no 12 2"),
+        scene("13", with_ia(&[((0, 0), (4, 0), true)]), empty(REGION), "no 13 2"),
+        scene("14", bottom_wrong, empty(REGION), "no 14 2"),
+        scene("15", line(&[&[(0, 2), (4, 2)]]), line(&[&[(2, 0), (2, 4)]]), "no 15 2"),
+    ]
+}
+
+/// Byte strings on which a reader goes wrong that takes the refusals in another order or another place than document 01.
+pub fn reading_traps() -> Vec<Known> {
+    let known = |name, parts: &[&[u8]], line| Known { name, bytes: joined(parts), line };
+    let scene = |name, f: Object, g: Object, line| Known { name, bytes: scene_bytes(&f, &g), line };
+    let empty = |kind| as_given(kind, &[]);
+    let many: Vec<u8> = (0..1024).flat_map(|i| point_record((i / 32, i % 32))).collect();
+    let long_line = half_record(LINE, &half((0, 0), (4, 0), true, false));
+    let wrong_d = joined(&[&half_record(LINE, &half((1_000_001, 0), (0, 0), true, false))[..17], &[2]]);
+    let right_only = half((0, 0), (4, 0), false, false);
+    let twice = points(&[(1, 1)]);
+    let doubled = Object { points: vec![(1, 1), (1, 1)], places: vec![0; 2], ..twice };
+    vec![
+        known("no byte", &[], "no 1 0"),
+        known("a type record cut", &[&[84]], "no 1 0"),
+        known("a point cut", &[&[84, 1, 80, 0, 0, 0, 0, 0, 0, 0]], "no 1 2"),
+        known("cut before its d is seen", &[&[84, 2], &long_line[..17]], "no 1 2"),
+        known("1,024 points, then nothing", &[&[84, 1], &many], "no 1 9218"),
+        known("1,024 points and an end, then nothing", &[&[84, 1], &many, &[69]], "no 1 9219"),
+        known("element 1,025, its kind alone", &[&[84, 1], &many, &[80]], "no 6 9218"),
+        known("another kind in place 1,025", &[&[84, 1], &many, &[76]], "no 2 9218"),
+        known("two type records", &[&[84, 1, 84, 1]], "no 2 2"),
+        known("an end at once", &[&[69]], "no 2 0"),
+        known("a type of 0", &[&[84, 0]], "no 3 0"),
+        known("wrong d, wrong coordinate, wrong ends", &[&[84, 2], &wrong_d], "no 3 2"),
+        known("wrong coordinate, wrong ends", &[&[84, 2], &half_record(LINE, &half((1_000_001, 0), (0, 0), true, false))], "no 4 2"),
+        known("below the range", &[&[84, 1], &point_record((0, -1_000_001))], "no 4 2"),
+        known("the smallest number", &[&[84, 1], &point_record((i32::MIN as i64, 0))], "no 4 2"),
+        known("vertical, upside down", &[&[84, 2], &half_record(LINE, &half((0, 4), (0, 0), true, false))], "no 5 2"),
+        known("a third object", &[&[84, 1, 69, 84, 1, 69, 84, 1, 69]], "no 7 6"),
+        known("7 before 8", &[&[84, 2, 69, 84, 1, 69, 69]], "no 7 6"),
+        known("8 before 11", &[&[84, 2], &long_line, &[69, 84, 1, 69]], "no 8 21"),
+        scene(
+            "on one ray, the shorter first",
+            as_given(LINE, &[half((0, 0), (2, 0), true, false), half((0, 0), (4, 0), true, false)]),
+            empty(LINE),
+            "no 10 20",
+        ),
+        scene(
+            "unequal in ia alone",
+            as_given(REGION, &[half((0, 0), (4, 0), true, false), half((0, 0), (4, 0), true, true)]),
+            empty(REGION),
+            "no 10 21",
+        ),
+        scene("a left before a right", as_given(LINE, &[half((4, 0), (8, 0), true, false), right_only]), empty(LINE), "no 10 20"),
+        scene(
+            "halves unequal in ia",
+            as_given(REGION, &[half((0, 0), (4, 0), true, true), half((0, 0), (4, 0), false, false)]),
+            empty(REGION),
+            "no 11 2",
+        ),
+        scene("a right half alone", as_given(LINE, &[right_only]), empty(LINE), "no 11 2"),
+        scene("10 in G before 11 in F", points(&[(0, 0)]), doubled, "no 10 23"),
+        scene("10 of a line before 11", as_given(LINE, &[right_only]), as_given(LINE, &[right_only, right_only]), "no 10 41"),
+        scene("crossing off the grid", line(&[&[(0, 0), (3, 1)], &[(0, 1), (3, 0)]]), empty(LINE), "no 12 2"),
+        scene("the later segments cross", line(&[&[(0, 0), (1, 0)], &[(2, 0), (4, 2)], &[(2, 2), (4, 0)]]), empty(LINE), "no 12 38"),
+        scene("12 in G before 15 in F", line(&[&[(0, 1), (9, 1)]]), line(&[&[(1, 0), (3, 2)], &[(1, 2), (3, 0)]]), "no 12 41"),
+        scene("odd at a right half", with_ia(&[((0, 0), (4, 0), true), ((0, 0), (4, 2), false)]), empty(REGION), "no 13 40"),
+        scene(
+            "a vertical side with the wrong ia",
+            with_ia(&[((0, 0), (4, 0), true), ((0, 0), (0, 4), true), ((0, 4), (4, 4), false), ((4, 0), (4, 4), true)]),
+            empty(REGION),
+            "no 14 21",
+        ),
+        scene("15 at the second segment of F", line(&[&[(0, 0), (1, 0), (5, 1)]]), line(&[&[(2, -5), (3, 5)]]), "no 15 38"),
+        scene("one part of the other's segment", line(&[&[(0, 0), (2, 0)]]), line(&[&[(0, 0), (4, 0)]]), "no 15 2"),
+        scene("on one line, end to end", line(&[&[(0, 0), (2, 0)]]), line(&[&[(2, 0), (4, 0)]]), "ok 2 2 52 5 001011111"),
+    ]
+}
+
+/// Scenes on which a flag or a cell goes wrong that takes document 01's sentences loosely.
+pub fn answer_traps() -> Vec<Known> {
+    let scene = |name, f: Object, g: Object, line| Known { name, bytes: scene_bytes(&f, &g), line };
+    let empty = |kind| as_given(kind, &[]);
+    let triangle: [Point; 4] = [(0, 0), (4, 0), (0, 3), (0, 0)];
+    let star: [&[Point]; 3] = [&[(0, 0), (2, 2)], &[(2, 2), (4, 0)], &[(2, 2), (2, 5)]];
+    let split_square: [Point; 6] = [(0, 0), (4, 0), (4, 2), (4, 4), (0, 4), (0, 0)];
+    vec![
+        scene("far from a closed line", points(&[(9, 9)]), line(&[&triangle]), "ok 1 2 1 0 001000101"),
+        scene("at the hub of a star", points(&[(2, 2)]), line(&star), "ok 1 2 2 1 100000111"),
+        scene("on an open segment", points(&[(2, 0)]), line(&[&triangle]), "ok 1 2 2 0 100000101"),
+        scene("points and no line", points(&[(2, 0)]), empty(LINE), "ok 1 2 1 0 001000001"),
+        scene("points and no region", points(&[(2, 0)]), empty(REGION), "ok 1 3 4 0 001000001"),
+        scene("a line and no region", line(&[&[(0, 0), (4, 0)]]), empty(REGION), "ok 2 3 68 0 001001001"),
+        scene("a closed line and no region", line(&[&triangle]), empty(REGION), "ok 2 3 4 0 001000001"),
+        scene("a line that only ends on the region", line(&[&[(4, 2), (6, 2)]]), region(&[&split_square]), "ok 2 3 100 1 001011111"),
+        scene("a closed line far from the region", line(&[&[(9, 9), (12, 9), (9, 12), (9, 9)]]), square(0, 4), "ok 2 3 4 1 001000111"),
+        scene("the outline as a line", line(&[&rectangle(0, 0, 4, 4)]), square(0, 4), "ok 2 3 10 0 010000101"),
+        scene("no line, a region", empty(LINE), square(0, 4), "ok 2 3 0 1 000000111"),
+        scene("a region, no region", square(0, 4), empty(REGION), "ok 3 3 3 0 001001001"),
+        scene("inside, at a corner", region(&[&[(0, 0), (2, 1), (1, 2), (0, 0)]]), square(0, 4), "ok 3 3 140 3 100110111"),
+        scene("no line, no line", empty(LINE), empty(LINE), "ok 2 2 0 0 000000001"),
+        scene("no region, no region", empty(REGION), empty(REGION), "ok 3 3 0 0 000000001"),
+        scene(
+            "a region that touches itself at a corner",
+            region(&[&rectangle(0, 0, 2, 2), &rectangle(2, 2, 4, 4)]),
+            empty(REGION),
+            "ok 3 3 3 0 001001001",
+        ),
+        scene(
+            "a hole that touches the outline at a corner",
+            points(&[(1, 1)]),
+            region(&[&rectangle(0, 0, 4, 4), &[(0, 0), (2, 1), (1, 2), (0, 0)]]),
+            "ok 1 3 4 0 001000111",
+        ),
+        scene(
+            "an island in a hole",
+            points(&[(4, 4)]),
+            region(&[&rectangle(0, 0, 8, 8), &rectangle(1, 1, 7, 7), &rectangle(3, 3, 5, 5)]),
+            "ok 1 3 1 0 100000111",
+        ),
+        scene("limit to limit", square(-1_000_000, 1_000_000), region(&[&rectangle(-999_999, -999_999, 999_999, 999_999)]), "ok 3 3 3 12 111001001"),
+    ]
+}
+
+/// A cell picture's matrix, for pictures of faces alone: one letter each, lines from above parted by a slash.
+pub struct Drawn {
+    pub kinds: (u8, u8),
+    pub matrix: &'static str,
+    pub lines: Vec<String>,
+}
+
+impl Drawn {
+    pub fn bytes(&self) -> Vec<u8> {
+        let lines: Vec<&str> = self.lines.iter().map(String::as_str).collect();
+        let (f, g) = picture::objects(self.kinds, &lines);
+        scene_bytes(&f, &g)
+    }
+}
+
+/// The 33 matrices of two regions, and the rarest of a line and a region.
+pub fn drawn_matrices() -> Vec<Drawn> {
+    let faces = |(matrix, cells): &(&'static str, &str)| {
+        let mut lines = vec![String::new()];
+        for row in cells.split('/') {
+            lines.push(row.chars().flat_map(|face| [' ', face]).collect());
+            lines.push(String::new());
+        }
+        Drawn { kinds: (REGION, REGION), matrix, lines }
+    };
+    let edges = |(matrix, lines): &(&'static str, &[&str])| {
+        let lines = lines.iter().map(|line| line.to_string()).collect();
+        Drawn { kinds: (LINE, REGION), matrix, lines }
+    };
+    REGION_PICTURES.iter().map(faces).chain(LINE_REGION_PICTURES.iter().map(edges)).collect()
+}
+
+const REGION_PICTURES: [(&str, &str); 33] = [
+    ("001001111", "g.f"),
+    ("001010111", ".g./gfg/.g."),
+    ("001011101", ".f./fgf/.f."),
+    ("001011111", "gf"),
+    ("100010001", "b"),
+    ("100010111", "b.g"),
+    ("100100111", "ggg/gbg/ggg"),
+    ("100110101", ".b./bgb/.b."),
+    ("100110111", "bg"),
+    ("101010111", "b.ggg/..gfg/..ggg"),
+    ("101011001", "b.f"),
+    ("101011101", "b.fff/..fgf/..fff"),
+    ("101011111", "b.gf"),
+    ("101101111", "ggg.f/gbg../ggg.."),
+    ("101110101", "bbbbb/bgggb/bgfgb/bgggb/bbbbb"),
+    ("101110111", "bg./gfg/.g."),
+    ("101111101", ".b./fgf/.f."),
+    ("101111111", "bgf"),
+    ("111001001", "fff/fbf/fff"),
+    ("111001111", "fff.g/fbf../fff.."),
+    ("111010001", ".b./bfb/.b."),
+    ("111010101", "bbbbb/bfffb/bfgfb/bfffb/bbbbb"),
+    ("111010111", ".b./gfg/.g."),
+    ("111011001", "bf"),
+    ("111011101", "bf./fgf/.f."),
+    ("111011111", "bfg"),
+    ("111100111", "ggggg/gbbbg/gbfbg/gbbbg/ggggg"),
+    ("111101101", "fffff/fbbbf/fbgbf/fbbbf/fffff"),
+    ("111101111", "fff.ggg/fbf.gbg/fff.ggg"),
+    ("111110101", "bbbbb/bgbfb/bbbbb"),
+    ("111110111", "gb./gfg/.g."),
+    ("111111101", "fb./fgf/.f."),
+    ("111111111", "gbf"),
+];
+
+const LINE_REGION_PICTURES: [(&str, &[&str]); 6] = [
+    ("101011111", &["+ + + + +", " g g     ", "+f+f+ + +", " g g     ", "+ + + +f+"]),
+    ("101110111", &["+ + + + +", " g g g   ", "+ +f+ +f+", " g g g  f", "+ + + +f+"]),
+    ("101111111", &["+ + + + +f+", " g g g     ", "+ +f+ +f+ +", " g g g  f  ", "+ + + +f+ +"]),
+    ("111100111", &["+ + + + +", " g g g   ", "+ + +f+f+", " g g g  f", "+ + +f+f+", " g g g   ", "+ + + + +"]),
+    ("111101111", &["+ + + + +f+", " g g g     ", "+ + +f+f+ +", " g g g  f  ", "+ + +f+f+ +", " g g g     ", "+ + + + + +"]),
+    ("111111111", &["+ + + +f+", " g g g   ", "+ + +f+f+", " g g g  f", "+ + +f+f+", " g g g   ", "+ + + + +"]),
+];

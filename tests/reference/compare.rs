@@ -1,0 +1,185 @@
+//! The comparison: every scene is put to the engine under test and to the reference, as vectors under several masks, as cells and as an
+//! overlap list, and every bit of the answers and of the memory around them must agree.
+
+use crate::byhand;
+use crate::cells::{turned, Matrix};
+use crate::damage::{damaged, noise};
+use crate::drawing::scene_text;
+use crate::judge::{judge, Judgement};
+use crate::library;
+use crate::maker::{full, small, some_pair};
+use crate::mistakes::{Rules, RIGHT};
+use crate::random::Random;
+use crate::scene::scene_bytes;
+use crate::tally::Tally;
+use std::fmt::Debug;
+
+/// Guard bytes before and after what is lent.
+const GUARD: usize = 64;
+
+/// A byte string to be asked about, and where it comes from.
+pub struct Case {
+    pub from: String,
+    pub bytes: Vec<u8>,
+    pub must_be_taken: bool,
+    /// The seed of the masks and rooms that it is asked with.
+    pub seed: u64,
+}
+
+impl Case {
+    /// The scene that a seed names: mostly small and valid, a third damaged or not split, a few of full size, a few that never were scenes.
+    pub fn of_seed(seed: u64) -> Case {
+        let mut random = Random::new(seed);
+        let kinds = some_pair(&mut random);
+        let choice = random.below(1600);
+        let (f, g) = if choice < 4 { full(&mut random, kinds) } else { small(&mut random, kinds) };
+        let (bytes, must_be_taken) = match choice {
+            0 | 10..=479 => (damaged(&mut random, &f, &g), false),
+            480..=619 => (scene_bytes(&f, &small(&mut random, kinds).1), false),
+            620..=649 => (noise(&mut random), false),
+            _ => (scene_bytes(&f, &g), true),
+        };
+        Case { from: format!("seed {seed}"), bytes, must_be_taken, seed }
+    }
+
+    fn by_hand(name: &str, bytes: Vec<u8>) -> Case {
+        Case { from: format!("the scene made by hand: {name}"), bytes, must_be_taken: false, seed: 0 }
+    }
+
+    /// All scenes made by hand.
+    pub fn all_by_hand() -> Vec<Case> {
+        let known = [byhand::twelve(), byhand::refusal_table(), byhand::reading_traps(), byhand::answer_traps()];
+        let mut cases: Vec<Case> = known.into_iter().flatten().map(|known| Case::by_hand(known.name, known.bytes)).collect();
+        cases.extend(byhand::drawn_matrices().iter().map(|drawn| Case::by_hand(drawn.matrix, drawn.bytes())));
+        cases
+    }
+}
+
+/// Asks everything about a case, and if both types are equal everything again with F and G exchanged. An error says what disagreed.
+pub fn ask(case: &Case, rules: &Rules, tally: &mut Tally) -> Result<(), String> {
+    let judgement = judge(&case.bytes, rules);
+    if case.must_be_taken && !judgement.is_taken() && !judge(&case.bytes, &RIGHT).is_taken() {
+        return Err(failure(case, &case.bytes, &format!("the maker's scene is refused by the reference: {}", judgement.line())));
+    }
+    tally.scene(&judgement);
+    let mut random = Random::new(!case.seed);
+    let cells = ask_one(&case.bytes, &judgement, &mut random, tally).map_err(|what| failure(case, &case.bytes, &what))?;
+    if judgement.is_taken() && judgement.f.kind == judgement.g.kind {
+        let (f, g) = case.bytes.split_at(judgement.g.start);
+        let exchanged = [g, f].concat();
+        let other = ask_one(&exchanged, &judge(&exchanged, rules), &mut random, tally).map_err(|what| failure(case, &exchanged, &what))?;
+        if other != turned(&cells) {
+            return Err(failure(case, &case.bytes, &format!("cells {cells:?}, but {other:?} with F and G exchanged")));
+        }
+    }
+    Ok(())
+}
+
+fn failure(case: &Case, bytes: &[u8], what: &str) -> String {
+    format!("DISAGREEMENT on {}\n{}\n{}", case.from, what, scene_text(bytes))
+}
+
+/// Asks everything about one byte string; gives the cells.
+fn ask_one(bytes: &[u8], judgement: &Judgement, random: &mut Random, tally: &mut Tally) -> Result<Matrix, String> {
+    let scene = Lent::new(random, bytes);
+    for (want_f, want_g) in masks(judgement, random) {
+        let expected = judgement.vectors(want_f, want_g);
+        agree(&format!("vectors, masks {want_f} and {want_g}"), &expected, &library::vectors(scene.inside(), want_f, want_g))?;
+        scene.is_unchanged("the scene, after vectors")?;
+        tally.questions += 1;
+        if expected.number == 9 {
+            tally.refusal(9);
+        }
+    }
+
+    let cells = library::cells(scene.inside())?;
+    agree("cells", &judgement.cells(), &cells)?;
+    scene.is_unchanged("the scene, after cells")?;
+    tally.questions += 1;
+
+    for room in rooms(judgement, random) {
+        let contents: Vec<u8> = (0..room).map(|_| random.byte()).collect();
+        let mut list = Lent::new(random, &contents);
+        let answer = library::overlap(scene.inside(), list.inside_mut());
+        let expected = judgement.overlap(list.expected_mut());
+        agree(&format!("overlap list, room {room}"), &expected, &answer)?;
+        list.is_unchanged(&format!("the lent buffer of {room}, its list or what is around it"))?;
+        scene.is_unchanged("the scene, after the overlap list")?;
+        tally.questions += 1;
+        if expected.number > 15 {
+            tally.refusal(expected.number);
+        }
+    }
+    Ok(cells.cell)
+}
+
+fn agree<T: PartialEq + Debug>(question: &str, expected: &T, answer: &T) -> Result<(), String> {
+    if expected == answer {
+        return Ok(());
+    }
+    Err(format!("{question}\n  reference: {expected:?}\n  engine:    {answer:?}"))
+}
+
+/// All flags, a choice of them, and now and then bits that no flag has.
+fn masks(judgement: &Judgement, random: &mut Random) -> Vec<(u16, u16)> {
+    let (all_f, all_g) = judgement.all_flags();
+    let (f, g) = (random.next() as u16, random.next() as u16);
+    let chosen = random.pick(&[(f & all_f, g & all_g), (f & all_f, 0), (0, g & all_g), (all_f, all_g), (1 << (f % 8) & all_f, 0)]);
+    let mut masks = vec![(0, 0), chosen];
+    if random.once_in(4) {
+        masks.push(random.pick(&[(f, g), (all_f + 1, 0), (0, all_g + 1), (all_f | f, g & all_g), (1 << (f % 16), 0), (0, 1 << (g % 16))]));
+    }
+    masks
+}
+
+/// Buffers of just the count, of one less, of more, of none.
+fn rooms(judgement: &Judgement, random: &mut Random) -> Vec<usize> {
+    let count = judgement.list.len();
+    if !judgement.is_taken() || judgement.list.is_empty() {
+        return vec![random.pick(&[0, 1, 3, 40])];
+    }
+    let more = random.below(40);
+    vec![count, random.pick(&[count - 1, count + 1, count / 2, 0, count + more, 1100])]
+}
+
+/// Bytes lent to the engine, with guard bytes on both sides, and what they must be after the call.
+struct Lent {
+    memory: Vec<u8>,
+    expected: Vec<u8>,
+}
+
+impl Lent {
+    fn new(random: &mut Random, contents: &[u8]) -> Lent {
+        let guards: Vec<u8> = (0..2 * GUARD).map(|_| random.byte()).collect();
+        let memory = [&guards[..GUARD], contents, &guards[GUARD..]].concat();
+        Lent { expected: memory.clone(), memory }
+    }
+
+    fn span(&self) -> std::ops::Range<usize> {
+        GUARD..self.memory.len() - GUARD
+    }
+
+    fn inside(&self) -> &[u8] {
+        &self.memory[self.span()]
+    }
+
+    fn inside_mut(&mut self) -> &mut [u8] {
+        let span = self.span();
+        &mut self.memory[span]
+    }
+
+    fn expected_mut(&mut self) -> &mut [u8] {
+        let span = self.span();
+        &mut self.expected[span]
+    }
+
+    fn is_unchanged(&self, what: &str) -> Result<(), String> {
+        match (0..self.memory.len()).find(|i| self.memory[*i] != self.expected[*i]) {
+            None => Ok(()),
+            Some(i) => {
+                let at = i as i64 - GUARD as i64;
+                Err(format!("{what}: byte {at} is {} instead of {}", self.memory[i], self.expected[i]))
+            }
+        }
+    }
+}

@@ -1,0 +1,142 @@
+//! The reference's answer to each question about one byte string: the refusals in document 01's order, then vectors, cells or list.
+
+use crate::cells::{matrix, overlap, Matrix};
+use crate::check;
+use crate::flags::{flag_counts, vectors};
+use crate::mistakes::Rules;
+use crate::plane::Segment;
+use crate::scene::{read_scene, Object, Refusal, REGION};
+
+#[derive(Clone, Copy, PartialEq, Eq, Debug, Default)]
+pub struct VectorsAnswer {
+    pub number: u32,
+    pub place: usize,
+    pub f: u16,
+    pub g: u16,
+}
+
+#[derive(Clone, Copy, PartialEq, Eq, Debug, Default)]
+pub struct CellsAnswer {
+    pub number: u32,
+    pub place: usize,
+    pub cell: Matrix,
+}
+
+#[derive(Clone, Copy, PartialEq, Eq, Debug, Default)]
+pub struct OverlapAnswer {
+    pub number: u32,
+    pub place: usize,
+    pub count: usize,
+}
+
+/// Everything that any question about these bytes may need, found once. `early` is a refusal 1 to 8, `late` one of 10 to 15.
+#[derive(Default)]
+pub struct Judgement {
+    pub early: Option<Refusal>,
+    pub late: Option<Refusal>,
+    pub f: Object,
+    pub g: Object,
+    pub vectors: (u16, u16),
+    pub cells: Matrix,
+    pub segments: Vec<Segment>,
+    pub list: Vec<u8>,
+    /// The segments of F and of G, those of both taken twice.
+    pub apart: usize,
+    /// The count given back, the room it needs and whether it is written; they differ from what `list` says in a mistaken reference only.
+    pub count: usize,
+    pub room: usize,
+    pub writes: bool,
+}
+
+pub fn judge(bytes: &[u8], rules: &Rules) -> Judgement {
+    let mut judgement = Judgement { writes: true, ..Judgement::default() };
+    match read_scene(bytes) {
+        Err(refusal) => judgement.early = Some(refusal),
+        Ok((f, g)) => {
+            judgement.early = check::types(&f, &g);
+            if judgement.early.is_none() {
+                judgement.late = check::later(&f, &g, rules);
+            }
+            if judgement.is_taken() {
+                judgement.vectors = vectors(&f, &g, rules);
+                judgement.cells = matrix(&f, &g, rules);
+                if f.kind == REGION {
+                    let list = overlap(&f, &g);
+                    judgement.segments = list.iter().map(|entry| entry.0).collect();
+                    judgement.list = list.iter().map(|(_, m, n)| 3 * m + n).collect();
+                    judgement.apart = f.segments().len() + g.segments().len();
+                }
+                judgement.count = judgement.list.len();
+                judgement.room = judgement.list.len();
+            }
+            (judgement.f, judgement.g) = (f, g);
+        }
+    }
+    (rules.spoil)(&mut judgement);
+    judgement
+}
+
+impl Judgement {
+    /// Taken by the questions that have no refusals of their own.
+    pub fn is_taken(&self) -> bool {
+        self.early.is_none() && self.late.is_none()
+    }
+
+    /// The flags of the pair, as a mask for F and one for G.
+    pub fn all_flags(&self) -> (u16, u16) {
+        let (of_f, of_g) = flag_counts(self.f.kind, self.g.kind);
+        ((1 << of_f) - 1, (1 << of_g) - 1)
+    }
+
+    pub fn vectors(&self, want_f: u16, want_g: u16) -> VectorsAnswer {
+        let refused = |refusal: Refusal| VectorsAnswer { number: refusal.number, place: refusal.place, ..VectorsAnswer::default() };
+        if let Some(refusal) = self.early {
+            return refused(refusal);
+        }
+        let (all_f, all_g) = self.all_flags();
+        if want_f & !all_f != 0 || want_g & !all_g != 0 {
+            return refused(Refusal { number: 9, place: 0 });
+        }
+        if let Some(refusal) = self.late {
+            return refused(refusal);
+        }
+        let (want_f, want_g) = if want_f == 0 && want_g == 0 { (all_f, all_g) } else { (want_f, want_g) };
+        VectorsAnswer { number: 0, place: 0, f: self.vectors.0 & want_f, g: self.vectors.1 & want_g }
+    }
+
+    pub fn cells(&self) -> CellsAnswer {
+        match self.early.or(self.late) {
+            Some(refusal) => CellsAnswer { number: refusal.number, place: refusal.place, ..CellsAnswer::default() },
+            None => CellsAnswer { number: 0, place: 0, cell: self.cells },
+        }
+    }
+
+    /// The answer, with the list written into the lent buffer.
+    pub fn overlap(&self, lent: &mut [u8]) -> OverlapAnswer {
+        let own_refusal = if self.f.kind != REGION {
+            Some(Refusal { number: 16, place: 0 }) // the first type is never 3 here, for G's would be below it, which is 8
+        } else if lent.len() < self.room {
+            Some(Refusal { number: 17, place: 0 })
+        } else {
+            None
+        };
+        if let Some(refusal) = self.early.or(self.late).or(own_refusal) {
+            return OverlapAnswer { number: refusal.number, place: refusal.place, count: 0 };
+        }
+        if self.writes {
+            lent[..self.list.len()].copy_from_slice(&self.list);
+        }
+        OverlapAnswer { number: 0, place: 0, count: self.count }
+    }
+
+    /// The line that document 01's `explore` writes, without its line feed.
+    pub fn line(&self) -> String {
+        let cells = self.cells();
+        if cells.number != 0 {
+            return format!("no {} {}", cells.number, cells.place);
+        }
+        let digits: String = cells.cell.iter().flatten().map(|yes| if *yes { '1' } else { '0' }).collect();
+        let (f, g) = self.vectors;
+        format!("ok {} {} {} {} {}", self.f.kind, self.g.kind, f, g, digits)
+    }
+}

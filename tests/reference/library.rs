@@ -1,0 +1,90 @@
+//! The engine under test. Built with `--cfg library` it is the C archive, through its three exported functions and nothing else; built
+//! without, the reference stands in for it, so that the maker, the counts and the mistakes can be tried with no archive at hand.
+
+#[cfg(library)]
+pub use linked::*;
+#[cfg(not(library))]
+pub use stand_in::*;
+
+#[cfg(library)]
+mod linked {
+    use crate::judge::{CellsAnswer, OverlapAnswer, VectorsAnswer};
+
+    pub const NAME: &str = "the linked archive";
+
+    #[repr(C)]
+    struct Vectors {
+        number: u32,
+        place: usize,
+        f: u16,
+        g: u16,
+    }
+
+    /// The cells are bool in C; read as bytes, a wrong one shows instead of being undefined.
+    #[repr(C)]
+    struct Cells {
+        number: u32,
+        place: usize,
+        cell: [[u8; 3]; 3],
+    }
+
+    #[repr(C)]
+    struct Overlap {
+        number: u32,
+        place: usize,
+        count: usize,
+    }
+
+    extern "C" {
+        fn karvoiss_vectors(scene: *const u8, length: usize, want_f: u16, want_g: u16) -> Vectors;
+        fn karvoiss_cells(scene: *const u8, length: usize) -> Cells;
+        fn karvoiss_overlap(scene: *const u8, length: usize, list: *mut u8, room: usize) -> Overlap;
+    }
+
+    /// Null where the length is 0, which the header allows.
+    fn start(scene: &[u8]) -> *const u8 {
+        if scene.is_empty() {
+            std::ptr::null()
+        } else {
+            scene.as_ptr()
+        }
+    }
+
+    pub fn vectors(scene: &[u8], want_f: u16, want_g: u16) -> VectorsAnswer {
+        let answer = unsafe { karvoiss_vectors(start(scene), scene.len(), want_f, want_g) };
+        VectorsAnswer { number: answer.number, place: answer.place, f: answer.f, g: answer.g }
+    }
+
+    pub fn cells(scene: &[u8]) -> Result<CellsAnswer, String> {
+        let answer = unsafe { karvoiss_cells(start(scene), scene.len()) };
+        if answer.cell.iter().flatten().any(|cell| *cell > 1) {
+            return Err(format!("cells: one is neither 0 nor 1: {:?}", answer.cell));
+        }
+        Ok(CellsAnswer { number: answer.number, place: answer.place, cell: answer.cell.map(|row| row.map(|cell| cell == 1)) })
+    }
+
+    pub fn overlap(scene: &[u8], list: &mut [u8]) -> OverlapAnswer {
+        let answer = unsafe { karvoiss_overlap(start(scene), scene.len(), list.as_mut_ptr(), list.len()) };
+        OverlapAnswer { number: answer.number, place: answer.place, count: answer.count }
+    }
+}
+
+#[cfg(not(library))]
+mod stand_in {
+    use crate::judge::{judge, CellsAnswer, OverlapAnswer, VectorsAnswer};
+    use crate::mistakes::RIGHT;
+
+    pub const NAME: &str = "no archive: the reference against itself";
+
+    pub fn vectors(scene: &[u8], want_f: u16, want_g: u16) -> VectorsAnswer {
+        judge(scene, &RIGHT).vectors(want_f, want_g)
+    }
+
+    pub fn cells(scene: &[u8]) -> Result<CellsAnswer, String> {
+        Ok(judge(scene, &RIGHT).cells())
+    }
+
+    pub fn overlap(scene: &[u8], list: &mut [u8]) -> OverlapAnswer {
+        judge(scene, &RIGHT).overlap(list)
+    }
+}

@@ -1,0 +1,216 @@
+//! The reference: a program written apart from the crates, which answers the same questions and is compared with them.
+//! It has its own reader, its own checks, flags by brute force and cells from sample points; it shares nothing with what it checks.
+//!
+//! Alone:            rustc -O --edition 2021 -o target/reference/reference tests/reference/main.rs
+//! With the archive: the same with --cfg library -L native=DIR -l static=karvoiss, DIR being where libkarvoiss.a is.
+
+mod byhand;
+mod cells;
+mod check;
+mod compare;
+mod damage;
+mod drawing;
+mod flags;
+mod judge;
+mod library;
+mod maker;
+mod mistakes;
+mod picture;
+mod pieces;
+mod plan;
+mod plane;
+mod random;
+mod scene;
+mod tally;
+
+use compare::{ask, Case};
+use judge::judge;
+use mistakes::{Rules, MISTAKES, RIGHT};
+use random::Random;
+use std::io::{Read, Write};
+use std::process::exit;
+use std::time::{Duration, Instant};
+use tally::Tally;
+
+const USAGE: &str = "usage: reference answer < scene    the line that explore writes
+       reference list < scene      the overlap list, or its refusal
+       reference draw < scene      the scene as bytes, words and a drawing
+       reference scene SEED        writes the scene that a seed names
+       reference self              the scenes made by hand against their known answers
+       reference compare             the fixed run: all must agree, and it must reach enough
+           --scenes N, --seed N      another number of scenes, another seed
+           --seconds N               fresh seeds for so long instead
+           --mistake NAME            with a mistake in the reference: must disagree
+           --trace                   names each scene before it is asked about
+       reference compare --mistakes  runs every mistake: each must be caught";
+
+/// The fixed run: its seed, its scenes, and the scenes in which a mistake must have been caught.
+const SEED: u64 = 1;
+const SCENES: u64 = 60_000;
+const SCENES_PER_MISTAKE: u64 = 5_000;
+
+fn main() {
+    let arguments: Vec<String> = std::env::args().skip(1).collect();
+    let arguments: Vec<&str> = arguments.iter().map(String::as_str).collect();
+    let good = match arguments[..] {
+        ["answer"] => {
+            println!("{}", judge(&input(), &RIGHT).line());
+            true
+        }
+        ["list"] => {
+            println!("{}", list_line(&input()));
+            true
+        }
+        ["draw"] => {
+            print!("{}", drawing::scene_text(&input()));
+            true
+        }
+        ["scene", seed] => std::io::stdout().write_all(&Case::of_seed(number(seed)).bytes).is_ok(),
+        ["self"] => self_test(),
+        ["compare", "--mistakes"] => all_mistakes(),
+        ["compare", ref rest @ ..] => compare(rest),
+        _ => usage(),
+    };
+    exit(if good { 0 } else { 1 });
+}
+
+fn usage() -> ! {
+    eprintln!("{USAGE}");
+    exit(2);
+}
+
+fn number(text: &str) -> u64 {
+    text.parse().unwrap_or_else(|_| usage())
+}
+
+fn input() -> Vec<u8> {
+    let mut bytes = Vec::new();
+    std::io::stdin().read_to_end(&mut bytes).expect("standard input cannot be read");
+    bytes
+}
+
+fn list_line(bytes: &[u8]) -> String {
+    let judgement = judge(bytes, &RIGHT);
+    let answer = judgement.overlap(&mut vec![0; judgement.list.len()]);
+    if answer.number != 0 {
+        return format!("no {} {}", answer.number, answer.place);
+    }
+    judgement.list.iter().map(u8::to_string).collect::<Vec<_>>().join(" ")
+}
+
+/// The scenes made by hand against what document 01, or a hand, says of them.
+fn self_test() -> bool {
+    let (mut passed, mut failed) = (0, 0);
+    let mut check = |name: &str, expected: &str, answer: String| {
+        if expected == answer {
+            passed += 1;
+        } else {
+            failed += 1;
+            println!("{name}: {answer} instead of {expected}");
+        }
+    };
+    let known = [byhand::twelve(), byhand::refusal_table(), byhand::reading_traps(), byhand::answer_traps()];
+    for known in known.iter().flatten() {
+        check(known.name, known.line, judge(&known.bytes, &RIGHT).line());
+    }
+    for drawn in byhand::drawn_matrices() {
+        let line = judge(&drawn.bytes(), &RIGHT).line();
+        check("a picture", drawn.matrix, line.rsplit(' ').next().unwrap_or_default().to_string());
+    }
+    // the table's 9, 16 and 17, and the list that document 01 gives
+    let refused = |number: u32, place: usize| format!("no {number} {place}");
+    let no_points = [84, 1, 69, 84, 1, 69];
+    let nine = judge(&no_points, &RIGHT).vectors(4, 0);
+    check("9", "no 9 0", refused(nine.number, nine.place));
+    let sixteen = judge(&no_points, &RIGHT).overlap(&mut []);
+    check("16", "no 16 0", refused(sixteen.number, sixteen.place));
+    let one_square = scene::scene_bytes(&byhand::square(0, 4), &scene::Object::of_segments(scene::REGION, &[]));
+    let seventeen = judge(&one_square, &RIGHT).overlap(&mut [0; 3]);
+    check("17", "no 17 0", refused(seventeen.number, seventeen.place));
+    check("the list of e", "1 3 3 1 4 3 1", list_line(&byhand::scene_e()));
+    println!("self-test: {passed} passed, {failed} failed");
+    failed == 0
+}
+
+/// A comparison: the scenes made by hand, then those of a seed, a number of them or as many as there is time for.
+struct Run {
+    rules: Rules,
+    by_hand: bool,
+    seed: u64,
+    scenes: u64,
+    until: Option<Instant>,
+    trace: bool,
+}
+
+impl Run {
+    fn go(&self, tally: &mut Tally) -> Result<(), String> {
+        let by_hand = if self.by_hand { Case::all_by_hand() } else { Vec::new() };
+        let mut seeds = Random::new(self.seed);
+        let of_seed = (0..self.scenes).map(|_| Case::of_seed(seeds.next()));
+        for case in by_hand.into_iter().chain(of_seed) {
+            if self.until.is_some_and(|end| Instant::now() >= end) {
+                break;
+            }
+            if self.trace {
+                eprintln!("{}", case.from);
+            }
+            ask(&case, &self.rules, tally)?;
+        }
+        Ok(())
+    }
+}
+
+fn compare(arguments: &[&str]) -> bool {
+    let start = Instant::now();
+    let mut run = Run { rules: RIGHT, by_hand: true, seed: SEED, scenes: SCENES, until: None, trace: false };
+    let mut seed = None;
+    let mut arguments = arguments.iter();
+    while let Some(argument) = arguments.next() {
+        let mut value = || arguments.next().unwrap_or_else(|| usage());
+        match *argument {
+            "--scenes" => run.scenes = number(value()),
+            "--seed" => seed = Some(number(value())),
+            "--seconds" => {
+                run.until = Some(start + Duration::from_secs(number(value())));
+                run.scenes = u64::MAX;
+                run.seed = std::time::SystemTime::now().duration_since(std::time::UNIX_EPOCH).map_or(0, |since| since.as_nanos() as u64);
+            }
+            "--mistake" => {
+                let name = value();
+                let mistake = MISTAKES.iter().find(|mistake| mistake.name == *name).unwrap_or_else(|| usage());
+                println!("with a mistake put into the reference: {}", mistake.says);
+                run.rules = mistake.rules;
+            }
+            "--trace" => run.trace = true,
+            _ => usage(),
+        }
+    }
+    run.seed = seed.unwrap_or(run.seed);
+    println!("comparing with {}, seed {}", library::NAME, run.seed);
+    let mut tally = Tally::default();
+    let outcome = run.go(&mut tally);
+    // a run that was cut short, by a disagreement or by the clock, need not have reached everything
+    let wrong = tally.report(outcome.is_ok() && run.until.is_none());
+    wrong.iter().for_each(|what| println!("WRONG: {what}"));
+    if let Err(what) = &outcome {
+        println!("{what}");
+    }
+    println!("compare: {} in {:.1} s", if outcome.is_ok() { "all answers agree" } else { "DISAGREEMENT" }, start.elapsed().as_secs_f64());
+    outcome.is_ok() && wrong.is_empty()
+}
+
+/// Runs every mistake over random scenes alone until it is caught.
+fn all_mistakes() -> bool {
+    println!("mistakes put into the reference, compared with {}", library::NAME);
+    let mut caught_all = true;
+    for mistake in &MISTAKES {
+        let mut tally = Tally::default();
+        let run = Run { rules: mistake.rules, by_hand: false, seed: SEED, scenes: SCENES_PER_MISTAKE, until: None, trace: false };
+        let caught = run.go(&mut tally).is_err();
+        let verdict = format!("{} {} scenes", if caught { "caught after" } else { "NOT CAUGHT in" }, tally.scenes);
+        caught_all &= caught;
+        println!("{:20} {verdict} ({})", mistake.name, mistake.says);
+    }
+    println!("mistakes: {}", if caught_all { "all caught" } else { "NOT ALL CAUGHT" });
+    caught_all
+}

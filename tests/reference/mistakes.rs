@@ -1,0 +1,95 @@
+//! The rules that the reference goes by, and the ways of getting them wrong that document 01 names: its four mistakes to be shut out and
+//! its five imitations, some of them in two forms. A comparison under any of them must disagree.
+
+use crate::flags::{common_dominating_point, line_boundary};
+use crate::judge::Judgement;
+use crate::plane::{interior_above, Point, Segment};
+use crate::scene::{Half, Object, Refusal};
+
+/// What a mistake may exchange.
+#[derive(Clone, Copy)]
+pub struct Rules {
+    pub line_boundary: fn(&Object) -> Vec<Point>,
+    pub interior_above: fn(&[Segment], &Segment) -> bool,
+    pub common_point: fn(&Half, &Half) -> bool,
+    pub first_only: bool,
+    pub spoil: fn(&mut Judgement),
+}
+
+impl Rules {
+    /// The elements of an object that are classed for its flags: all of them.
+    pub fn walked<'a, T>(&self, all: &'a [T]) -> &'a [T] {
+        if self.first_only {
+            &all[..all.len().min(1)]
+        } else {
+            all
+        }
+    }
+}
+
+/// Document 01's own rules.
+pub const RIGHT: Rules = Rules { line_boundary, interior_above, common_point: common_dominating_point, first_only: false, spoil: |_| () };
+
+pub struct Mistake {
+    pub name: &'static str,
+    pub says: &'static str,
+    pub rules: Rules,
+}
+
+/// Every mistake, by the name that `--mistake` takes: the four, then from "refuse-all" on the imitations.
+pub const MISTAKES: [Mistake; 13] = [
+    Mistake {
+        name: "next-halfsegment",
+        says: "a line's end is a boundary point if the next halfsegment starts elsewhere",
+        rules: Rules { line_boundary: ends_before_a_change, ..RIGHT },
+    },
+    Mistake {
+        name: "left-of-sweep-line",
+        says: "a segment left of the sweep line is forgotten where the next region touches it",
+        rules: Rules { common_point: |f, g| f.left == g.left && common_dominating_point(f, g), ..RIGHT },
+    },
+    Mistake {
+        name: "vertical-ia",
+        says: "ia of a vertical segment is checked the wrong way round",
+        rules: Rules { interior_above: |all, s| interior_above(all, s) != s.is_vertical(), ..RIGHT },
+    },
+    Mistake { name: "vertical-list", says: "m and n are exchanged for a vertical segment", rules: Rules { spoil: exchange_at_verticals, ..RIGHT } },
+    Mistake {
+        name: "exterior-boundary",
+        says: "exterior with boundary is yes when G is empty",
+        rules: Rules { spoil: |j| j.cells[2][1] |= j.is_taken() && j.g.is_empty(), ..RIGHT },
+    },
+    Mistake {
+        name: "refuse-all",
+        says: "every scene is refused",
+        rules: Rules { spoil: |j| j.early = j.early.or(Some(Refusal { number: 2, place: 0 })), ..RIGHT },
+    },
+    Mistake { name: "constant-vector", says: "one constant vector", rules: Rules { spoil: |j| j.vectors = (0, 0), ..RIGHT } },
+    Mistake { name: "constant-matrix", says: "one constant matrix", rules: Rules { spoil: |j| j.cells = [[true; 3]; 3], ..RIGHT } },
+    Mistake { name: "buffer-alone", says: "the overlap buffer is left alone", rules: Rules { spoil: |j| j.writes = false, ..RIGHT } },
+    Mistake {
+        name: "invented-count",
+        says: "the count is invented: segments of both regions are counted twice",
+        rules: Rules { spoil: |j| j.count = j.apart, ..RIGHT },
+    },
+    Mistake { name: "first-event", says: "the first event is classed and none later", rules: Rules { first_only: true, ..RIGHT } },
+    Mistake { name: "early-17", says: "17 although the buffer holds exactly the list", rules: Rules { spoil: |j| j.room += 1, ..RIGHT } },
+    Mistake {
+        name: "early-17-shared",
+        says: "17 unless the buffer has room for the segments of both regions twice",
+        rules: Rules { spoil: |j| j.room = j.apart, ..RIGHT },
+    },
+];
+
+fn ends_before_a_change(line: &Object) -> Vec<Point> {
+    let ends: Vec<Point> = line.halves.iter().map(Half::dominating).collect();
+    (0..ends.len()).filter(|i| ends.get(i + 1) != Some(&ends[*i])).map(|i| ends[i]).collect()
+}
+
+fn exchange_at_verticals(judgement: &mut Judgement) {
+    for (s, byte) in judgement.segments.iter().zip(&mut judgement.list) {
+        if s.is_vertical() {
+            *byte = 3 * (*byte % 3) + *byte / 3;
+        }
+    }
+}

@@ -1,0 +1,120 @@
+//! What a comparison has reached: refusals by number, flags set and clear, matrices of non-empty objects. A run that reaches too little
+//! fails, however well everything agreed.
+
+use crate::cells::Matrix;
+use crate::flags::flag_counts;
+use crate::judge::Judgement;
+use crate::maker::PAIRS;
+use crate::plane::LIMIT;
+use crate::scene::{Object, MOST};
+use std::collections::{BTreeMap, BTreeSet};
+
+/// How often each refusal must have been met, and scenes of full size, and scenes at the limits of the range.
+const LEAST: usize = 50;
+
+/// The matrices of pairs of non-empty objects, in the order of PAIRS: the source's Table 1(b).
+const MATRICES: [usize; 6] = [5, 14, 7, 82, 43, 33];
+
+const FLAG_NAMES: [(&str, &str); 6] = [
+    ("poi_disjoint poi_shared", "poi_disjoint"),
+    ("poi_disjoint poi_on_interior poi_on_bound", "bound_poi_disjoint"),
+    ("poi_inside poi_on_bound poi_outside", ""),
+    ("seg_shared interior_poi_shared seg_unshared bound_on_interior bound_shared bound_disjoint", "seg_unshared bound_on_interior bound_disjoint"),
+    ("seg_inside seg_shared seg_outside poi_shared bound_inside bound_shared bound_disjoint", "seg_unshared"),
+    ("(0/1) (1/0) (1/2) (2/1) (0/2) (2/0) (1/1) bound_poi_shared", "(0/1) (1/0) (1/2) (2/1)"),
+];
+
+#[derive(Default)]
+pub struct Tally {
+    pub scenes: usize,
+    pub questions: usize,
+    taken: usize,
+    full_size: usize,
+    at_limit: usize,
+    refusals: BTreeMap<u32, usize>,
+    pairs: BTreeMap<(u8, u8), Pair>,
+}
+
+#[derive(Default)]
+struct Pair {
+    taken: usize,
+    /// Of each flag of F, then of G: scenes in which it was set, and clear.
+    flags: Vec<[usize; 2]>,
+    matrices: BTreeSet<Matrix>,
+}
+
+impl Tally {
+    /// Counts a scene once, for all questions but their own refusals.
+    pub fn scene(&mut self, judgement: &Judgement) {
+        self.scenes += 1;
+        if let Some(refusal) = judgement.early.or(judgement.late) {
+            self.refusal(refusal.number);
+            return;
+        }
+        let (f, g) = (&judgement.f, &judgement.g);
+        self.taken += 1;
+        self.full_size += (f.places.len() == MOST || g.places.len() == MOST) as usize;
+        self.at_limit += (reaches_limit(f) || reaches_limit(g)) as usize;
+        let (of_f, of_g) = flag_counts(f.kind, g.kind);
+        let pair = self.pairs.entry((f.kind, g.kind)).or_default();
+        pair.taken += 1;
+        pair.flags.resize((of_f + of_g) as usize, [0, 0]);
+        let bits = judgement.vectors.0 as u32 | (judgement.vectors.1 as u32) << of_f;
+        for (i, counts) in pair.flags.iter_mut().enumerate() {
+            counts[if bits >> i & 1 == 1 { 0 } else { 1 }] += 1;
+        }
+        if !f.is_empty() && !g.is_empty() {
+            pair.matrices.insert(judgement.cells);
+        }
+    }
+
+    /// Counts a refusal.
+    pub fn refusal(&mut self, number: u32) {
+        *self.refusals.entry(number).or_default() += 1;
+    }
+
+    /// Prints the counts; gives what is wrong with them. Too few of anything is wrong only in a run that is `complete`.
+    pub fn report(&self, complete: bool) -> Vec<String> {
+        let mut wrong = Vec::new();
+        println!(
+            "{} scenes, {} taken ({} with 1,024 elements, {} at the limits), {} questions",
+            self.scenes, self.taken, self.full_size, self.at_limit, self.questions
+        );
+        let times = |number| *self.refusals.get(&number).unwrap_or(&0);
+        println!("refusals: {}", (1..=17).map(|number| format!("{}: {}", number, times(number))).collect::<Vec<_>>().join("  "));
+        for number in 1..=17 {
+            if complete && times(number) < LEAST {
+                wrong.push(format!("refusal {number} came fewer than {LEAST} times"));
+            }
+        }
+        let none = Pair::default();
+        for (i, kinds) in PAIRS.iter().enumerate() {
+            let pair = self.pairs.get(kinds).unwrap_or(&none);
+            let (types, found, all) = (format!("types {}, {}", kinds.0, kinds.1), pair.matrices.len(), MATRICES[i]);
+            println!("{types}: {} taken, {found} matrices of {all}", pair.taken);
+            if found > all || (complete && found < all) {
+                wrong.push(format!("{types}: {found} matrices of non-empty objects instead of {all}"));
+            }
+            let names = |text: &str, object: &str| text.split_whitespace().map(|name| format!("{object} {name}")).collect::<Vec<_>>();
+            let names = [names(FLAG_NAMES[i].0, "F"), names(FLAG_NAMES[i].1, "G")].concat();
+            let counts = |bit: usize| pair.flags.get(bit).copied().unwrap_or([0, 0]);
+            let shown: Vec<String> = names.iter().enumerate().map(|(bit, name)| format!("{name} {}/{}", counts(bit)[0], counts(bit)[1])).collect();
+            println!("    set/clear: {}", shown.join(", "));
+            for (bit, name) in names.iter().enumerate() {
+                if complete && counts(bit).contains(&0) {
+                    wrong.push(format!("{types}: {name} was never {}", if counts(bit)[0] == 0 { "set" } else { "clear" }));
+                }
+            }
+        }
+        if complete && (self.full_size < LEAST || self.at_limit < LEAST) {
+            wrong.push("too few scenes of full size or at the limits".to_string());
+        }
+        wrong
+    }
+}
+
+fn reaches_limit(object: &Object) -> bool {
+    let far = |v: i64| v.abs() == LIMIT;
+    let ends = object.halves.iter().map(|h| h.dominating());
+    object.points.iter().copied().chain(ends).any(|p| far(p.0) || far(p.1))
+}
