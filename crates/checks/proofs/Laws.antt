@@ -16,7 +16,7 @@ use Rattle.plane.specs.declared.Segment.{Segment}
 use Rattle.plane.specs.declared.Halfsegment.{Halfsegment}
 use Rattle.plane.specs.Plane.{inRange, segmentInRange, before, sameSegment, ordered, dominating, comesBefore, grid, endsAt, interiorAbove, touch}
 use Rattle.plane.proofs.Equal.{sameSegment-read}
-use Rattle.plane.proofs.Order.{before-trans, comes-trans, LeftBefore, halfOf}
+use Rattle.plane.proofs.Order.{before-irreflexive, before-trans, comes-irreflexive, comes-trans, LeftBefore, halfOf}
 use Rattle.plane.proofs.Accepted.{Split, Regular, Across, AllOrdered, across-from-touch, split-from-order, even-from-ends}
 use Rattle.scene.specs.declared.Layout.{Layout}
 use Rattle.scene.specs.declared.Scene.{Scene}
@@ -173,6 +173,14 @@ module _ {s : List ℕ} {l : Layout} (o : SoundObject s l) where
       go : (b : Bool) → hasSegments (l .shape) ≡ b → T (inOrder s l i j)
       go true e = subst T (sym (order-of-halves s l i j e)) (halves-rise e i j h k)
       go false e = subst T (sym (order-of-points s l i j e)) (points-rise e i j h k)
+
+  -- hence no element twice
+  pub no-half-twice : hasSegments (l .shape) ≡ true → (i j : ℕ) → i < j → j < l .count → half s l i ≡ half s l j → ⊥
+  no-half-twice e i j h k q = comes-irreflexive (half s l j) (subst (λ (x : Halfsegment). T (comesBefore x (half s l j))) q (halves-rise e i j h k))
+
+  pub no-point-twice : hasSegments (l .shape) ≡ false → (i j : ℕ) → i < j → j < l .count → pointAt s (place l i) ≡ pointAt s (place l j) → ⊥
+  no-point-twice e i j h k q =
+      before-irreflexive (pointAt s (place l j)) (subst (λ (x : Point). T (before x (pointAt s (place l j)))) q (points-rise e i j h k))
 
   -- the segments are those of the left halfsegments
   pub left-in : (i : ℕ) → i < l .count → isLeft s l i ≡ true → half s l i .segment ∈ segments s l

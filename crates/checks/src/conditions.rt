@@ -135,7 +135,7 @@ fn ends_oddly(s: &[u8], l: Layout, i: usize) -> bool
 
 // ---- 14: wrong ia
 
-pub fn interior_above(s: &[u8], l: Layout, t: Segment) -> bool
+fn interior_above(s: &[u8], l: Layout, t: Segment) -> bool
     requires { ⌜ IsObject (now s) l × T (segmentInRange t) ⌝ }
     ensures { λ r. ⌜ r ≡ interiorAbove (segments (now (s .entry)) l) t ⌝ }
 {

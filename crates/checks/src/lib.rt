@@ -14,7 +14,7 @@ ghost use Rattle.scene.specs.Read.{IsObject};
 ghost use Rattle.scene.specs.Conditions.{typesDescend, checkScene, checkObject};
 ghost use Rattle.checks.specs.Refusals.{sceneFaultUnder, objectVerdict, geometryVerdict};
 
-pub mod boxes;
+mod boxes;
 pub mod conditions;
 pub mod segments;
 
