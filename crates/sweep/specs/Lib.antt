@@ -1,0 +1,2 @@
+-- What the sweep tests of two segments, and what it keeps from event to event.
+pub mod Lower
