@@ -1,1 +1,4 @@
 -- The laws of the sweep.
+pub mod Under
+pub mod Counted
+pub mod Events
