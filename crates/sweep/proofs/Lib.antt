@@ -1,2 +1,3 @@
 -- The laws of the sweep.
 pub mod Pair
+pub mod Start
