@@ -237,14 +237,14 @@ along-on s p o h =
         inr (cancel-zero (h .k-pos) (left-of-right s p h ∙ mul-zero-right (h .a) e), cancel-nonneg (h .k-pos) (subst NonNeg (sym (below-right s p h)) (nonneg-mul (h .a-least) (pos-nonneg w))))
 
 -- and back
-not-before-read : (e : Point) (p : HPoint) → T (notBefore e p) → Pos (p .X -ℤ e .x *ℤ p .W) ⊎ ((p .X -ℤ e .x *ℤ p .W ≡ pos 0) × NonNeg (p .Y -ℤ e .y *ℤ p .W))
+pub not-before-read : (e : Point) (p : HPoint) → T (notBefore e p) → Pos (p .X -ℤ e .x *ℤ p .W) ⊎ ((p .X -ℤ e .x *ℤ p .W ≡ pos 0) × NonNeg (p .Y -ℤ e .y *ℤ p .W))
 unfolding notBefore
 not-before-read e p t =
     ⊎-elim (λ h. inl (ltZ-pos (e .x *ℤ p .W) (p .X) h))
     (λ h. inr (eqZ-zero (e .x *ℤ p .W) (p .X) (and-left (eqZ (e .x *ℤ p .W) (p .X)) (leZ (e .y *ℤ p .W) (p .Y)) h), leZ-nonneg (e .y *ℤ p .W) (p .Y) (and-right (eqZ (e .x *ℤ p .W) (p .X)) (leZ (e .y *ℤ p .W) (p .Y)) h)))
     (or-cases (ltZ (e .x *ℤ p .W) (p .X)) (eqZ (e .x *ℤ p .W) (p .X) && leZ (e .y *ℤ p .W) (p .Y)) t)
 
-not-after-read : (e : Point) (p : HPoint) → T (notAfter e p) → Pos (e .x *ℤ p .W -ℤ p .X) ⊎ ((e .x *ℤ p .W -ℤ p .X ≡ pos 0) × NonNeg (e .y *ℤ p .W -ℤ p .Y))
+pub not-after-read : (e : Point) (p : HPoint) → T (notAfter e p) → Pos (e .x *ℤ p .W -ℤ p .X) ⊎ ((e .x *ℤ p .W -ℤ p .X ≡ pos 0) × NonNeg (e .y *ℤ p .W -ℤ p .Y))
 unfolding notAfter
 not-after-read e p t =
     ⊎-elim (λ h. inl (ltZ-pos (p .X) (e .x *ℤ p .W) h))

@@ -279,7 +279,7 @@ abbrev Across : Segment → Segment → Type 0
 Across s t = Opposite (sideAt s (grid (t .left))) (sideAt s (grid (t .right)))
 
 -- the side values of each segment's ends against the other differ by the same
-sides-differ : (s t : Segment)
+pub sides-differ : (s t : Segment)
     → sideAt s (grid (t .right)) -ℤ sideAt s (grid (t .left)) ≡ sideAt t (grid (s .left)) -ℤ sideAt t (grid (s .right))
 unfolding sideAt
 sides-differ s t =

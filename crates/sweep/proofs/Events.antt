@@ -19,6 +19,7 @@ use Rattle.plane.proofs.OnSegment.{Ordered, ordered-read}
 use Rattle.plane.proofs.Equal.{samePoint-refl, samePoint-read, sameSegment-refl}
 use Rattle.sweep.specs.Lower.{passesUnder, passesOver, lowerAtLeft, lowerAtRight, under}
 use Rattle.sweep.specs.Kept.{Strand, sameObject, ownUnder, Lower, Kept}
+use Rattle.sweep.proofs.Pair.{ordered-clear, after-clear}
 use Rattle.sweep.proofs.Counted.{count-append, count-between, count-none, count-same, in-between, at-between, or-between}
 use Rattle.sweep.proofs.Under.{NotBefore, side-left, side-right, side-turned, under-lower, under-over, under-ended, under-later, under-itself}
 
@@ -108,7 +109,7 @@ module _ (a b : Strand) where
       same false true h = h
       same false false h = refl
 
-module _ (ordered-clear : (s t : Segment) → Ordered s → Ordered t → T (lowerAtLeft s t) → T (lowerAtRight s t) → (touch s t ≡ false) × (touch t s ≡ false)) (after-clear : (s t : Segment) → Ordered s → Ordered t → T (not (before (s .left) (t .right))) → (touch s t ≡ false) × (touch t s ≡ false)) (isRegion : Bool → Bool) {begun ended : List Strand} (a : Strand) (o : T (ordered (a .segment))) (low high : List Strand) where
+module _ (isRegion : Bool → Bool) {begun ended : List Strand} (a : Strand) (o : T (ordered (a .segment))) (low high : List Strand) where
   -- ---- a strand begins
 
   module _ (k : Kept isRegion begun ended (low ++ high)) (r : Reached (a .segment .left) begun ended (low ++ high))

@@ -1,4 +1,7 @@
--- The laws of the sweep.
+-- The laws of the sweep: segments in one order at both ends do not touch, what passes under a segment's beginning counts below its midpoint, and each
+-- event keeps what the sweep keeps.
+pub mod Pair
+pub mod Start
 pub mod Under
 pub mod Counted
 pub mod Events
