@@ -105,9 +105,12 @@ middle-away s t o u (inr h) =
 pub others-away : {l : List Segment} → Split l → (s : Segment) → s ∈ l → (t : Segment) → t ∈ l → (s ≡ t) ⊎ Away t (midpoint s)
 others-away r s m t k = middle-away s t (r .ordered s m) (r .ordered t k) (r .apart s t m k)
 
-pub interior-above : (l : List Segment) → Regular l → (s : Segment) → s ∈ l → interiorAbove l s ≡ not (parity (countsBelow (midpoint s)) l)
+-- the rule, for a segment that occurs an odd number of times
+pub interior-rule : (l : List Segment) (s : Segment) → Ordered s → Even l → ((t : Segment) → t ∈ l → Ordered t)
+    → ((t : Segment) → t ∈ l → (s ≡ t) ⊎ Away t (midpoint s)) → parity (sameSegment s) l ≡ true
+    → interiorAbove l s ≡ not (parity (countsBelow (midpoint s)) l)
 unfolding interiorAbove
-interior-above l r s m = go (r .split .ordered s m)
+interior-rule l s o even ord others once = go o
   where
     rule : Bool → Bool
     rule vertical =
@@ -121,6 +124,10 @@ interior-above l r s m = go (r .split .ordered s m)
         ap rule (true-is (eqZ (s .left .x) (s .right .x)) (zero-eqZ (s .left .x) (s .right .x) e))
         ∙ or-false (odd (count (countsBelowLeft (midpoint s)) l))
         ∙ odd-count (countsBelowLeft (midpoint s)) l
-        ∙ left-parity s (upright e w) l (others-away (r .split) s m) e w (r .even) (r .split .ordered)
-        ∙ ap (λ b. parity (countsBelow (midpoint s)) l ⊻ b) (r .split .once s m)
+        ∙ left-parity s (upright e w) l others e w even ord
+        ∙ ap (λ b. parity (countsBelow (midpoint s)) l ⊻ b) once
         ∙ xor-comm (parity (countsBelow (midpoint s)) l) true
+
+pub interior-above : (l : List Segment) → Regular l → (s : Segment) → s ∈ l → interiorAbove l s ≡ not (parity (countsBelow (midpoint s)) l)
+interior-above l r s m =
+    interior-rule l s (r .split .ordered s m) (r .even) (r .split .ordered) (others-away (r .split) s m) (r .split .once s m)

@@ -17,18 +17,18 @@ use Rattle.whole.proofs.Logic.{and-right, and-never, true-is, refute, some-find
 use Rattle.whole.proofs.Parity.{parity, parity-same, odd-count}
 use Rattle.plane.specs.declared.Point.{Point}
 use Rattle.plane.specs.declared.Segment.{Segment}
-use Rattle.plane.specs.Plane.{HPoint, grid, midpoint, samePoint, sideAt, on, onSome, inside, countsBelow, touch}
+use Rattle.plane.specs.Plane.{HPoint, grid, midpoint, samePoint, sameSegment, sideAt, on, onSome, inside, countsBelow, interiorAbove, touch}
 use Rattle.plane.proofs.Homogeneous.{triple-eq, side-grid, sideAtᵉ, triple, gridᵉ}
 use Rattle.plane.proofs.OnSegment.{Ordered, slanting, upright, width, Along, on-line, on-along, Away, on-or-away, on-away}
 use Rattle.plane.proofs.Equal.{samePoint-read, samePoint-refl}
-use Rattle.plane.proofs.Means.{At, EndOf, left-end, right-end, at-left, at-right, at-read, at-make, middle, middle-inner}
+use Rattle.plane.proofs.Means.{At, EndOf, left-end, right-end, at-left, at-right, at-read, at-make}
 use Rattle.plane.proofs.Touch.{first-between}
 use Rattle.plane.proofs.Path.{Even}
 use Rattle.plane.proofs.AlongSegment.{Apart, along-segment}
 use Rattle.plane.proofs.Steps.{Large, large-all, large-map, large-and, large-each, large-one, grows, stays, step, side-moved, past-left-moved, to-right-moved, positive, atLeast, positive-is, positive-yes, positive-no, at-least-yes, inCount, count-tests, count-moved, upright-never}
 use Rattle.plane.proofs.Flip.{seen-x, seen-back}
 use Rattle.plane.proofs.Order.{run, rise, ordered-make, ends-differ}
-use Rattle.plane.proofs.Accepted.{apart-from-touch, isAt-grid}
+use Rattle.plane.proofs.Accepted.{apart-from-touch, isAt-grid, middle-away, interior-rule}
 use Rattle.sweep.specs.Lower.{passesUnder, under}
 
 -- ---- a small step along s
@@ -208,3 +208,19 @@ module _ (s : Segment) (o : Ordered s) (l : List Segment) (even : Even l) (ord :
   start-parity =
       let far = large-one (large-and (ahead-inner s o) (large-each l (λ t m. each-count s t o (ord t m) (clear t m)))) in
       sym (parity-same (countsBelow (ahead s (suc (far .0)))) (under s) l (far .1 .1)) ∙ along (ahead s (suc (far .0))) (far .1 .0)
+
+  -- the interior is above s where an even number pass under it
+  pub start-interior : parity (sameSegment s) l ≡ true → interiorAbove l s ≡ not (parity (under s) l)
+  start-interior once =
+      interior-rule l s o even ord (λ t m. middle-away s t o (ord t m) (equal-or-apart t m)) once ∙ ap not (sym start-parity)
+
+  -- and where s is not of the list, its midpoint is inside where an odd number do
+  pub start-inside : ((t : Segment) → t ∈ l → s ≡ t → ⊥) → inside l (midpoint s) ≡ parity (under s) l
+  unfolding inside onSome
+  start-inside other = ap₂ (λ a b. not a && b) (refute (some (λ t. on t (midpoint s)) l) off) (odd-count (countsBelow (midpoint s)) l ∙ sym start-parity)
+    where
+      off : T (some (λ t. on t (midpoint s)) l) → ⊥
+      off h =
+          let w = some-find (λ t. on t (midpoint s)) l h in
+          ⊎-elim (other (w .0) (w .1)) (on-away (w .0) (midpoint s) (ord (w .0) (w .1)) (on-along (w .0) (midpoint s) (ord (w .0) (w .1)) (w .2)))
+          (middle-away s (w .0) o (ord (w .0) (w .1)) (equal-or-apart (w .0) (w .1)))
