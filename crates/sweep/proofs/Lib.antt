@@ -1,1 +1,2 @@
 -- The laws of the sweep.
+pub mod Shifted

@@ -1,2 +1,3 @@
 -- What the sweep tests of two segments, and what it keeps from event to event.
 pub mod Lower
+pub mod Status
