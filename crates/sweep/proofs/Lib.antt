@@ -1,2 +1,3 @@
 -- The laws of the sweep.
 pub mod Shifted
+pub mod Pairs
