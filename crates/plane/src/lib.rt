@@ -98,7 +98,7 @@ pub fn turn_from(a: Point, b: Point, c: Point) -> Turn
 }
 
 // Is c strictly to the left of the ray from a through b?
-fn is_left_of(a: Point, b: Point, c: Point) -> bool
+pub fn is_left_of(a: Point, b: Point, c: Point) -> bool
     requires { ⌜ T (within (2 * limit) a) × T (within (2 * limit) b) × T (within (2 * limit) c) ⌝ }
     ensures { λ r. ⌜ r ≡ ltZ (pos 0) (side a b c) ⌝ }
 {
@@ -109,7 +109,7 @@ fn is_left_of(a: Point, b: Point, c: Point) -> bool
     }
 }
 
-fn is_right_of(a: Point, b: Point, c: Point) -> bool
+pub fn is_right_of(a: Point, b: Point, c: Point) -> bool
     requires { ⌜ T (within (2 * limit) a) × T (within (2 * limit) b) × T (within (2 * limit) c) ⌝ }
     ensures { λ r. ⌜ r ≡ ltZ (side a b c) (pos 0) ⌝ }
 {

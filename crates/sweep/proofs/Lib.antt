@@ -5,3 +5,5 @@ pub mod Start
 pub mod Under
 pub mod Counted
 pub mod Events
+pub mod Shifted
+pub mod Pairs

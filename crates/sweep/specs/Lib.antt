@@ -1,3 +1,6 @@
--- What the sweep tests of two segments, and what it keeps from event to event.
+-- What the sweep tests of two segments, what one event does to the status, and what the sweep keeps from event to event.
 pub mod Lower
+pub mod Status
+pub mod Evenly
 pub mod Kept
+pub mod Swept

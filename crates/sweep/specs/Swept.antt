@@ -1,0 +1,96 @@
+-- The events of a scene, read from its bytes, and what one event does to the status. The status holds the offsets of the records of active left
+-- halfsegments, from low to high.
+use Prim.Native.Nat.{ℕ, zero, suc, _<_, _≤_}
+use mathlib.Core.Path.{_≡_}
+use mathlib.Core.Bool.{Bool, true, false, not, _&&_, _||_, cond, Bool·beq}
+use mathlib.Core.List.{List, [], _∷_, _++_}
+use lib.Dec.{T, ltb}
+use lib.ListN.{length, getD, take, drop}
+use Rattle.whole.specs.Count.{_∈_, odd, count}
+use Rattle.plane.specs.declared.Point.{Point}
+use Rattle.plane.specs.declared.Segment.{Segment}
+use Rattle.plane.specs.Plane.{samePoint, sameSegment}
+use Rattle.scene.specs.declared.Layout.{Layout}
+use Rattle.scene.specs.declared.Scene.{Scene}
+use Rattle.scene.specs.Read.{segmentAt, halfsegmentAt, iaAt, place}
+use Rattle.scene.specs.Conditions.{hasSegments, isRegion}
+use Rattle.sweep.specs.Lower.{passesUnder, passesOver}
+use Rattle.sweep.specs.Kept.{Strand, sameObject}
+use Rattle.sweep.specs.Status.{inserted, removed}
+
+-- ---- the tests of an event
+
+-- b belongs under a, which begins: it passes under a's left end, or begins there and turns left into a, or is a's equal of the other object
+abbrev pub underBeginning : Strand → Strand → Bool
+underBeginning a b =
+    passesUnder (b .segment) (a .segment .left)
+    || (samePoint (b .segment .left) (a .segment .left) && passesUnder (b .segment) (a .segment .right))
+    || (sameSegment (b .segment) (a .segment) && not (sameObject a b))
+
+-- b belongs under a, which ends: it passes under a's right end, or ends there; over a: it passes over that end, or is a's equal
+abbrev pub underEnd : Strand → Strand → Bool
+underEnd a b = passesUnder (b .segment) (a .segment .right) || samePoint (b .segment .right) (a .segment .right)
+
+abbrev pub overEnd : Strand → Strand → Bool
+overEnd a b = passesOver (b .segment) (a .segment .right) || sameSegment (b .segment) (a .segment)
+
+module _ (s : List ℕ) (sc : Scene) where
+  abbrev pub objectOf : Bool → Layout
+  objectOf true = sc .f
+  objectOf false = sc .g
+
+  -- the strand of the record at an offset, of F or not; F's records stand before G's
+  abbrev pub strandOf : Bool → ℕ → Strand
+  strandOf first at =
+      record { first = first; segment = segmentAt s at; ia = isRegion (objectOf first .shape) && iaAt s at }
+
+  abbrev pub isFirst : ℕ → Bool
+  isFirst at = ltb at (sc .g .start)
+
+  abbrev pub strandAt : ℕ → Strand
+  strandAt at = strandOf (isFirst at) at
+
+  -- ---- the strands begun and ended by the first elements of an object, and of both
+
+  abbrev pub isBeginning : Bool → ℕ → Bool
+  isBeginning first i = halfsegmentAt s (place (objectOf first) i) .«is_left»
+
+  abbrev pub begunBy : Bool → ℕ → List Strand
+  begunBy first zero = []
+  begunBy first (suc i) = cond (isBeginning first i) (strandOf first (place (objectOf first) i) ∷ begunBy first i) (begunBy first i)
+
+  abbrev pub endedBy : Bool → ℕ → List Strand
+  endedBy first zero = []
+  endedBy first (suc i) = cond (isBeginning first i) (endedBy first i) (strandOf first (place (objectOf first) i) ∷ endedBy first i)
+
+  abbrev pub begun : ℕ → ℕ → List Strand
+  begun i j = begunBy true i ++ begunBy false j
+
+  abbrev pub ended : ℕ → ℕ → List Strand
+  ended i j = endedBy true i ++ endedBy false j
+
+  -- ---- what an event does
+
+  -- the left halfsegment at an offset has begun
+  pub record Began (first : Bool) (at : ℕ) (old new : List ℕ) : Type 0 where
+    pub position : ℕ
+    pub new-is : new ≡ inserted position at old
+    pub under-it : (e : ℕ) → e ∈ take position old → T (underBeginning (strandOf first at) (strandAt e))
+    pub over-it : (e : ℕ) → e ∈ drop position old → T (passesOver (segmentAt s e) (segmentAt s at .left))
+    pub right-ia : T (isRegion (objectOf first .shape)) → odd (count (λ e. Bool·beq first (isFirst e)) (take position old)) ≡ not (iaAt s at)
+
+  -- the segment of the right halfsegment at an offset has ended
+  pub record Ended (first : Bool) (at : ℕ) (old new : List ℕ) : Type 0 where
+    pub position : ℕ
+    pub there : position < length old
+    pub own : strandAt (getD old position 0) ≡ strandOf first at
+    pub new-is : new ≡ removed position old
+    pub under-it : (e : ℕ) → e ∈ take position old → T (underEnd (strandOf first at) (strandAt e))
+    pub over-it : (e : ℕ) → e ∈ drop (suc position) old → T (overEnd (strandOf first at) (strandAt e))
+
+  -- the entry is the record of a halfsegment of its object, whole, in range and ordered
+  pub record Entry (at : ℕ) : Type 0 where
+    pub index : ℕ
+    pub within : index < objectOf (isFirst at) .count
+    pub has-segments : T (hasSegments (objectOf (isFirst at) .shape))
+    pub is-place : at ≡ place (objectOf (isFirst at)) index
