@@ -5,5 +5,6 @@ pub mod Start
 pub mod Under
 pub mod Counted
 pub mod Events
+pub mod Begun
 pub mod Shifted
 pub mod Pairs

@@ -55,19 +55,16 @@ module _ (s : List ℕ) (sc : Scene) where
   abbrev pub isBeginning : Bool → ℕ → Bool
   isBeginning first i = halfsegmentAt s (place (objectOf first) i) .«is_left»
 
-  abbrev pub begunBy : Bool → ℕ → List Strand
-  begunBy first zero = []
-  begunBy first (suc i) = cond (isBeginning first i) (strandOf first (place (objectOf first) i) ∷ begunBy first i) (begunBy first i)
-
-  abbrev pub endedBy : Bool → ℕ → List Strand
-  endedBy first zero = []
-  endedBy first (suc i) = cond (isBeginning first i) (endedBy first i) (strandOf first (place (objectOf first) i) ∷ endedBy first i)
+  abbrev pub strandsBy : Bool → Bool → ℕ → List Strand
+  strandsBy begins first zero = []
+  strandsBy begins first (suc i) =
+      cond (Bool·beq (isBeginning first i) begins) (strandOf first (place (objectOf first) i) ∷ strandsBy begins first i) (strandsBy begins first i)
 
   abbrev pub begun : ℕ → ℕ → List Strand
-  begun i j = begunBy true i ++ begunBy false j
+  begun i j = strandsBy true true i ++ strandsBy true false j
 
   abbrev pub ended : ℕ → ℕ → List Strand
-  ended i j = endedBy true i ++ endedBy false j
+  ended i j = strandsBy false true i ++ strandsBy false false j
 
   -- ---- what an event does
 
