@@ -6,5 +6,6 @@ pub mod Under
 pub mod Counted
 pub mod Events
 pub mod Begun
+pub mod Run
 pub mod Shifted
 pub mod Pairs

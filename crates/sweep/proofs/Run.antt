@@ -1,0 +1,173 @@
+-- The sweep over the bytes of a scene, from event to event. What it keeps holds of every run that ends with no segment active: each active segment
+-- then ends at a later event, so that it reaches as far as the events do.
+use Prim.Native.Nat.{ℕ, zero, suc, _+_, _<_, _≤_}
+use native.Mathlib.Nat.{le-refl, le-of-lt}
+use native.Mathlib.Omega.{arith}
+use mathlib.Core.Path.{_≡_, refl, sym, ap, ap₂, _∙_, subst}
+use mathlib.Core.Logic.{_⊎_, inl, inr, ⊎-elim}
+use mathlib.Core.Bool.{Bool, true, false, not, _&&_, _||_, cond, Bool·beq}
+use mathlib.Core.List.{List, [], _∷_, _++_, map}
+use lib.Dec.{T, ltb}
+use lib.ListN.{length, getD, take, drop, take-append-drop}
+use lib.Seq.{split-at}
+use Rattle.whole.specs.Count.{_∈_, here, there, odd, count}
+use Rattle.whole.proofs.Logic.{in-nil, in-cons, in-append, in-left, in-right, in-map, map-in, or-cases, and-left, and-right, false-is, true-is}
+use Rattle.plane.specs.declared.Point.{Point}
+use Rattle.plane.specs.declared.Segment.{Segment}
+use Rattle.plane.specs.Plane.{before, ordered, samePoint, sameSegment, dominating, choose}
+use Rattle.plane.proofs.Equal.{samePoint-read, sameSegment-read}
+use Rattle.scene.specs.declared.Layout.{Layout}
+use Rattle.scene.specs.declared.Scene.{Scene}
+use Rattle.scene.specs.Read.{segmentAt, halfsegmentAt, iaAt, place}
+use Rattle.scene.specs.Conditions.{hasSegments, isRegion}
+use Rattle.sweep.specs.Lower.{passesUnder, passesOver}
+use Rattle.sweep.specs.Kept.{Strand, sameObject, Kept}
+use Rattle.sweep.specs.Status.{inserted, removed}
+use Rattle.sweep.specs.Swept.{underBeginning, underEnd, overEnd, objectOf, strandOf, isFirst, strandAt, isBeginning, Began, Ended, Entry}
+use Rattle.sweep.proofs.Under.{NotBefore}
+use Rattle.sweep.proofs.Events.{Reached, UnderBeginning, passing, turning, equal, UnderEnd, passing-end, ending, OverEnd, passing-over, equal-over, begins, ends}
+use Rattle.sweep.proofs.Begun.{Same, same-is, kept-same, strandBy, By, reached, strands, Of, find-of, further-first, further-second, still-first, still-second}
+
+-- ---- the tests of an event, read
+
+under-beginning-read : (a b : Strand) → T (underBeginning a b) → UnderBeginning a b
+under-beginning-read a b t =
+    ⊎-elim
+    (λ u. ⊎-elim passing (λ h. turning (samePoint-read (b .segment .left) (a .segment .left) (and-left (samePoint (b .segment .left) (a .segment .left)) (passesUnder (b .segment) (a .segment .right)) h)) (and-right (samePoint (b .segment .left) (a .segment .left)) (passesUnder (b .segment) (a .segment .right)) h))
+    (or-cases (passesUnder (b .segment) (a .segment .left)) (samePoint (b .segment .left) (a .segment .left) && passesUnder (b .segment) (a .segment .right)) u))
+    (λ h. equal (sameSegment-read (b .segment) (a .segment) (and-left (sameSegment (b .segment) (a .segment)) (not (sameObject a b)) h)) (false-is (sameObject a b) (and-right (sameSegment (b .segment) (a .segment)) (not (sameObject a b)) h)))
+    (or-cases (passesUnder (b .segment) (a .segment .left) || (samePoint (b .segment .left) (a .segment .left) && passesUnder (b .segment) (a .segment .right))) (sameSegment (b .segment) (a .segment) && not (sameObject a b)) t)
+
+under-end-read : (a b : Strand) → T (underEnd a b) → UnderEnd a b
+under-end-read a b t =
+    ⊎-elim passing-end (λ h. ending (samePoint-read (b .segment .right) (a .segment .right) h)) (or-cases (passesUnder (b .segment) (a .segment .right)) (samePoint (b .segment .right) (a .segment .right)) t)
+
+over-end-read : (a b : Strand) → T (overEnd a b) → OverEnd a b
+over-end-read a b t =
+    ⊎-elim passing-over (λ h. equal-over (sameSegment-read (b .segment) (a .segment) h)) (or-cases (passesOver (b .segment) (a .segment .right)) (sameSegment (b .segment) (a .segment)) t)
+
+-- ---- lists
+
+module _ {A B : Type 0} (f : A → B) where
+  map-append : (l m : List A) → map f (l ++ m) ≡ map f l ++ map f m
+  map-append [] m = refl
+  map-append (a ∷ l) m = ap (λ r. f a ∷ r) (map-append l m)
+
+  count-map : (g : B → Bool) (l : List A) → count g (map f l) ≡ count (λ a. g (f a)) l
+  count-map g [] = refl
+  count-map g (a ∷ l) = omega (arith, count-map g l)
+
+module _ (s : List ℕ) (sc : Scene) where
+  abbrev pub total : Bool → ℕ
+  total first = cond (hasSegments (objectOf s sc first .shape)) (objectOf s sc first .count) 0
+
+  abbrev pub pointOf : Bool → ℕ → Point
+  pointOf first k = dominating (halfsegmentAt s (place (objectOf s sc first) k))
+
+  -- what a scene gives that has been read and is in order
+  pub record Orderly : Type 0 where
+    pub sound : (first : Bool) (k : ℕ) → k < total first → T (ordered (segmentAt s (place (objectOf s sc first) k)))
+    pub owned : (first : Bool) (k : ℕ) → k < total first → isFirst s sc (place (objectOf s sc first) k) ≡ first
+    pub rises : (first : Bool) (k m : ℕ) → k < m → m < total first → NotBefore (pointOf first m) (pointOf first k)
+
+  abbrev isRegionOf : Bool → Bool
+  isRegionOf first = isRegion (objectOf s sc first .shape)
+
+  -- an active segment ends at an event to come
+  pub record EndsLater (i j : ℕ) (e : ℕ) : Type 0 where
+    pub index : ℕ
+    pub to-come : reached s sc i j (isFirst s sc e) ≤ index
+    pub within : index < total (isFirst s sc e)
+    pub is-end : isBeginning s sc (isFirst s sc e) index ≡ false
+    pub is : strandBy s sc (isFirst s sc e) index ≡ strandAt s sc e
+
+  abbrev pub AllEndLater : ℕ → ℕ → List ℕ → Type 0
+  AllEndLater i j entries = (e : ℕ) → e ∈ entries → EndsLater i j e
+
+  -- i elements of F and j of G have been taken
+  pub record Run (i j : ℕ) (entries : List ℕ) : Type 0 where
+    pub in-time : (first other : Bool) (k m : ℕ) → k < reached s sc i j first → reached s sc i j other ≤ m → m < total other
+        → NotBefore (pointOf other m) (pointOf first k)
+    pub kept : AllEndLater i j entries → Kept isRegionOf (strands s sc true i j) (strands s sc false i j) (map (strandAt s sc) entries)
+
+  -- the point of an element is the end of its segment that begins or ends there
+  left-point : (first : Bool) (k : ℕ) → isBeginning s sc first k ≡ true → pointOf first k ≡ segmentAt s (place (objectOf s sc first) k) .left
+  unfolding dominating
+  left-point first k e = ap (λ b. choose b (segmentAt s (place (objectOf s sc first) k) .left) (segmentAt s (place (objectOf s sc first) k) .right)) e
+
+  right-point : (first : Bool) (k : ℕ) → isBeginning s sc first k ≡ false → pointOf first k ≡ segmentAt s (place (objectOf s sc first) k) .right
+  unfolding dominating
+  right-point first k e = ap (λ b. choose b (segmentAt s (place (objectOf s sc first) k) .left) (segmentAt s (place (objectOf s sc first) k) .right)) e
+
+  -- the event that comes next, of F or of G
+  abbrev placeOf : ℕ → ℕ → Bool → ℕ
+  placeOf i j first = place (objectOf s sc first) (reached s sc i j first)
+
+  abbrev ownOf : ℕ → ℕ → Bool → Strand
+  ownOf i j first = strandOf s sc first (placeOf i j first)
+
+  module _ (o : Orderly) {i j : ℕ} {entries : List ℕ} (run : Run i j entries) (first : Bool) (more : reached s sc i j first < total first)
+      (least : (other : Bool) (m : ℕ) → reached s sc i j other ≤ m → m < total other → NotBefore (pointOf other m) (pointOf first (reached s sc i j first))) where
+    reaches : AllEndLater i j entries → Reached (pointOf first (reached s sc i j first)) (strands s sc true i j) (strands s sc false i j) (map (strandAt s sc) entries)
+    reaches later =
+        record {
+          begun-before = λ a m. let w = find-of s sc true i j a m in subst (NotBefore (pointOf first (reached s sc i j first))) (left-point (w .first) (w .by .index) (w .by .is-such) ∙ ap (λ (b : Strand). b .segment .left) (sym (w .by .is))) (run .in-time (w .first) first (w .by .index) (reached s sc i j first) (w .by .earlier) (le-refl (reached s sc i j first)) more);
+          ended-before = λ a m. let w = find-of s sc false i j a m in subst (NotBefore (pointOf first (reached s sc i j first))) (right-point (w .first) (w .by .index) (w .by .is-such) ∙ ap (λ (b : Strand). b .segment .right) (sym (w .by .is))) (run .in-time (w .first) first (w .by .index) (reached s sc i j first) (w .by .earlier) (le-refl (reached s sc i j first)) more);
+          active-on = λ a m. let w = map-in (strandAt s sc) entries m in let l = later (w .0) (w .1) in subst (λ p. NotBefore p (pointOf first (reached s sc i j first))) (right-point (isFirst s sc (w .0)) (l .index) (l .is-end) ∙ ap (λ (b : Strand). b .segment .right) (l .is ∙ w .2)) (least (isFirst s sc (w .0)) (l .index) (l .to-come) (l .within));
+        }
+
+    own-is : strandAt s sc (placeOf i j first) ≡ (ownOf i j first)
+    own-is = ap (λ b. strandOf s sc b (placeOf i j first)) (o .owned first (reached s sc i j first) more)
+
+    pub has-begun : {new : List ℕ} → isBeginning s sc first (reached s sc i j first) ≡ true → Began s sc first (placeOf i j first) entries new → AllEndLater i j entries
+        → Kept isRegionOf ((ownOf i j first) ∷ strands s sc true i j) (strands s sc false i j) (map (strandAt s sc) new)
+    has-begun {new} e b later =
+        subst (Kept isRegionOf ((ownOf i j first) ∷ strands s sc true i j) (strands s sc false i j)) (sym new-active)
+        (begins isRegionOf (ownOf i j first) (o .sound first (reached s sc i j first) more) low high
+        (subst (Kept isRegionOf (strands s sc true i j) (strands s sc false i j)) old-active (run .kept later))
+        (subst (λ p. Reached p (strands s sc true i j) (strands s sc false i j) (low ++ high)) (left-point first (reached s sc i j first) e) (subst (Reached (pointOf first (reached s sc i j first)) (strands s sc true i j) (strands s sc false i j)) old-active (reaches later)))
+        (λ a m. let w = map-in (strandAt s sc) (take (b .position) entries) m in subst (UnderBeginning (ownOf i j first)) (w .2) (under-beginning-read (ownOf i j first) (strandAt s sc (w .0)) (b .under-it (w .0) (w .1))))
+        (λ a m. let w = map-in (strandAt s sc) (drop (b .position) entries) m in subst (λ (c : Strand). T (passesOver (c .segment) ((ownOf i j first) .segment .left))) (w .2) (b .over-it (w .0) (w .1)))
+        (λ r. ap odd (count-map (strandAt s sc) (sameObject (ownOf i j first)) (take (b .position) entries)) ∙ b .right-ia r ∙ ap not (sym (own-ia r))))
+      where
+        low : List Strand
+        low = map (strandAt s sc) (take (b .position) entries)
+
+        high : List Strand
+        high = map (strandAt s sc) (drop (b .position) entries)
+
+        old-active : map (strandAt s sc) entries ≡ low ++ high
+        old-active = ap (map (strandAt s sc)) (sym (take-append-drop (b .position) entries)) ∙ map-append (strandAt s sc) (take (b .position) entries) (drop (b .position) entries)
+
+        new-active : map (strandAt s sc) new ≡ low ++ ((ownOf i j first) ∷ high)
+        new-active =
+            ap (map (strandAt s sc)) (b .new-is)
+            ∙ map-append (strandAt s sc) (take (b .position) entries) ((placeOf i j first) ∷ drop (b .position) entries)
+            ∙ ap (λ c. low ++ (c ∷ high)) own-is
+
+        own-ia : T (isRegionOf first) → isRegionOf first && iaAt s (placeOf i j first) ≡ iaAt s (placeOf i j first)
+        own-ia r = rw (true-is (isRegionOf first) r)
+
+    pub has-ended : {new : List ℕ} → Ended s sc first (placeOf i j first) entries new → AllEndLater i j entries
+        → isBeginning s sc first (reached s sc i j first) ≡ false → Kept isRegionOf (strands s sc true i j) ((ownOf i j first) ∷ strands s sc false i j) (map (strandAt s sc) new)
+    has-ended {new} b later e =
+        subst (Kept isRegionOf (strands s sc true i j) ((ownOf i j first) ∷ strands s sc false i j)) (sym new-active)
+        (ends isRegionOf (ownOf i j first) (o .sound first (reached s sc i j first) more) low high
+        (subst (Kept isRegionOf (strands s sc true i j) (strands s sc false i j)) old-active (run .kept later))
+        (λ a m. let w = map-in (strandAt s sc) (take (b .position) entries) m in subst (UnderEnd (ownOf i j first)) (w .2) (under-end-read (ownOf i j first) (strandAt s sc (w .0)) (b .under-it (w .0) (w .1))))
+        (λ a m. let w = map-in (strandAt s sc) (drop (suc (b .position)) entries) m in subst (OverEnd (ownOf i j first)) (w .2) (over-end-read (ownOf i j first) (strandAt s sc (w .0)) (b .over-it (w .0) (w .1)))))
+      where
+        low : List Strand
+        low = map (strandAt s sc) (take (b .position) entries)
+
+        high : List Strand
+        high = map (strandAt s sc) (drop (suc (b .position)) entries)
+
+        old-active : map (strandAt s sc) entries ≡ low ++ ((ownOf i j first) ∷ high)
+        old-active =
+            ap (map (strandAt s sc)) (split-at entries (b .position) 0 (b .there))
+            ∙ map-append (strandAt s sc) (take (b .position) entries) (getD entries (b .position) 0 ∷ drop (suc (b .position)) entries)
+            ∙ ap (λ c. low ++ (c ∷ high)) (b .own)
+
+        new-active : map (strandAt s sc) new ≡ low ++ high
+        new-active = ap (map (strandAt s sc)) (b .new-is) ∙ map-append (strandAt s sc) (take (b .position) entries) (drop (suc (b .position)) entries)
