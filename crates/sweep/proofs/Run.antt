@@ -1,7 +1,7 @@
 -- The sweep over the bytes of a scene, from event to event. What it keeps holds of every run that ends with no segment active: each active segment
 -- then ends at a later event, so that it reaches as far as the events do.
 use Prim.Native.Nat.{ℕ, zero, suc, _+_, _<_, _≤_}
-use native.Mathlib.Nat.{le-refl, le-of-lt}
+use native.Mathlib.Nat.{le-refl, not-suc-le-zero, le-of-suc-le-suc, eq-or-lt-of-le}
 use native.Mathlib.Omega.{arith}
 use mathlib.Core.Path.{_≡_, refl, sym, ap, ap₂, _∙_, subst}
 use mathlib.Core.Logic.{_⊎_, inl, inr, ⊎-elim}
@@ -11,7 +11,7 @@ use lib.Dec.{T, ltb}
 use lib.ListN.{length, getD, take, drop, take-append-drop}
 use lib.Seq.{split-at}
 use Rattle.whole.specs.Count.{_∈_, here, there, odd, count}
-use Rattle.whole.proofs.Logic.{in-nil, in-cons, in-append, in-left, in-right, in-map, map-in, or-cases, and-left, and-right, false-is, true-is}
+use Rattle.whole.proofs.Logic.{sorted-nil, in-nil, map-in, or-cases, and-left, and-right, false-is, true-is}
 use Rattle.plane.specs.declared.Point.{Point}
 use Rattle.plane.specs.declared.Segment.{Segment}
 use Rattle.plane.specs.Plane.{before, ordered, samePoint, sameSegment, dominating, choose}
@@ -26,6 +26,7 @@ use Rattle.sweep.specs.Status.{inserted, removed}
 use Rattle.sweep.specs.Swept.{underBeginning, underEnd, overEnd, objectOf, strandOf, isFirst, strandAt, isBeginning, Began, Ended, Entry}
 use Rattle.sweep.proofs.Under.{NotBefore}
 use Rattle.sweep.proofs.Events.{Reached, UnderBeginning, passing, turning, equal, UnderEnd, passing-end, ending, OverEnd, passing-over, equal-over, begins, ends}
+use Rattle.sweep.proofs.Counted.{in-between, or-between}
 use Rattle.sweep.proofs.Begun.{Same, same-is, kept-same, strandBy, By, reached, strands, Of, find-of, further-first, further-second, still-first, still-second}
 
 -- ---- the tests of an event, read
@@ -171,3 +172,117 @@ module _ (s : List ℕ) (sc : Scene) where
 
         new-active : map (strandAt s sc) new ≡ low ++ high
         new-active = ap (map (strandAt s sc)) (b .new-is) ∙ map-append (strandAt s sc) (take (b .position) entries) (drop (suc (b .position)) entries)
+
+    -- ---- one element further
+
+    module _ (i′ j′ : ℕ) (grows : (b : Bool) → reached s sc i j b ≤ reached s sc i′ j′ b)
+        (by-one : (b : Bool) (k : ℕ) → k < reached s sc i′ j′ b → (k < reached s sc i j b) ⊎ ((b ≡ first) × (k ≡ reached s sc i j first))) where
+      weaken : {e : ℕ} → EndsLater i′ j′ e → EndsLater i j e
+      weaken {e} l = record { index = l .index; to-come = omega (arith, grows (isFirst s sc e), l .to-come); within = l .within; is-end = l .is-end; is = l .is }
+
+      in-time-on : (b other : Bool) (k m : ℕ) → k < reached s sc i′ j′ b → reached s sc i′ j′ other ≤ m → m < total other → NotBefore (pointOf other m) (pointOf b k)
+      in-time-on b other k m h l w =
+          ⊎-elim (λ g. run .in-time b other k m g low w)
+          (λ q. subst (λ (n : ℕ). NotBefore (pointOf other m) (pointOf b n)) (sym (q .1)) (subst (λ (c : Bool). NotBefore (pointOf other m) (pointOf c (reached s sc i j first))) (sym (q .0)) (least other m low w))) (by-one b k h)
+        where
+          low : reached s sc i j other ≤ m
+          low = omega (arith, grows other, l)
+
+      advance-begun : {new : List ℕ} → isBeginning s sc first (reached s sc i j first) ≡ true → Began s sc first (placeOf i j first) entries new
+          → Same (ownOf i j first ∷ strands s sc true i j) (strands s sc true i′ j′) → Same (strands s sc false i j) (strands s sc false i′ j′) → Run i′ j′ new
+      advance-begun {new} e b p q =
+          record {
+            in-time = in-time-on;
+            kept = λ later. kept-same isRegionOf p q (has-begun e b (λ x m. weaken (later x (subst (λ l. x ∈ l) (sym (b .new-is)) (still x m)))));
+          }
+        where
+          still : (x : ℕ) → x ∈ entries → x ∈ inserted (b .position) (placeOf i j first) entries
+          still x m = in-between (take (b .position) entries) (placeOf i j first) (drop (b .position) entries) (subst (λ l. x ∈ l) (sym (take-append-drop (b .position) entries)) m)
+
+      advance-ended : {new : List ℕ} → isBeginning s sc first (reached s sc i j first) ≡ false → Ended s sc first (placeOf i j first) entries new
+          → Same (strands s sc true i j) (strands s sc true i′ j′) → Same (ownOf i j first ∷ strands s sc false i j) (strands s sc false i′ j′) → Run i′ j′ new
+      advance-ended {new} e b p q =
+          record {
+            in-time = in-time-on;
+            kept = λ later. kept-same isRegionOf p q (has-ended b (λ x m. ⊎-elim (λ o. subst (EndsLater i j) (sym o) own-ends) (λ n. weaken (later x (subst (λ l. x ∈ l) (sym (b .new-is)) n))) (parted x m)) e);
+          }
+        where
+          own-entry : ℕ
+          own-entry = getD entries (b .position) 0
+
+          parted : (x : ℕ) → x ∈ entries → (x ≡ own-entry) ⊎ (x ∈ removed (b .position) entries)
+          parted x m = or-between (take (b .position) entries) own-entry (drop (suc (b .position)) entries) (subst (λ l. x ∈ l) (split-at entries (b .position) 0 (b .there)) m)
+
+          own-first : isFirst s sc own-entry ≡ first
+          own-first = ap (λ (a : Strand). a .first) (b .own)
+
+          own-ends : EndsLater i j own-entry
+          own-ends = record {
+            index = reached s sc i j first;
+            to-come = subst (λ (c : Bool). reached s sc i j c ≤ reached s sc i j first) (sym own-first) (le-refl (reached s sc i j first));
+            within = subst (λ (c : Bool). reached s sc i j first < total c) (sym own-first) more;
+            is-end = subst (λ (c : Bool). isBeginning s sc c (reached s sc i j first) ≡ false) (sym own-first) e;
+            is = subst (λ (c : Bool). strandBy s sc c (reached s sc i j first) ≡ strandAt s sc own-entry) (sym own-first) (sym (b .own));
+          }
+
+  -- what an event did to the entries
+  pub data Taken (first : Bool) (k : ℕ) (old new : List ℕ) : Type 0 where
+    it-began : isBeginning s sc first k ≡ true → Began s sc first (place (objectOf s sc first) k) old new → Taken first k old new
+    it-ended : isBeginning s sc first k ≡ false → Ended s sc first (place (objectOf s sc first) k) old new → Taken first k old new
+
+  module _ (o : Orderly) {i j : ℕ} {entries new : List ℕ} (run : Run i j entries) where
+    pub take-first : i < total true → ((other : Bool) (m : ℕ) → reached s sc i j other ≤ m → m < total other → NotBefore (pointOf other m) (pointOf true i))
+        → Taken true i entries new → Run (suc i) j new
+    take-first more least t = go t
+      where
+        grows : (b : Bool) → reached s sc i j b ≤ reached s sc (suc i) j b
+        grows true = omega arith
+        grows false = omega arith
+
+        by-one : (b : Bool) (k : ℕ) → k < reached s sc (suc i) j b → (k < reached s sc i j b) ⊎ ((b ≡ true) × (k ≡ i))
+        by-one true k h = ⊎-elim (λ e. inr (refl, e)) inl (eq-or-lt-of-le (le-of-suc-le-suc h))
+        by-one false k h = inl h
+
+        go : Taken true i entries new → Run (suc i) j new
+        go (it-began e b) = advance-begun o run true more least (suc i) j grows by-one e b (further-first s sc i j true e) (still-first s sc i j true e)
+        go (it-ended e b) = advance-ended o run true more least (suc i) j grows by-one e b (still-first s sc i j false e) (further-first s sc i j false e)
+
+    pub take-second : j < total false → ((other : Bool) (m : ℕ) → reached s sc i j other ≤ m → m < total other → NotBefore (pointOf other m) (pointOf false j))
+        → Taken false j entries new → Run i (suc j) new
+    take-second more least t = go t
+      where
+        grows : (b : Bool) → reached s sc i j b ≤ reached s sc i (suc j) b
+        grows true = omega arith
+        grows false = omega arith
+
+        by-one : (b : Bool) (k : ℕ) → k < reached s sc i (suc j) b → (k < reached s sc i j b) ⊎ ((b ≡ false) × (k ≡ j))
+        by-one true k h = inl h
+        by-one false k h = ⊎-elim (λ e. inr (refl, e)) inl (eq-or-lt-of-le (le-of-suc-le-suc h))
+
+        go : Taken false j entries new → Run i (suc j) new
+        go (it-began e b) = advance-begun o run false more least i (suc j) grows by-one e b (further-second s sc i j true e) (still-second s sc i j true e)
+        go (it-ended e b) = advance-ended o run false more least i (suc j) grows by-one e b (still-second s sc i j false e) (further-second s sc i j false e)
+
+  -- ---- the start
+
+  pub run-start : Run 0 0 []
+  run-start =
+      record {
+        in-time = λ b other k m h l w. absurd (no-element b k h);
+        kept = λ later.
+            record {
+              counts = λ f. refl;
+              placed = λ a h. absurd (in-nil h);
+              active-begun = λ a h. h;
+              ended-begun = λ a h. h;
+              sound = λ a h. absurd (in-nil h);
+              clear-ended = λ a b h. absurd (in-nil h);
+              clear-active = λ a b h. absurd (in-nil h);
+              rising = sorted-nil;
+              interior = λ a h. absurd (in-nil h);
+            };
+      }
+    where
+      no-element : (b : Bool) (k : ℕ) → k < reached s sc 0 0 b → ⊥
+      no-element true k h = not-suc-le-zero h
+      no-element false k h = not-suc-le-zero h
