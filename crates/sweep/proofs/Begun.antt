@@ -12,7 +12,7 @@ use Rattle.whole.specs.Count.{_∈_, here, there, bit, odd, count}
 use Rattle.whole.proofs.Logic.{in-nil, in-cons, in-append, in-left, in-right}
 use Rattle.scene.specs.declared.Scene.{Scene}
 use Rattle.scene.specs.Read.{place}
-use Rattle.sweep.specs.Kept.{Strand, ownUnder, Kept}
+use Rattle.sweep.specs.Kept.{Strand, ownUnder, ownEqual, Kept}
 use Rattle.sweep.specs.Swept.{objectOf, strandOf, isBeginning, strandsBy}
 use Rattle.sweep.proofs.Counted.{count-between, in-between, at-between, or-between}
 
@@ -43,6 +43,7 @@ kept-same isRegion {active = active} b e k =
       active-begun = λ a h. b .to a (k .active-begun a h);
       ended-begun = λ a h. b .to a (k .ended-begun a (e .from a h));
       sound = λ a h. k .sound a (b .from a h);
+      once = λ a h. sym (b .counts (ownEqual a)) ∙ k .once a (b .from a h);
       clear-ended = λ a c h m. k .clear-ended a c (e .from a h) (e .from c m);
       clear-active = λ a c h m. k .clear-active a c (e .from a h) m;
       rising = k .rising;

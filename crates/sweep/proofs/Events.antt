@@ -16,9 +16,9 @@ use Rattle.plane.specs.declared.Point.{Point}
 use Rattle.plane.specs.declared.Segment.{Segment}
 use Rattle.plane.specs.Plane.{before, ordered, samePoint, sameSegment, side, countsBelow, grid, touch}
 use Rattle.plane.proofs.OnSegment.{Ordered, ordered-read}
-use Rattle.plane.proofs.Equal.{samePoint-refl, samePoint-read, sameSegment-refl}
+use Rattle.plane.proofs.Equal.{samePoint-refl, sameSegment-refl, sameSegment-read}
 use Rattle.sweep.specs.Lower.{passesUnder, passesOver, lowerAtLeft, lowerAtRight, under}
-use Rattle.sweep.specs.Kept.{Strand, sameObject, ownUnder, Lower, Kept}
+use Rattle.sweep.specs.Kept.{Strand, sameObject, ownUnder, ownEqual, Lower, Kept}
 use Rattle.sweep.proofs.Pair.{ordered-clear, after-clear}
 use Rattle.sweep.proofs.Counted.{count-append, count-between, count-none, count-same, in-between, at-between, or-between}
 use Rattle.sweep.proofs.Under.{NotBefore, side-left, side-right, side-turned, under-lower, under-over, under-ended, under-later, under-itself}
@@ -167,6 +167,45 @@ module _ (isRegion : Bool → Bool) {begun ended : List Strand} (a : Strand) (o 
         by-object true d = under-later (b .segment) (a .segment) (ordered-read (a .segment) o) (r .begun-before b m) (turns d)
         by-object false d = refl
 
+    -- nor is it the same segment of the same object as one that has
+    new-segment : (b : Strand) → b ∈ begun → sameObject a b ≡ true → a .segment ≡ b .segment → ⊥
+    unfolding ordered
+    new-segment b m d e = ⊎-elim (λ n. ⊎-elim (λ l. below (under-it b l)) (λ h. above (over-it b h)) (in-append low n)) past (k .placed b m)
+      where
+        at-left : side (b .segment .left) (b .segment .right) (a .segment .left) ≡ pos 0
+        at-left = ap (λ (t : Segment). side (b .segment .left) (b .segment .right) (t .left)) e ∙ side-left (b .segment)
+
+        at-right : side (b .segment .left) (b .segment .right) (a .segment .right) ≡ pos 0
+        at-right = ap (λ (t : Segment). side (b .segment .left) (b .segment .right) (t .right)) e ∙ side-right (b .segment)
+
+        below : UnderBeginning a b → ⊥
+        below (passing h) = zero-pos at-left (ltZ0-pos (side (b .segment .left) (b .segment .right) (a .segment .left)) h)
+        below (turning f h) = zero-pos at-right (ltZ0-pos (side (b .segment .left) (b .segment .right) (a .segment .right)) h)
+        below (equal f g) = true≢false (sym d ∙ g)
+
+        above : T (passesOver (b .segment) (a .segment .left)) → ⊥
+        above h = zero-neg at-left (ltZ0-neg (side (b .segment .left) (b .segment .right) (a .segment .left)) h)
+
+        past : b ∈ ended → ⊥
+        past n =
+            T-not (before (a .segment .left) (b .segment .right)) (r .ended-before b n)
+            (subst (λ (t : Segment). T (before (t .left) (b .segment .right))) (sym e) (k .sound b m))
+
+    not-equal : (b : Strand) → b ∈ begun → (ownEqual a b ≡ false) × (ownEqual b a ≡ false)
+    not-equal b m = (
+      refute (ownEqual a b) (λ t. clash (and-left (sameObject a b) (sameSegment (a .segment) (b .segment)) t) (sameSegment-read (a .segment) (b .segment) (and-right (sameObject a b) (sameSegment (a .segment) (b .segment)) t))),
+      refute (ownEqual b a) (λ t. clash (turned (b .first) (a .first) (and-left (sameObject b a) (sameSegment (b .segment) (a .segment)) t)) (sym (sameSegment-read (b .segment) (a .segment) (and-right (sameObject b a) (sameSegment (b .segment) (a .segment)) t)))),
+    )
+      where
+        clash : T (sameObject a b) → a .segment ≡ b .segment → ⊥
+        clash d e = new-segment b m (true-is (sameObject a b) d) e
+
+        turned : (x y : Bool) → T (Bool·beq x y) → T (Bool·beq y x)
+        turned true true t = tt
+        turned true false t = absurd t
+        turned false true t = absurd t
+        turned false false t = tt
+
     pub begins : (T (isRegion (a .first)) → odd (count (sameObject a) low) ≡ not (a .ia)) → Kept isRegion (a ∷ begun) ended (low ++ (a ∷ high))
     begins right-ia =
         record {
@@ -175,12 +214,20 @@ module _ (isRegion : Bool → Bool) {begun ended : List Strand} (a : Strand) (o 
           active-begun = λ b m. ⊎-elim (λ e. subst (λ c. c ∈ (a ∷ begun)) (sym e) here) (λ n. there (k .active-begun b n)) (or-between low a high m);
           ended-begun = λ b m. there (k .ended-begun b m);
           sound = λ b m. ⊎-elim (λ e. subst (λ (c : Strand). T (ordered (c .segment))) (sym e) o) (k .sound b) (in-cons m);
+          once = λ b m. ⊎-elim (λ e. subst (λ c. count (ownEqual c) (a ∷ begun) ≡ 1) (sym e) (omega (arith, ap bit itself, count-none (ownEqual a) begun (λ c n. not-equal c n .0)))) (λ n. omega (arith, ap bit (not-equal b n .1), k .once b n)) (in-cons m);
           clear-ended = k .clear-ended;
           clear-active = λ b c m n. ⊎-elim (λ e. subst (λ (d : Strand). (touch (b .segment) (d .segment) ≡ false) × (touch (d .segment) (b .segment) ≡ false)) (sym e) (past b m)) (k .clear-active b c m) (or-between low a high n);
           rising = sorted-insert low a high (k .rising) (λ b m. under-lower-left a b (under-it b m)) (λ b m. over-lower-left a b (over-it b m));
           interior = λ b m i. ⊎-elim (λ e. subst (λ c. odd (count (ownUnder c) (a ∷ begun)) ≡ not (c .ia)) (sym e) (own (subst (λ (c : Strand). T (isRegion (c .first))) e i))) (λ n. other b n i) (in-cons m);
         }
       where
+        itself : ownEqual a a ≡ true
+        itself = true-is (ownEqual a a) (and-make (sameObject a a) (sameSegment (a .segment) (a .segment)) (self (a .first)) (sameSegment-refl (a .segment)))
+          where
+            self : (x : Bool) → T (Bool·beq x x)
+            self true = tt
+            self false = tt
+
         past : (b : Strand) → b ∈ ended → (touch (b .segment) (a .segment) ≡ false) × (touch (a .segment) (b .segment) ≡ false)
         past b m =
             let c = after-clear (a .segment) (b .segment) (ordered-read (a .segment) o) (ordered-read (b .segment) (k .sound b (k .ended-begun b m))) (r .ended-before b m) in
@@ -204,6 +251,7 @@ module _ (isRegion : Bool → Bool) {begun ended : List Strand} (a : Strand) (o 
         active-begun = λ b m. k .active-begun b (in-between low a high m);
         ended-begun = λ b m. ⊎-elim (λ e. subst (λ c. c ∈ begun) (sym e) own) (k .ended-begun b) (in-cons m);
         sound = k .sound;
+        once = k .once;
         clear-ended = λ b c m n. ended-pair b c (in-cons m) (in-cons n);
         clear-active = λ b c m n. ⊎-elim (λ e. subst (λ (d : Strand). (touch (d .segment) (c .segment) ≡ false) × (touch (c .segment) (d .segment) ≡ false)) (sym e) (beside c n)) (λ h. k .clear-active b c h (in-between low a high n)) (in-cons m);
         rising = sorted-drop low a high (k .rising);

@@ -276,6 +276,7 @@ module _ (s : List ℕ) (sc : Scene) where
               active-begun = λ a h. h;
               ended-begun = λ a h. h;
               sound = λ a h. absurd (in-nil h);
+              once = λ a h. absurd (in-nil h);
               clear-ended = λ a b h. absurd (in-nil h);
               clear-active = λ a b h. absurd (in-nil h);
               rising = sorted-nil;

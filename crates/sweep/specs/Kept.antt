@@ -10,7 +10,7 @@ use lib.Dec.{T}
 use Rattle.whole.specs.Count.{_∈_, count, odd}
 use Rattle.whole.proofs.Logic.{Sorted}
 use Rattle.plane.specs.declared.Segment.{Segment}
-use Rattle.plane.specs.Plane.{ordered, touch}
+use Rattle.plane.specs.Plane.{ordered, sameSegment, touch}
 use Rattle.sweep.specs.Lower.{lowerAtLeft, under}
 
 pub record Strand : Type 0 where
@@ -26,6 +26,10 @@ sameObject a b = Bool·beq (a .first) (b .first)
 abbrev pub ownUnder : Strand → Strand → Bool
 ownUnder a b = sameObject a b && under (a .segment) (b .segment)
 
+-- b is the same segment of the same object
+abbrev pub ownEqual : Strand → Strand → Bool
+ownEqual a b = sameObject a b && sameSegment (a .segment) (b .segment)
+
 -- a is the lower of the two where the later one begins, or they are one segment of both objects
 abbrev pub Lower : Strand → Strand → Type 0
 Lower a b = (a .segment ≡ b .segment) ⊎ T (lowerAtLeft (a .segment) (b .segment))
@@ -38,6 +42,8 @@ module _ (isRegion : Bool → Bool) where
     pub active-begun : (a : Strand) → a ∈ active → a ∈ begun
     pub ended-begun : (a : Strand) → a ∈ ended → a ∈ begun
     pub sound : (a : Strand) → a ∈ begun → T (ordered (a .segment))
+    -- no object has a segment twice
+    pub once : (a : Strand) → a ∈ begun → count (ownEqual a) begun ≡ 1
     -- no strand that has ended touches another
     pub clear-ended : (a b : Strand) → a ∈ ended → b ∈ ended → touch (a .segment) (b .segment) ≡ false
     pub clear-active : (a b : Strand) → a ∈ ended → b ∈ active
