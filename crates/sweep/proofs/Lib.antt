@@ -7,5 +7,6 @@ pub mod Counted
 pub mod Events
 pub mod Begun
 pub mod Run
+pub mod Counts
 pub mod Shifted
 pub mod Pairs

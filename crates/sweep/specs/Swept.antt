@@ -13,7 +13,8 @@ use Rattle.plane.specs.Plane.{samePoint, sameSegment}
 use Rattle.scene.specs.declared.Layout.{Layout}
 use Rattle.scene.specs.declared.Scene.{Scene}
 use Rattle.scene.specs.Read.{segmentAt, halfsegmentAt, iaAt, place}
-use Rattle.scene.specs.Conditions.{hasSegments, isRegion}
+use Rattle.scene.specs.declared.Fault.the-variants.{Nothing}
+use Rattle.scene.specs.Conditions.{hasSegments, isRegion, unpaired, touchingItself, oddEnd, wrongIa, touchingAcross}
 use Rattle.sweep.specs.Lower.{passesUnder, passesOver}
 use Rattle.sweep.specs.Kept.{Strand, sameObject}
 use Rattle.sweep.specs.Status.{inserted, removed}
@@ -91,3 +92,11 @@ module _ (s : List ℕ) (sc : Scene) where
     pub within : index < objectOf (isFirst at) .count
     pub has-segments : T (hasSegments (objectOf (isFirst at) .shape))
     pub is-place : at ≡ place (objectOf (isFirst at)) index
+
+-- The conditions 11 to 15 find no fault: what the sweep has to show where it accepts
+pub record Passes (s : List ℕ) (sc : Scene) : Type 0 where
+  pub paired : (first : Bool) → unpaired s (objectOf s sc first) ≡ Nothing
+  pub apart : (first : Bool) → touchingItself s (objectOf s sc first) ≡ Nothing
+  pub even : (first : Bool) → oddEnd s (objectOf s sc first) ≡ Nothing
+  pub right-ia : (first : Bool) → wrongIa s (objectOf s sc first) ≡ Nothing
+  pub across : touchingAcross s sc ≡ Nothing
