@@ -8,5 +8,7 @@ pub mod Events
 pub mod Begun
 pub mod Run
 pub mod Counts
+pub mod Indices
+pub mod Final
 pub mod Shifted
 pub mod Pairs
