@@ -16,7 +16,7 @@ use Rattle.whole.proofs.Parity.{_⊻_, parity, parity-same, parity-none, odd-co
 use Rattle.plane.specs.declared.Point.{Point}
 use Rattle.plane.specs.declared.Segment.{Segment}
 use Rattle.plane.specs.Plane.{HPoint, grid, midpoint, sideAt, samePoint, sameSegment, isAt, isEnd, on, onSome, countsBelow, inside, isBoundary, endsAt, Object, inInterior, inBoundary, inExterior}
-use Rattle.features.specs.Flags.{hasPoint, hasSegment, joins, someEnd, isBound}
+use Rattle.flags.specs.Flags.{hasPoint, hasSegment, joins, someEnd, isBound}
 use Rattle.plane.proofs.Homogeneous.{_⋆_, _⊞_, triple-eq, one-times}
 use Rattle.plane.proofs.OnSegment.{Ordered, slanting, upright, Between, Along, Away, over, beneath, leftward, rightward, short, past, on-or-away, on-away, along-on, on-along, away-off}
 use Rattle.plane.proofs.Equal.{samePoint-read, samePoint-refl, sameSegment-read, sameSegment-refl, point-eq}

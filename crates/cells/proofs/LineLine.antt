@@ -16,7 +16,7 @@ use Rattle.plane.proofs.Scale.{isEnd-scale, inInterior-scale, inBoundary-scale,
 use Rattle.plane.proofs.Means.{EndOf, middle, end-read, end-make, middle-inner}
 use Rattle.plane.proofs.AlongSegment.{Apart}
 use Rattle.plane.proofs.Accepted.{Split, Across}
-use Rattle.features.specs.Flags.{hasSegment, onObject, hasEnd, isBound, someEnd, segShared, segUnshared, interiorPoiShared, boundOnInterior, boundShared, boundDisjoint}
+use Rattle.flags.specs.Flags.{hasSegment, onObject, hasEnd, isBound, someEnd, segShared, segUnshared, interiorPoiShared, boundOnInterior, boundShared, boundDisjoint}
 use Rattle.cells.proofs.Common.{Cell, cell-swap, across-swap, bound-scale, carry, carry-not, on-find, on-make, end-along, no-bound, bound-cell, end-find, end-give, end-place, line-outside, outside-line, outside-both, along-clear, line-inner, is-in, in-has, middle-off, middle-in, line-on}
 
 -- ---- the rows

@@ -16,7 +16,7 @@ use Rattle.plane.proofs.Scale.{isEnd-scale, onSome-scale, inInterior-scale, inE
 use Rattle.plane.proofs.Means.{at-read, EndOf, left-end, right-end, middle, end-read, end-make}
 use Rattle.plane.proofs.AlongSegment.{Apart}
 use Rattle.plane.proofs.Accepted.{Split, Regular, Across}
-use Rattle.features.specs.Flags.{hasSegment, onObject, isBound, joins, someEnd, segInside, segShared, segOutside, segUnshared, poiJoins, boundJoins, boundInside, boundOutside}
+use Rattle.flags.specs.Flags.{hasSegment, onObject, isBound, joins, someEnd, segInside, segShared, segOutside, segUnshared, poiJoins, boundJoins, boundInside, boundOutside}
 use Rattle.cells.proofs.Common.{Cell, across-swap, bound-scale, carry, carry-not, on-find, on-make, end-along, bound-at, bound-cell, end-find, end-give, end-place, line-outside, outside-line, outside-both, along-clear, line-inner, away-none, filled, first-of, filled-of, inside-filled, inside-off, is-in, in-has, middle-off, middle-in, line-on, moving, another-end}
 use Rattle.cells.proofs.Beside.{Within, region-inner}
 

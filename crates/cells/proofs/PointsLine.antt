@@ -11,7 +11,7 @@ use Rattle.plane.specs.declared.Segment.{Segment}
 use Rattle.plane.specs.Plane.{HPoint, grid, isAt, onSome, isBoundary, endsAt, Object, inInterior, inBoundary, inExterior}
 use Rattle.plane.proofs.OnSegment.{Ordered}
 use Rattle.plane.proofs.Scale.{inInterior-scale, inBoundary-scale, inExterior-scale}
-use Rattle.features.specs.Flags.{hasPoint, onObject, isBound, poiOff, poiOnInterior, poiOnBound, boundPoiDisjoint}
+use Rattle.flags.specs.Flags.{hasPoint, onObject, isBound, poiOff, poiOnInterior, poiOnBound, boundPoiDisjoint}
 use Rattle.cells.proofs.Common.{Cell, cell-swap, no-boundary, points-cell, points-at, bound-cell, line-outside, outside-line, outside-both, along-clear, line-inner, points-off, filled, first-of, filled-of, on-find}
 
 module _ (F : List Point) (G : List Segment) (ord : (t : Segment) → t ∈ G → Ordered t) where

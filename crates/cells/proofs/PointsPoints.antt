@@ -7,7 +7,7 @@ use Rattle.whole.proofs.Logic.{in-nil}
 use Rattle.plane.specs.declared.Point.{Point}
 use Rattle.plane.specs.Plane.{HPoint, grid, isAt, Object, inInterior, inBoundary, inExterior}
 use Rattle.plane.proofs.Scale.{inInterior-scale, inExterior-scale}
-use Rattle.features.specs.Flags.{hasPoint, poiDisjoint, poiShared}
+use Rattle.flags.specs.Flags.{hasPoint, poiDisjoint, poiShared}
 use Rattle.cells.proofs.Common.{Cell, cell-swap, no-boundary, points-cell, points-at, outside-both}
 
 module _ (F G : List Point) where

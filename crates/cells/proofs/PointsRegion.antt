@@ -11,7 +11,7 @@ use Rattle.plane.specs.declared.Segment.{Segment}
 use Rattle.plane.specs.Plane.{HPoint, grid, onSome, inside, countsBelow, Object, inInterior, inBoundary, inExterior}
 use Rattle.plane.proofs.Scale.{inInterior-scale, inBoundary-scale, inExterior-scale}
 use Rattle.plane.proofs.Accepted.{Regular}
-use Rattle.features.specs.Flags.{onObject, poiInside, poiOnOutline, poiOutside}
+use Rattle.flags.specs.Flags.{onObject, poiInside, poiOnOutline, poiOutside}
 use Rattle.cells.proofs.Common.{Cell, no-boundary, points-cell, outside-both, along-clear, points-off, filled, first-of, filled-of, on-find, on-make, inside-filled}
 use Rattle.cells.proofs.Beside.{Within, region-inner}
 

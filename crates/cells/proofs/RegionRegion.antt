@@ -19,7 +19,7 @@ use Rattle.plane.proofs.Means.{EndOf, middle, end-read, end-make}
 use Rattle.plane.proofs.AlongSegment.{Apart}
 use Rattle.plane.proofs.Topmost.{topmost}
 use Rattle.plane.proofs.Accepted.{Split, Regular, Across, middle-away}
-use Rattle.features.specs.Flags.{Edge, outline, hasSegment, joins, midInside, midOutside, class01, class10, class12, class21, class02, class20, class11, boundPoiShared}
+use Rattle.flags.specs.Flags.{Edge, outline, hasSegment, joins, midInside, midOutside, class01, class10, class12, class21, class02, class20, class11, boundPoiShared}
 use Rattle.cells.proofs.Common.{Cell, cell-swap, across-swap, carry, on-find, on-make, end-along, end-find, end-give, end-place, outside-both, away-none, inside-parity, inside-off, inside-count, is-in, in-has, middle-off, moving}
 use Rattle.cells.proofs.Beside.{Beside, below-it, above-it}
 

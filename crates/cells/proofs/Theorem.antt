@@ -14,8 +14,8 @@ use Rattle.plane.proofs.Accepted.{Split, Regular, Across}
 use Rattle.scene.specs.declared.Shape.{Shape}
 use Rattle.scene.specs.declared.Shape.the-variants.{Points, Line, Region}
 use Rattle.scene.specs.Read.{shapeNumber}
-use Rattle.features.specs.Flags.{Edge, Elements, outline, object, segmentsOf, flagsOfF, flagsOfG, pack, hasBit}
-use Rattle.features.proofs.Bits.{pack-bit}
+use Rattle.flags.specs.Flags.{Edge, Elements, outline, object, segmentsOf, flagsOfF, flagsOfG, pack, hasBit}
+use Rattle.flags.proofs.Bits.{pack-bit}
 use Rattle.cells.specs.Matrix.{Part, interior, boundary, exterior, lies, Meet, matrixBy, matrixOf, cellAt}
 use Rattle.cells.proofs.Common.{Cell, filled}
 use Rattle.cells.proofs.PointsPoints as PP

@@ -6,7 +6,7 @@ use mathlib.Core.List.{List, [], _∷_}
 use lib.Dec.{T}
 use lib.ListN.{getD}
 use Rattle.plane.specs.Plane.{FractionPoint, fractions, HPoint, Object, inInterior, inBoundary, inExterior}
-use Rattle.features.specs.Flags.{hasBit}
+use Rattle.flags.specs.Flags.{hasBit}
 use Rattle.scene.specs.declared.Shape.{Shape}
 use Rattle.scene.specs.declared.Shape.the-variants.{Points, Line, Region}
 

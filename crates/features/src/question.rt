@@ -1,10 +1,10 @@
 // The vectors question.
 use crate::Explored;
 use crate::Vectors;
-use crate::collected;
 use crate::masks;
 use crate::walk;
 use checks::Verdict;
+use flags::collected;
 use scene::CheckedScene;
 use scene::Fault;
 use scene::Refusal;

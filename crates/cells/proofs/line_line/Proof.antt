@@ -1,5 +1,5 @@
 -- `cells::line_line` meets its contract.
-use Rattle.features.specs.Flags.{hasBit}
+use Rattle.flags.specs.Flags.{hasBit}
 use Rattle.cells.specs.Matrix.{matrixOf}
 use borrow.Author.Needs.{needs}
 use Rattle.cells.proofs.line_line.Statement.{statement}
