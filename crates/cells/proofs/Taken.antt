@@ -31,12 +31,12 @@ use Rattle.features.specs.Vectors.{sceneVectors}
 use Rattle.flags.proofs.ByElement.{outline-edges}
 use Rattle.features.proofs.Wanted.{vector-all-F, vector-all-G}
 use Rattle.cells.specs.declared.Explored.{Explored}
-use Rattle.cells.specs.Matrix.{Part, interior, boundary, exterior, Meet, matrixOf, cellAt}
+use Rattle.matrix.specs.Matrix.{Part, interior, boundary, exterior, Meet, matrixOf, cellAt}
 use Rattle.cells.specs.Explored as E
 use Rattle.cells.specs.Explored.{sceneMatrix, wholeVectorF, wholeVectorG, allOfF, allOfG, row, takenAs, exploredOf, answered, cellOf, NoCellWrong}
-use Rattle.cells.proofs.Common.{filled, filled-of}
-use Rattle.cells.proofs.RegionRegion.{Sound}
-use Rattle.cells.proofs.Theorem.{Accepted, Good, shapeOf, isEmpty, no-cell-wrong}
+use Rattle.matrix.proofs.Common.{filled, filled-of}
+use Rattle.matrix.proofs.RegionRegion.{Sound}
+use Rattle.matrix.proofs.Theorem.{Accepted, Good, shapeOf, isEmpty, no-cell-wrong}
 
 filled-none : {A : Type 0} (b : List A) → ((a : A) → a ∈ b → ⊥) → filled b ≡ false
 filled-none [] h = refl

@@ -20,11 +20,11 @@ use Rattle.scene.specs.Conditions.{elements, keep, hasSegments, isRegion, half,
 use Rattle.scene.proofs.Flags.{refuted, upheld}
 use Rattle.scene.proofs.Taken.{TakenObject, taken-object}
 use Rattle.scene.proofs.Given.{good-halfsegment, ia-there}
-use Rattle.checks.specs.Walked.{Readable, leftWith}
+use Rattle.segments.specs.Walked.{Readable, leftWith}
 use Rattle.flags.specs.Flags.{hasPoint}
 use Rattle.flags.specs.Walk.{pointOf, pointsOf, edgeOf, edges, sameIa, sameEdge, hasEdge}
 use Rattle.flags.proofs.ByElement.{some-same, some-map, some-keep}
-use Rattle.checks.proofs.Walk.{between, all-between, leftPasses, some-found, some-passed, some-none, no-segments, some-segments}
+use Rattle.segments.proofs.Walk.{between, all-between, leftPasses, some-found, some-passed, some-none, no-segments, some-segments}
 
 -- ---- any search
 

@@ -1,6 +1,5 @@
 // Where a point lies by an object: on a line's boundary, inside a region. A point that is off the region's segments is inside by the number of
 // segments that count below it.
-use checks::segments;
 use plane::Point;
 use plane::Segment;
 use scene::Layout;
@@ -47,7 +46,7 @@ pub fn is_inside(s: &[u8], l: Layout, v: Point) -> bool
     requires { ⌜ IsObject (now s) l × T (inRange v) × (onSome (segments (now s) l) (grid v) ≡ Bool.false) ⌝ }
     ensures { λ r. ⌜ r ≡ inside (segments (now (s .entry)) l) (grid v) ⌝ }
 {
-    is_odd_below(s, l, plane::doubled(v))
+    is_odd_below(s, l, geometry::doubled(v))
 }
 
 // Is the midpoint of t, which lies on no segment of l, inside l?
@@ -55,5 +54,5 @@ pub fn is_middle_inside(s: &[u8], l: Layout, t: Segment) -> bool
     requires { ⌜ IsObject (now s) l × T (segmentInRange t) × (onSome (segments (now s) l) (midpoint t) ≡ Bool.false) ⌝ }
     ensures { λ r. ⌜ r ≡ inside (segments (now (s .entry)) l) (midpoint t) ⌝ }
 {
-    is_odd_below(s, l, plane::doubled_midpoint(t))
+    is_odd_below(s, l, geometry::doubled_midpoint(t))
 }

@@ -1,10 +1,10 @@
 // Searches over the elements of an object in the bytes, by what one element asks of the other object. Each walks the records by offset, once.
-use checks::segments::has_segments;
 use plane::Point;
 use plane::Segment;
 use scene::Layout;
 use scene::bytes;
 use scene::records;
+use segments::has_segments;
 ghost use mathlib.Core.Path.{_≡_};
 ghost use mathlib.Core.Bool.{_&&_};
 ghost use Prim.Native.Nat.{_+_, _≤_};
@@ -13,7 +13,7 @@ ghost use lib.Dec.{T};
 ghost use Rattle.plane.specs.Plane.{inRange, sameSegment, grid, on};
 ghost use Rattle.scene.specs.Read.{iaAt, IsObject};
 ghost use Rattle.scene.specs.Conditions.{isRegion, segments};
-ghost use Rattle.checks.specs.Walked.{Readable, leftWith};
+ghost use Rattle.segments.specs.Walked.{Readable, leftWith};
 ghost use Rattle.flags.specs.Flags.{hasPoint, hasSegment, onObject, joins};
 ghost use Rattle.flags.specs.Walk.{pointsOf, edges, joined, sameIa, hasEdge};
 
@@ -30,14 +30,14 @@ fn is_on_at(s: &[u8], at: usize, v: Point) -> bool
     requires { ⌜ Readable (now s) at × T (inRange v) ⌝ }
     ensures { λ r. ⌜ r ≡ leftWith (λ t. on t (grid v)) (now (s .entry)) at ⌝ }
 {
-    s[at + 17] == 1 && plane::is_on(bytes::segment(s, at), v)
+    s[at + 17] == 1 && geometry::is_on(bytes::segment(s, at), v)
 }
 
 // Is v an end of t, and t another segment than s?
 fn is_joined(s: Segment, t: Segment, v: Point) -> bool
     ensures { λ r. ⌜ r ≡ joined s v t ⌝ }
 {
-    !plane::is_same_segment(s, t) & plane::is_end(t, v)
+    !plane::is_same_segment(s, t) & geometry::is_end(t, v)
 }
 
 fn joins_at(s: &[u8], at: usize, t: Segment, v: Point) -> bool

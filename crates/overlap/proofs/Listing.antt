@@ -16,7 +16,7 @@ use Rattle.plane.specs.Plane.{midpoint, sameSegment, inside}
 use Rattle.scene.specs.declared.Layout.{Layout}
 use Rattle.scene.specs.Read.{after, IsObject}
 use Rattle.scene.specs.Conditions.{isRegion, segments}
-use Rattle.checks.proofs.Walk.{object-fits}
+use Rattle.segments.proofs.Walk.{object-fits}
 use Rattle.flags.specs.Flags.{Edge, outline, hasSegment}
 use Rattle.flags.specs.Walk.{edges, sameIa, sameEdge, hasEdge, Clear}
 use Rattle.flags.proofs.ByElement.{outline-edges}

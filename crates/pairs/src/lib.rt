@@ -1,6 +1,5 @@
 // The flags of one element beside the other object, for each pair of types: what 01's "Flags, bit 0 first" asks of it, by the searches that its
 // answers make necessary.
-use checks::segments;
 use flags::Found;
 use flags::Middle;
 use flags::collected;

@@ -13,7 +13,7 @@ use Rattle.flags.specs.Flags.{hasBit}
 use Rattle.features.specs.Wanted.{wanted, vectorOfF, vectorOfG}
 use Rattle.flags.specs.Walk.{pointsOf, edges}
 use Rattle.cells.specs.declared.Explored.{Explored}
-use Rattle.cells.specs.Matrix.{matrixOf}
+use Rattle.matrix.specs.Matrix.{matrixOf}
 use Rattle.cells.specs.Explored.{exploredOf}
 use Rattle.report.specs.Line.{digits, decimal, okLine, noLine, lineOf}
 

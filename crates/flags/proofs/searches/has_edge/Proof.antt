@@ -3,7 +3,7 @@
 use Prim.Native.Nat.{_-_}
 use native.Mathlib.Omega.{arith}
 use borrow.Author.Needs.{needs}
-use Rattle.checks.proofs.Walk.{object-fits}
+use Rattle.segments.proofs.Walk.{object-fits}
 use Rattle.flags.proofs.Searching.{AmongEdges, among-edges, turn, nowhere}
 use Rattle.flags.proofs.searches.has_edge.Statement.{statement}
 use Rattle.flags.proofs.searches.has_edge.Tie as tie

@@ -5,7 +5,7 @@ use native.Mathlib.Omega.{arith}
 use mathlib.Core.Path.{ap, _∙_}
 use borrow.Author.Needs.{needs}
 use Rattle.plane.specs.Plane.{samePoint}
-use Rattle.checks.proofs.Walk.{object-fits}
+use Rattle.segments.proofs.Walk.{object-fits}
 use Rattle.flags.proofs.Searching.{AmongPoints, among-points, turn, nowhere}
 use Rattle.flags.proofs.searches.has_point.Statement.{statement}
 use Rattle.flags.proofs.searches.has_point.Tie as tie

@@ -4,7 +4,7 @@ use Prim.Native.Nat.{_-_}
 use native.Mathlib.Omega.{arith}
 use borrow.Author.Needs.{needs}
 use Rattle.plane.specs.Plane.{sameSegment}
-use Rattle.checks.proofs.Walk.{object-fits}
+use Rattle.segments.proofs.Walk.{object-fits}
 use Rattle.flags.proofs.Searching.{AmongSegments, none-there, among-segments, turn, nowhere}
 use Rattle.flags.proofs.searches.has_segment.Statement.{statement}
 use Rattle.flags.proofs.searches.has_segment.Tie as tie

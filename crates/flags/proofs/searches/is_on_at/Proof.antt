@@ -2,7 +2,7 @@
 use borrow.Author.Needs.{needs}
 use Rattle.plane.specs.declared.Segment.{Segment}
 use Rattle.plane.specs.Plane.{grid, on}
-use Rattle.checks.proofs.Walk.{at-left, at-right, in-range-at}
+use Rattle.segments.proofs.Walk.{at-left, at-right, in-range-at}
 use Rattle.flags.proofs.searches.is_on_at.Statement.{statement}
 use Rattle.flags.proofs.searches.is_on_at.Tie as tie
 

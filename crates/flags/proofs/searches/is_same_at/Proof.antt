@@ -1,7 +1,7 @@
 -- `flags::searches::is_same_at` meets its contract: a left halfsegment, then the test for equal segments.
 use borrow.Author.Needs.{needs}
 use Rattle.plane.specs.Plane.{sameSegment}
-use Rattle.checks.proofs.Walk.{at-left, at-right}
+use Rattle.segments.proofs.Walk.{at-left, at-right}
 use Rattle.flags.proofs.searches.is_same_at.Statement.{statement}
 use Rattle.flags.proofs.searches.is_same_at.Tie as tie
 

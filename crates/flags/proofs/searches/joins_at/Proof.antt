@@ -1,7 +1,7 @@
 -- `flags::searches::joins_at` meets its contract: a left halfsegment, then the test for an end of another segment.
 use borrow.Author.Needs.{needs}
 use Rattle.flags.specs.Walk.{joined}
-use Rattle.checks.proofs.Walk.{at-left, at-right}
+use Rattle.segments.proofs.Walk.{at-left, at-right}
 use Rattle.flags.proofs.searches.joins_at.Statement.{statement}
 use Rattle.flags.proofs.searches.joins_at.Tie as tie
 
