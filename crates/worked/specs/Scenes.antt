@@ -15,7 +15,7 @@ use Rattle.flags.specs.Walk.{pointsOf, edges}
 use Rattle.cells.specs.declared.Explored.{Explored}
 use Rattle.matrix.specs.Matrix.{matrixOf}
 use Rattle.cells.specs.Explored.{exploredOf}
-use Rattle.report.specs.Line.{digits, decimal, okLine, noLine, lineOf}
+use Rattle.fields.specs.Line.{digits, decimal, okLine, noLine, lineOf}
 
 -- ---- records, as document 01 writes them
 

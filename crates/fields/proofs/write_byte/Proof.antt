@@ -1,8 +1,8 @@
--- `report::write_byte` meets its contract.
+-- `fields::write_byte` meets its contract.
 use borrow.Author.Needs.{needs}
-use Rattle.report.proofs.Written.{written-byte}
-use Rattle.report.proofs.write_byte.Statement.{statement}
-use Rattle.report.proofs.write_byte.Tie as tie
+use Rattle.fields.proofs.Written.{written-byte}
+use Rattle.fields.proofs.write_byte.Statement.{statement}
+use Rattle.fields.proofs.write_byte.Tie as tie
 
 slice-write-out : tie.Need-slice-write-out
 slice-write-out c = search needs

@@ -10,7 +10,7 @@ use denote.Array.{Array, each}
 use denote.Laws.{Is}
 use denote.Plain.{Boolean}
 use denote.Shadow.{shadow}
-use Rattle.report.specs.Line.{bit, rowByRow, cellBytes}
+use Rattle.fields.specs.Line.{bit, rowByRow, cellBytes}
 
 pub three : {A : Type 0} (d : A) (l : List A) → length l ≡ 3 → l ≡ getD l 0 d ∷ getD l 1 d ∷ getD l 2 d ∷ []
 three d [] h = absurd (omega arith)

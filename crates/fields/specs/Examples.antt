@@ -3,7 +3,7 @@ use mathlib.Core.Path.{_≡_, refl}
 use mathlib.Core.Bool.{true, false}
 use mathlib.Core.List.{[], _∷_}
 use lib.ListN.{length}
-use Rattle.report.specs.Line.{digits, decimal, okLine, noLine, lineOf}
+use Rattle.fields.specs.Line.{digits, decimal, okLine, noLine, lineOf}
 
 -- "ok 1 2 5 1 011000111"
 scene-a : lineOf 0 0 1 2 5 1 ((false ∷ true ∷ true ∷ []) ∷ (false ∷ false ∷ false ∷ []) ∷ (true ∷ true ∷ true ∷ []) ∷ [])

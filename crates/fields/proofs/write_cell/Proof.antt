@@ -1,7 +1,7 @@
--- `report::write_cell` meets its contract.
+-- `fields::write_cell` meets its contract.
 use borrow.Author.Needs.{needs}
-use Rattle.report.proofs.write_cell.Statement.{statement}
-use Rattle.report.proofs.write_cell.Tie as tie
+use Rattle.fields.proofs.write_cell.Statement.{statement}
+use Rattle.fields.proofs.write_cell.Tie as tie
 
 write-byte-requires : tie.Need-write-byte-requires
 write-byte-requires c κs = search needs

@@ -1,4 +1,4 @@
--- `report::write_cells` meets its contract.
+-- `fields::write_cells` meets its contract.
 use borrow.Author.Needs.{needs}
 use Prim.Native.Nat.{ℕ, _+_}
 use mathlib.Core.Path.{_≡_}
@@ -6,11 +6,11 @@ use mathlib.Core.List.{List, [], map}
 use native.Mathlib.Omega.{arith}
 use lib.ListN.{length, getD}
 use borrow.Kind.Array.{eBool, eArr, good-length}
-use Rattle.report.specs.Line.{bit, cellBytes}
-use Rattle.report.proofs.Written.{followed}
-use Rattle.report.proofs.Cells.{three-rows, three-rows-length}
-use Rattle.report.proofs.write_cells.Statement.{statement}
-use Rattle.report.proofs.write_cells.Tie as tie
+use Rattle.fields.specs.Line.{bit, cellBytes}
+use Rattle.fields.proofs.Written.{followed}
+use Rattle.fields.proofs.Cells.{three-rows, three-rows-length}
+use Rattle.fields.proofs.write_cells.Statement.{statement}
+use Rattle.fields.proofs.write_cells.Tie as tie
 
 whole : (c : tie.Start) → length (c .args .t3) ≡ 3
 whole c = good-length (eArr eBool 3) 3 (c .args .t3) _ (c .good .1 .1 .0)

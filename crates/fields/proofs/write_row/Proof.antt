@@ -1,4 +1,4 @@
--- `report::write_row` meets its contract.
+-- `fields::write_row` meets its contract.
 use borrow.Author.Needs.{needs}
 use mathlib.Core.Path.{_≡_, _∙_}
 use mathlib.Core.Bool.{false}
@@ -6,11 +6,11 @@ use mathlib.Core.List.{map}
 use native.Mathlib.Omega.{arith}
 use lib.ListN.{length, length-map}
 use borrow.Kind.Array.{eBool, good-length}
-use Rattle.report.specs.Line.{bit}
-use Rattle.report.proofs.Written.{followed}
-use Rattle.report.proofs.Cells.{three}
-use Rattle.report.proofs.write_row.Statement.{statement}
-use Rattle.report.proofs.write_row.Tie as tie
+use Rattle.fields.specs.Line.{bit}
+use Rattle.fields.proofs.Written.{followed}
+use Rattle.fields.proofs.Cells.{three}
+use Rattle.fields.proofs.write_row.Statement.{statement}
+use Rattle.fields.proofs.write_row.Tie as tie
 
 whole : (c : tie.Start) → length (c .args .t3) ≡ 3
 whole c = good-length eBool 3 (c .args .t3) _ (c .good .1 .1 .0)

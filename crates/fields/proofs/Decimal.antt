@@ -9,7 +9,7 @@ use lib.Dec.{ltb}
 use lib.ListN.{length, getD, length-append, List·getD-append}
 use lib.Seq.{getD-append-seam}
 use borrow.Author.Tests.{ltb-true, ltb-false, lt-ltb, le-ltb}
-use Rattle.report.specs.Line.{digit, digits, decimal, readAfter, Spells}
+use Rattle.fields.specs.Line.{digit, digits, decimal, readAfter, Spells}
 
 -- ---- one digit, or one digit more
 

@@ -5,8 +5,8 @@ use mathlib.Core.Bool.{Bool}
 use mathlib.Core.List.{List}
 use native.Mathlib.Omega.{arith}
 use lib.ListN.{length, length-append}
-use Rattle.report.specs.Line.{decimal, cellBytes, okLine, noLine, lineOf}
-use Rattle.report.proofs.Decimal.{decimal-length}
+use Rattle.fields.specs.Line.{decimal, cellBytes, okLine, noLine, lineOf}
+use Rattle.fields.proofs.Decimal.{decimal-length}
 
 pub refused : (number place f g v w : ℕ) (cells : List (List Bool)) → (number ≡ 0 → ⊥) → lineOf number place f g v w cells ≡ noLine number place
 unfolding lineOf

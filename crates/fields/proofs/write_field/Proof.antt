@@ -1,8 +1,8 @@
--- `report::write_field` meets its contract.
+-- `fields::write_field` meets its contract.
 use borrow.Author.Needs.{needs}
-use Rattle.report.proofs.Written.{followed}
-use Rattle.report.proofs.write_field.Statement.{statement}
-use Rattle.report.proofs.write_field.Tie as tie
+use Rattle.fields.proofs.Written.{followed}
+use Rattle.fields.proofs.write_field.Statement.{statement}
+use Rattle.fields.proofs.write_field.Tie as tie
 
 write-byte-requires : tie.Need-write-byte-requires
 write-byte-requires c κs = search needs

@@ -1,17 +1,17 @@
--- `report::write_decimal` meets its contract. It calls itself on all of the number but its last digit; the measure is the number.
+-- `fields::write_decimal` meets its contract. It calls itself on all of the number but its last digit; the measure is the number.
 use Prim.Native.Nat.{ℕ, _<_}
 use native.Mathlib.Omega.{arith}
 use borrow.Author.Needs.{needs}
 use borrow.Fn.Kinds.{In}
 use borrow.Fn.PlainCycle.{Measures, is, falls, and}
-use Rattle.report.proofs.Decimal.{decimal-one, decimal-more, length-one, length-more}
-use Rattle.report.proofs.Written.{followed}
-use Rattle.report.proofs.write_decimal.Reads as write-decimal
-use Rattle.report.proofs.write_decimal.Kinds as write-decimal-kinds
-use Rattle.report.proofs.+write_decimal.Lts-write_decimal as write-decimal-lts
-use Rattle.report.proofs.write_byte.Reads as write-byte-reads
-use Rattle.report.proofs.+write_decimal.{statement}
-use Rattle.report.proofs.+write_decimal.Tie.{close}
+use Rattle.fields.proofs.Decimal.{decimal-one, decimal-more, length-one, length-more}
+use Rattle.fields.proofs.Written.{followed}
+use Rattle.fields.proofs.write_decimal.Reads as write-decimal
+use Rattle.fields.proofs.write_decimal.Kinds as write-decimal-kinds
+use Rattle.fields.proofs.+write_decimal.Lts-write_decimal as write-decimal-lts
+use Rattle.fields.proofs.write_byte.Reads as write-byte-reads
+use Rattle.fields.proofs.+write_decimal.{statement}
+use Rattle.fields.proofs.+write_decimal.Tie.{close}
 
 abbrev μ-write-decimal : Measures 1 write-decimal-kinds.ps ℕ
 μ-write-decimal κs a = a .1 .1 .0

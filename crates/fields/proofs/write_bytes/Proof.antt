@@ -1,12 +1,12 @@
--- `report::write_bytes` meets its contract. The loop's invariant: the first i bytes are written.
+-- `fields::write_bytes` meets its contract. The loop's invariant: the first i bytes are written.
 use Prim.Native.Nat.{_+_, _-_, _≤_}
 use native.Mathlib.Omega.{arith}
 use lib.ListN.{length, take}
 use lib.Seq.{take-all}
-use Rattle.report.specs.Line.{Written}
-use Rattle.report.proofs.Written.{written-length, copied-none, copied-more}
-use Rattle.report.proofs.write_bytes.Statement.{statement}
-use Rattle.report.proofs.write_bytes.Tie as tie
+use Rattle.fields.specs.Line.{Written}
+use Rattle.fields.proofs.Written.{written-length, copied-none, copied-more}
+use Rattle.fields.proofs.write_bytes.Statement.{statement}
+use Rattle.fields.proofs.write_bytes.Tie as tie
 
 abbrev Inv-loop : tie.InvT-loop
 Inv-loop out₀ at bytes i₀ out i = Written out₀ at (take i bytes) (at + i) out × (i ≤ length bytes)

@@ -10,7 +10,7 @@ use lib.ListN.{length, getD, take, drop, set, length-append, length-drop, take-a
 use lib.Dec.{leb}
 use lib.Seq.{length-take-le, take-at, take-append-seam, take-suc, drop-append-add, drop-drop, set-split}
 use borrow.Author.Tests.{leb-true, leb-false}
-use Rattle.report.specs.Line.{Written, Lent}
+use Rattle.fields.specs.Line.{Written, Lent}
 
 pub written-byte : (l : List ℕ) (at b : ℕ) → at < length l → Written l at (b ∷ []) (at + 1) (set l at b)
 written-byte l at b h = record { ends = refl; within = omega arith; holds = rw (add-one, set-split l at b h) }
