@@ -1,11 +1,2 @@
--- Demand 3, pair by pair, and over the bytes of a scene.
-pub mod Common
-pub mod PointsPoints
-pub mod PointsLine
-pub mod Beside
-pub mod PointsRegion
-pub mod LineLine
-pub mod LineRegion
-pub mod RegionRegion
-pub mod Theorem
+-- Demand 3 over the bytes of a scene.
 pub mod Taken

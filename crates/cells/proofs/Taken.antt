@@ -22,21 +22,21 @@ use Rattle.scene.specs.Read.{shapeNumber}
 use Rattle.scene.specs.Conditions as C
 use Rattle.scene.specs.Conditions.{half, isLeft, hasSegments, segments, elements, keep, checkScene}
 use Rattle.checks.proofs.Laws.{SoundObject, SoundScene, sound-scene, split, regular, ia-is, across, segment-in, left-in, in-left, keep-in, element-in, in-element}
-use Rattle.features.specs.Flags as F
-use Rattle.features.specs.Flags.{Edge, Elements, outline, segmentsOf, flagsOfF, flagsOfG, pack}
-use Rattle.features.specs.Walk.{edges, edgeOf, pointOf, pointsOf, elementsAs, elementsOf}
+use Rattle.flags.specs.Flags as F
+use Rattle.flags.specs.Flags.{Edge, Elements, outline, segmentsOf, flagsOfF, flagsOfG, pack}
+use Rattle.flags.specs.Walk.{edges, edgeOf, pointOf, pointsOf, elementsAs, elementsOf}
 use Rattle.features.specs.Wanted.{typeOf, only, maskOfF, maskOfG, wanted, vectorOfF, vectorOfG}
 use Rattle.features.specs.declared.Vectors.{Vectors}
 use Rattle.features.specs.Vectors.{sceneVectors}
-use Rattle.features.proofs.ByElement.{outline-edges}
+use Rattle.flags.proofs.ByElement.{outline-edges}
 use Rattle.features.proofs.Wanted.{vector-all-F, vector-all-G}
 use Rattle.cells.specs.declared.Explored.{Explored}
-use Rattle.cells.specs.Matrix.{Part, interior, boundary, exterior, Meet, matrixOf, cellAt}
+use Rattle.matrix.specs.Matrix.{Part, interior, boundary, exterior, Meet, matrixOf, cellAt}
 use Rattle.cells.specs.Explored as E
 use Rattle.cells.specs.Explored.{sceneMatrix, wholeVectorF, wholeVectorG, allOfF, allOfG, row, takenAs, exploredOf, answered, cellOf, NoCellWrong}
-use Rattle.cells.proofs.Common.{filled, filled-of}
-use Rattle.cells.proofs.RegionRegion.{Sound}
-use Rattle.cells.proofs.Theorem.{Accepted, Good, shapeOf, isEmpty, no-cell-wrong}
+use Rattle.matrix.proofs.Common.{filled, filled-of}
+use Rattle.matrix.proofs.RegionRegion.{Sound}
+use Rattle.matrix.proofs.Theorem.{Accepted, Good, shapeOf, isEmpty, no-cell-wrong}
 
 filled-none : {A : Type 0} (b : List A) → ((a : A) → a ∈ b → ⊥) → filled b ≡ false
 filled-none [] h = refl

@@ -1,3 +1,2 @@
--- The nine-intersection matrix, and what it means.
-pub mod Matrix
+-- The cells question over a scene's bytes.
 pub mod Explored

@@ -4,7 +4,7 @@ ghost use mathlib.Core.Path.{_≡_};
 ghost use mathlib.Core.Bool.{_||_, not, true};
 ghost use Prim.Native.Nat.{_/_, _<_};
 ghost use Rattle.whole.specs.Count.{odd};
-ghost use Rattle.cells.specs.Matrix.{matrixOf};
+ghost use Rattle.matrix.specs.Matrix.{matrixOf};
 
 // A row of the matrix: interior, boundary and exterior of G.
 pub struct Row {

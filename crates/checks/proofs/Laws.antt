@@ -28,7 +28,7 @@ use Rattle.scene.specs.Read.{pointAt, shapeNumber, place, unless, IsObject}
 use Rattle.scene.specs.Conditions.{indices, elements, keep, hasSegments, isRegion, half, ia, isLeft, segments, earliest, inOrder, isMisplaced, outOfOrder, partner, isUnpaired, unpaired, isTouching, touching, touchingItself, endsOddly, oddEnd, hasWrongIa, wrongIa, Rule, rule, objectRules, orElse, overBoth, touchingAcross, sceneRules, checkSceneBy, checkObject}
 use Rattle.scene.proofs.Taken.{TakenScene}
 use Rattle.scene.proofs.Given.{NoFault, checked-scene, checked-object}
-use Rattle.checks.proofs.Elements.{point-good, half-good, order-of-points, order-of-halves}
+use Rattle.segments.proofs.Elements.{point-good, half-good, order-of-points, order-of-halves}
 
 -- ---- the indices of an object's elements
 

@@ -13,8 +13,9 @@ use Rattle.scene.specs.declared.CheckedScene.{CheckedScene}
 use Rattle.scene.specs.Read.{Condition, condition, decide, judge, readScene, readAlone, IsScene}
 use Rattle.scene.specs.Conditions.{outOfOrder, unpaired, touching, touchingItself, oddEnd, wrongIa, typesDescend, Rule, conditions, sceneRules, checkedScene, checkSceneBy, checkedObject, checkObject, objectRules}
 use Rattle.checks.specs.declared.Verdict.the-variants.{Sound, Refused}
-use Rattle.checks.specs.Refusals.{faultUnder, sceneFaultUnder, verdict, settle, objectVerdict, geometryRules, geometryVerdict}
-use Rattle.checks.proofs.Walk.{between, between-next, between-none}
+use Rattle.conditions.specs.Faults.{faultUnder}
+use Rattle.checks.specs.Refusals.{sceneFaultUnder, verdict, settle, objectVerdict, geometryRules, geometryVerdict}
+use Rattle.segments.proofs.Walk.{between, between-next, between-none}
 
 -- ---- by number
 

@@ -1,3 +1,2 @@
 -- What the functions over a read scene promise.
-pub mod Walked
 pub mod Refusals

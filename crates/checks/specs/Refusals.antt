@@ -1,7 +1,7 @@
--- The conditions 10 to 15 by their numbers, as tests of one element, and the first of several conditions that refuses: what the functions of this
--- crate promise, from the definitions in scene's Conditions.antt.
+-- The conditions 10 to 15 by their numbers over a scene, and the first of several conditions that refuses: what the functions of this crate promise,
+-- from the definitions in scene's Conditions.antt.
 use Prim.Native.Nat.{ℕ}
-use mathlib.Core.Bool.{Bool, cond}
+use mathlib.Core.Bool.{cond}
 use mathlib.Core.List.{List, [], _∷_, _++_, map}
 use lib.Dec.{eqb}
 use Rattle.scene.specs.declared.Layout.{Layout}
@@ -9,22 +9,10 @@ use Rattle.scene.specs.declared.Scene.{Scene}
 use Rattle.scene.specs.declared.Refusal.{Refusal}
 use Rattle.scene.specs.declared.Fault.{Fault}
 use Rattle.scene.specs.Read.{Condition, judge}
-use Rattle.scene.specs.Conditions.{elements, segments, earliest, isMisplaced, isUnpaired, isTouching, endsOddly, hasWrongIa, Rule, rule, conditions, objectRules, orElse, overBoth, touchingAcross}
+use Rattle.scene.specs.Conditions.{Rule, rule, conditions, objectRules, orElse, overBoth, touchingAcross}
+use Rattle.conditions.specs.Faults.{faultUnder}
 use Rattle.checks.specs.declared.Verdict.{Verdict}
 use Rattle.checks.specs.declared.Verdict.the-variants.{Sound, Refused}
-
--- is the element i of l at fault under the condition n? For 15, other is the scene's other object
-module _ (s : List ℕ) (l other : Layout) where
-  abbrev pub isAtFault : ℕ → ℕ → Bool
-  isAtFault n i =
-      cond (eqb n 10) (isMisplaced s l i)
-      (cond (eqb n 11) (isUnpaired s l i)
-      (cond (eqb n 12) (isTouching s l (segments s l) i)
-      (cond (eqb n 13) (endsOddly s l i)
-      (cond (eqb n 14) (hasWrongIa s l i) (isTouching s l (segments s other) i)))))
-
-  abbrev pub faultUnder : ℕ → Fault
-  faultUnder n = earliest l (isAtFault n) (elements l)
 
 -- the earliest record of a scene at fault under the condition n: 10 to 14 are about both objects, F first, and 15 is about the records of F
 abbrev pub sceneFaultUnder : List ℕ → Scene → ℕ → Fault

@@ -14,10 +14,6 @@ ghost use Rattle.scene.specs.Read.{IsObject};
 ghost use Rattle.scene.specs.Conditions.{typesDescend, checkScene, checkObject};
 ghost use Rattle.checks.specs.Refusals.{sceneFaultUnder, objectVerdict, geometryVerdict};
 
-mod boxes;
-pub mod conditions;
-pub mod segments;
-
 // The first refusal under several conditions, if any.
 pub enum Verdict {
     Sound,
@@ -95,7 +91,7 @@ pub fn geometry_verdict(s: &[u8], scene: Scene) -> Verdict
 pub fn check_scene(s: &[u8]) -> CheckedScene
     ensures { λ r. ⌜ r ≡ checkScene (now (s .entry)) ⌝ }
 {
-    match records::read_scene(s) {
+    match reading::read_scene(s) {
         CheckedScene::Refused(r) => CheckedScene::Refused(r),
         CheckedScene::Taken(scene) => match types_fault(scene) {
             Fault::At(place) => CheckedScene::Refused(Refusal { number: 8, place }),
@@ -111,7 +107,7 @@ pub fn check_scene(s: &[u8]) -> CheckedScene
 pub fn check_object(s: &[u8]) -> CheckedObject
     ensures { λ r. ⌜ r ≡ checkObject (now (s .entry)) ⌝ }
 {
-    match records::read_alone(s) {
+    match reading::read_alone(s) {
         CheckedObject::Refused(r) => CheckedObject::Refused(r),
         CheckedObject::Taken(l) => match object_verdict(s, l) {
             Verdict::Refused(r) => CheckedObject::Refused(r),

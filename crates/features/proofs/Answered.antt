@@ -16,12 +16,12 @@ use Rattle.checks.specs.declared.Verdict.the-variants.{Sound, Refused}
 use Rattle.checks.specs.Refusals.{geometryVerdict}
 use Rattle.checks.proofs.Laws.{SoundScene, sound-scene}
 use Rattle.checks.proofs.Verdicts.{check-refused, check-read}
-use Rattle.features.specs.declared.Found.{Found}
+use Rattle.flags.specs.declared.Found.{Found}
 use Rattle.features.specs.declared.Vectors.{Vectors}
 use Rattle.features.specs.declared.Explored.{Explored}
-use Rattle.features.specs.Flags.{flagsOfF, flagsOfG, pack, hasBit}
+use Rattle.flags.specs.Flags.{flagsOfF, flagsOfG, pack, hasBit}
 use Rattle.features.specs.Wanted.{anyStray, strayWanted, only, typeOf, maskOfF, maskOfG, wanted, vectorOfF, vectorOfG}
-use Rattle.features.specs.Walk.{bits, bitwise, masked, elementsAs, elementsOf, allFlags}
+use Rattle.flags.specs.Walk.{bits, bitwise, masked, elementsAs, elementsOf, allFlags}
 use Rattle.features.specs.Vectors.{sceneVectors, vectorsRules, vectorsOf}
 use Rattle.features.proofs.Packed.{walked}
 

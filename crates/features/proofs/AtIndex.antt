@@ -17,8 +17,8 @@ use Rattle.scene.specs.Read.{byte, pointAt, segmentAt, iaAt, place, IsObject}
 use Rattle.scene.specs.Conditions.{hasSegments, isRegion, half, isLeft, segments}
 use Rattle.scene.proofs.Taken.{TakenObject, taken-object}
 use Rattle.scene.proofs.Given.{GoodPoint, GoodHalfsegment, good-point, good-halfsegment, ia-there}
-use Rattle.features.specs.declared.Found.{Found}
-use Rattle.features.specs.Walk.{elementsOf, nothing, given, tested, pointTests, segmentTests, edgeTests, Clear, ClearAt, flagsAs, elementFlags}
+use Rattle.flags.specs.declared.Found.{Found}
+use Rattle.flags.specs.Walk.{elementsOf, nothing, given, tested, pointTests, segmentTests, edgeTests, Clear, ClearAt, flagsAs, elementFlags}
 
 module _ (s : List ℕ) {own : Layout} {i at : ℕ} (is : IsObject s own) (h : i < own .count) (e : at ≡ place own i) where
   taken : TakenObject s (own .start) own

@@ -6,9 +6,9 @@ use mathlib.Core.Bool.{Bool, true, false, not, _&&_, _||_, or-assoc, or-false, t
 use Rattle.whole.proofs.Logic.{none-of}
 use Rattle.scene.specs.Conditions.{indices}
 use Rattle.checks.proofs.Laws.{in-indices}
-use Rattle.checks.proofs.Walk.{between, all-between, between-next, between-none}
-use Rattle.features.specs.declared.Found.{Found}
-use Rattle.features.specs.Walk.{bits, flag, bitwise, nothing, either, masked, lacks, gather}
+use Rattle.segments.proofs.Walk.{between, all-between, between-next, between-none}
+use Rattle.flags.specs.declared.Found.{Found}
+use Rattle.flags.specs.Walk.{bits, flag, bitwise, nothing, either, masked, lacks, gather}
 
 -- ---- flags bit by bit
 

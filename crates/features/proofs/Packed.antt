@@ -9,11 +9,11 @@ use lib.Bits as bits-of
 use lib.Dec.{T, T-not}
 use lib.ListN.{length, List·getD-eq-default}
 use Rattle.scene.specs.declared.Layout.{Layout}
-use Rattle.features.specs.Flags.{Elements, points, line, region, pack, hasBit}
+use Rattle.flags.specs.Flags.{Elements, points, line, region, pack, hasBit}
 use Rattle.features.specs.Wanted.{only}
-use Rattle.features.specs.Walk.{bits, flag, bitwise, found, masked, elementsOf, allFlags, flagsOf}
-use Rattle.features.proofs.Bits.{pack-bit, and-bit, lost-bit}
-use Rattle.features.proofs.ByElement.{flags-by-element}
+use Rattle.flags.specs.Walk.{bits, flag, bitwise, found, masked, elementsOf, allFlags, flagsOf}
+use Rattle.flags.proofs.Bits.{pack-bit, and-bit, lost-bit}
+use Rattle.flags.proofs.ByElement.{flags-by-element}
 
 -- numbers with the same bits are equal
 same-number : (a b : ℕ) → ((k : ℕ) → hasBit a k ≡ hasBit b k) → a ≡ b

@@ -10,11 +10,11 @@ use lib.Arith.{le→nltb}
 use lib.Bits.{bitAnd, and-mask}
 use lib.Dec.{T, eqb, eqb→eq, eqb-refl, ltb, nltb→le}
 use lib.ListN.{length}
-use Rattle.features.specs.Flags.{Elements, points, line, region, flagsOfF, flagsOfG, pack, hasBit}
-use Rattle.features.specs.Sentences.{sentencesOfF, sentencesOfG, sentence, Means}
+use Rattle.flags.specs.Flags.{Elements, points, line, region, flagsOfF, flagsOfG, pack, hasBit}
+use Rattle.flags.specs.Sentences.{sentencesOfF, sentencesOfG, sentence, Means}
 use Rattle.features.specs.Wanted.{maskOfF, maskOfG, wanted, only, hasStray, anyStray, Stray, typeOf, vectorOfF, vectorOfG}
-use Rattle.features.proofs.Bits.{pack-lt, and-bit, ones-bit, lost-bit, bit-lost}
-use Rattle.features.proofs.Sentences.{test-is, retest, restate, not-is, and-is, or-is, bit-F, bit-G}
+use Rattle.flags.proofs.Bits.{pack-lt, and-bit, ones-bit, lost-bit, bit-lost}
+use Rattle.flags.proofs.Sentences.{test-is, retest, restate, not-is, and-is, or-is, bit-F, bit-G}
 
 -- ---- the table
 

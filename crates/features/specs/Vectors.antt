@@ -7,7 +7,7 @@ use Rattle.scene.specs.Conditions.{Rule, rule, sceneRules, checkSceneBy}
 use Rattle.features.specs.declared.Vectors.{Vectors}
 use Rattle.features.specs.declared.Explored.{Explored}
 use Rattle.features.specs.Wanted.{strayWanted, vectorOfF, vectorOfG}
-use Rattle.features.specs.Walk.{elementsOf}
+use Rattle.flags.specs.Walk.{elementsOf}
 
 -- both vectors of a scene that is taken
 abbrev pub sceneVectors : List ℕ → Scene → ℕ → ℕ → Vectors

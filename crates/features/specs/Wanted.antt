@@ -8,7 +8,7 @@ use lib.ListN.{length, getD}
 use Rattle.scene.specs.declared.Scene.{Scene}
 use Rattle.scene.specs.declared.Fault.{Fault}
 use Rattle.scene.specs.Read.{shapeNumber, unless}
-use Rattle.features.specs.Flags.{Elements, points, line, region, flagsOfF, flagsOfG, pack, hasBit}
+use Rattle.flags.specs.Flags.{Elements, points, line, region, flagsOfF, flagsOfG, pack, hasBit}
 
 -- The flags of F and of G, a bit for each: a row for each type of F, a column for each type of G. A pair with F's type above G's has none.
 abbrev pub flagMasks : List (List (ℕ × ℕ))

@@ -1,15 +1,14 @@
 // The vectors question.
 use crate::Explored;
 use crate::Vectors;
-use crate::collected;
 use crate::masks;
 use crate::walk;
 use checks::Verdict;
+use flags::collected;
 use scene::CheckedScene;
 use scene::Fault;
 use scene::Refusal;
 use scene::Scene;
-use scene::records;
 ghost use mathlib.Core.Path.{_≡_};
 ghost use Rattle.scene.specs.declared.CheckedScene.{CheckedScene as Checked};
 ghost use Rattle.scene.specs.Conditions.{checkScene};
@@ -39,7 +38,7 @@ pub fn vectors_of(s: &[u8], scene: Scene, want_f: u16, want_g: u16) -> Vectors
 pub fn vectors(s: &[u8], want_f: u16, want_g: u16) -> Explored
     ensures { λ r. ⌜ r ≡ vectorsOf (now (s .entry)) «want_f» «want_g» ⌝ }
 {
-    match records::read_scene(s) {
+    match reading::read_scene(s) {
         CheckedScene::Refused(r) => Explored::Refused(r),
         CheckedScene::Taken(scene) => match checks::types_fault(scene) {
             Fault::At(place) => Explored::Refused(Refusal { number: 8, place }),

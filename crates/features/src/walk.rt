@@ -1,7 +1,6 @@
 // The walk: the flags of one element of an object, by the types of both, and of all its elements.
-use crate::Found;
-use crate::collected;
-use crate::pairs;
+use flags::Found;
+use flags::collected;
 use plane::Point;
 use plane::Segment;
 use scene::Layout;
@@ -14,7 +13,7 @@ ghost use lib.Dec.{T};
 ghost use Rattle.plane.specs.Plane.{inRange, segmentInRange};
 ghost use Rattle.scene.specs.Read.{IsObject};
 ghost use Rattle.scene.specs.Conditions.{segments};
-ghost use Rattle.features.specs.Walk.{elementsOf, tested, pointTests, segmentTests, edgeTests, Clear, ClearAt, AllClear, masked, elementFlags, allFlags};
+ghost use Rattle.flags.specs.Walk.{elementsOf, tested, pointTests, segmentTests, edgeTests, Clear, ClearAt, AllClear, masked, elementFlags, allFlags};
 
 // A point of F, if first, or of G.
 fn point_flags(s: &[u8], other: Layout, first: bool, v: Point) -> Found

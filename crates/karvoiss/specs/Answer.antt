@@ -9,7 +9,7 @@ use Rattle.scene.specs.declared.CheckedScene.{CheckedScene}
 use Rattle.scene.specs.Conditions.{object, checkScene}
 use Rattle.features.specs.declared.Explored.{Explored}
 use Rattle.cells.specs.declared.Explored as C
-use Rattle.cells.specs.Matrix.{Part, Meet, cellAt}
+use Rattle.matrix.specs.Matrix.{Part, Meet, cellAt}
 use Rattle.karvoiss.specs.declared.KarvoissVectors.{KarvoissVectors}
 use Rattle.overlap.specs.declared.Overlap.{Overlap}
 use Rattle.karvoiss.specs.declared.KarvoissOverlap.{KarvoissOverlap}

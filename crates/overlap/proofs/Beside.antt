@@ -15,9 +15,9 @@ use Rattle.plane.proofs.Accepted.{Regular, middle-away, interior-above}
 use Rattle.plane.proofs.Order.{ordered-make}
 use Rattle.plane.proofs.Steps.{Large, large-map, large-and}
 use Rattle.plane.proofs.Flip.{lower, upper, lower-away, upper-away, flip-lower, flip-upper}
-use Rattle.features.specs.Flags.{Edge, outline, hasSegment}
-use Rattle.features.proofs.Inside.{inside-off}
-use Rattle.features.proofs.Clear.{clear-of}
+use Rattle.flags.specs.Flags.{Edge, outline, hasSegment}
+use Rattle.flags.proofs.Inside.{inside-off}
+use Rattle.flags.proofs.Clear.{clear-of}
 use Rattle.overlap.specs.Overlap.{adjoins, adjoinsBelow, adjoinsAbove}
 use Rattle.overlap.proofs.Listing.{adjoins-other}
 use Rattle.overlap.proofs.Classes.{Marked, edge-find, adjoins-edge}

@@ -26,8 +26,8 @@ use Rattle.checks.specs.declared.Verdict.the-variants.{Sound, Refused}
 use Rattle.checks.specs.Refusals.{settle, geometryVerdict}
 use Rattle.checks.proofs.Verdicts.{check-refused, check-read}
 use Rattle.checks.proofs.Laws.{SoundScene, sound-scene, all-ordered, split, across}
-use Rattle.features.specs.Walk.{Clear}
-use Rattle.features.proofs.Clear.{clear-of}
+use Rattle.flags.specs.Walk.{Clear}
+use Rattle.flags.proofs.Clear.{clear-of}
 use Rattle.overlap.specs.Overlap.{listOf, notRegions, listRules, checkList}
 use Rattle.overlap.specs.Walked.{MergedClear}
 use Rattle.overlap.proofs.Members.{merge-in}

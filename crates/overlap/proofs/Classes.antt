@@ -20,9 +20,9 @@ use Rattle.scene.specs.declared.Scene.{Scene}
 use Rattle.scene.specs.declared.CheckedScene.{CheckedScene}
 use Rattle.scene.specs.Conditions.{elements, keep, isRegion, isLeft, segments}
 use Rattle.checks.proofs.Laws.{SoundObject, SoundScene, sound-scene, in-element, ia-is}
-use Rattle.features.specs.Flags.{Edge, Elements, region, outline, hasSegment, midInside, midOutside, class01, class10, class12, class21, class02, class20, class11, flagsOfF, flagsOfG}
-use Rattle.features.specs.Walk.{edgeOf, edges, elementsOf, elementsAs, sameIa, sameEdge, hasEdge, Clear}
-use Rattle.features.proofs.ByElement.{outline-edges}
+use Rattle.flags.specs.Flags.{Edge, Elements, region, outline, hasSegment, midInside, midOutside, class01, class10, class12, class21, class02, class20, class11, flagsOfF, flagsOfG}
+use Rattle.flags.specs.Walk.{edgeOf, edges, elementsOf, elementsAs, sameIa, sameEdge, hasEdge, Clear}
+use Rattle.flags.proofs.ByElement.{outline-edges}
 use Rattle.overlap.specs.Overlap.{merge, adjoins, byteOf, listRules, checkList}
 use Rattle.overlap.specs.Classes.{of-f, of-g, of-both, belongs, hasByte, classesOfF, classesOfG}
 use Rattle.overlap.proofs.Members.{merge-in, in-merge-f, in-merge-g}

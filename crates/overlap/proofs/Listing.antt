@@ -16,10 +16,10 @@ use Rattle.plane.specs.Plane.{midpoint, sameSegment, inside}
 use Rattle.scene.specs.declared.Layout.{Layout}
 use Rattle.scene.specs.Read.{after, IsObject}
 use Rattle.scene.specs.Conditions.{isRegion, segments}
-use Rattle.checks.proofs.Walk.{object-fits}
-use Rattle.features.specs.Flags.{Edge, outline, hasSegment}
-use Rattle.features.specs.Walk.{edges, sameIa, sameEdge, hasEdge, Clear}
-use Rattle.features.proofs.ByElement.{outline-edges}
+use Rattle.segments.proofs.Walk.{object-fits}
+use Rattle.flags.specs.Flags.{Edge, outline, hasSegment}
+use Rattle.flags.specs.Walk.{edges, sameIa, sameEdge, hasEdge, Clear}
+use Rattle.flags.proofs.ByElement.{outline-edges}
 use Rattle.overlap.specs.Overlap.{merge, adjoins, byteOf, overlapBytes}
 use Rattle.overlap.specs.Walked.{mergedFrom, MergedClear}
 use Rattle.overlap.proofs.Merging.{region-size, from-start}

@@ -14,8 +14,8 @@ use Rattle.scene.specs.declared.Shape.the-variants.{Points, Line, Region}
 use Rattle.scene.specs.declared.Layout.{Layout}
 use Rattle.scene.specs.Read.{byte, size, place, endPlace}
 use Rattle.scene.specs.Conditions.{keep, hasSegments, isRegion, half, isLeft, segments}
-use Rattle.checks.proofs.Elements.{region-segments}
-use Rattle.checks.proofs.Walk.{all-between, between-next, between-none}
+use Rattle.segments.proofs.Elements.{region-segments}
+use Rattle.segments.proofs.Walk.{all-between, between-next, between-none}
 use Rattle.overlap.specs.declared.merged.Step.the-variants.{Next}
 use Rattle.overlap.specs.Overlap.{leftBefore, merge}
 use Rattle.overlap.specs.Walked.{segmentsFrom, NextLeft, stepOf, mergedFrom, NextIs, Stepped}

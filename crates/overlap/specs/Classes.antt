@@ -5,7 +5,7 @@ use mathlib.Core.List.{List, [], _∷_}
 use lib.Dec.{eqb}
 use Rattle.whole.specs.Count.{some}
 use Rattle.plane.specs.declared.Segment.{Segment}
-use Rattle.features.specs.Flags.{Edge, outline, hasSegment}
+use Rattle.flags.specs.Flags.{Edge, outline, hasSegment}
 use Rattle.overlap.specs.Overlap.{merge, byteOf}
 
 -- whose segment it is: F's alone, G's alone, or one of both

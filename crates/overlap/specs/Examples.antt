@@ -6,7 +6,7 @@ use Rattle.whole.specs.Count.{odd}
 use Rattle.plane.specs.Plane.{within, before, samePoint, sameSegment, ordered, side, dominating, farEnd, comesBefore, sideAt, isAt, notBefore, notAfter, on, isEnd, countsBelow, countsBelowLeft, onSome, inside, interiorAbove, endsAt, opposite, cross, endWithin, touch}
 use Rattle.scene.specs.Read.{signed, coordinate, kindOf, shapeOf, recordAt, elementsFrom, readObject, readScene}
 use Rattle.scene.specs.Conditions.{segments, inOrder, outOfOrder, partner, unpaired, touching, touchingItself, oddEnd, wrongIa, checkSceneBy}
-use Rattle.features.specs.Walk.{edges}
+use Rattle.flags.specs.Walk.{edges}
 use Rattle.overlap.specs.Overlap.{adjoins, overlapBytes, checkList, overlapOf, bufferAfter}
 
 word : ℕ → List ℕ

@@ -15,8 +15,8 @@ use Rattle.scene.specs.declared.Fault.{Fault}
 use Rattle.scene.specs.declared.CheckedScene.{CheckedScene}
 use Rattle.scene.specs.Read.{unless}
 use Rattle.scene.specs.Conditions.{isRegion, Rule, rule, orElse, sceneRules, checkSceneBy}
-use Rattle.features.specs.Flags.{Edge, outline, hasSegment}
-use Rattle.features.specs.Walk.{edges, hasEdge}
+use Rattle.flags.specs.Flags.{Edge, outline, hasSegment}
+use Rattle.flags.specs.Walk.{edges, hasEdge}
 use Rattle.overlap.specs.declared.Overlap.{Overlap}
 
 -- ---- the different segments of two regions, in the order of left halfsegments

@@ -9,7 +9,7 @@ use Rattle.plane.specs.declared.Segment.{Segment}
 use Rattle.plane.specs.Plane.{segmentInRange, sameSegment}
 use Rattle.scene.specs.declared.Layout.{Layout}
 use Rattle.scene.specs.Conditions.{indices, keep, half, isLeft, segments}
-use Rattle.features.specs.Walk.{Clear}
+use Rattle.flags.specs.Walk.{Clear}
 use Rattle.overlap.specs.declared.merged.Step.{Step}
 use Rattle.overlap.specs.declared.merged.Step.the-variants.{Next, End}
 use Rattle.overlap.specs.Overlap.{leftBefore, merge}

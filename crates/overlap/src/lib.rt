@@ -1,5 +1,4 @@
 // The overlap list of two regions, into a lent buffer: each different segment gives one byte.
-use checks::segments;
 use scene::CheckedScene;
 use scene::Fault;
 use scene::Refusal;

@@ -1,8 +1,8 @@
 // The byte of each different segment of two regions: how many there are, and the list of them in a lent buffer.
 use crate::merged;
 use crate::merged::Step;
-use features::position;
-use features::searches;
+use flags::position;
+use flags::searches;
 use plane::Segment;
 use scene::Layout;
 ghost use mathlib.Core.Path.{_≡_};
@@ -14,7 +14,7 @@ ghost use Rattle.whole.specs.Count.{bit};
 ghost use Rattle.plane.specs.Plane.{segmentInRange};
 ghost use Rattle.scene.specs.Read.{IsObject};
 ghost use Rattle.scene.specs.Conditions.{isRegion, segments};
-ghost use Rattle.features.specs.Walk.{edges, Clear};
+ghost use Rattle.flags.specs.Walk.{edges, Clear};
 ghost use Rattle.overlap.specs.Overlap.{adjoinsBelow, adjoinsAbove, byteOf, overlapBytes};
 ghost use Rattle.overlap.specs.Walked.{MergedClear};
 

@@ -51,7 +51,7 @@ fn is_left_before(t: Segment, u: Segment) -> bool
     requires { ⌜ T (segmentInRange t) × T (segmentInRange u) ⌝ }
     ensures { λ r. ⌜ r ≡ leftBefore t u ⌝ }
 {
-    plane::comes_before(
+    geometry::comes_before(
         Halfsegment {
             segment: t,
             is_left: true,

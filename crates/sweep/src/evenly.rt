@@ -17,8 +17,8 @@ fn share_point(s: &[u8], at: usize, next: usize) -> bool
     requires { ⌜ (at + 18 ≤ length (now s)) × (next + 18 ≤ length (now s)) ⌝ }
     ensures { λ r. ⌜ r ≡ samePoint (dominating (halfsegmentAt (now (s .entry)) at)) (dominating (halfsegmentAt (now (s .entry)) next)) ⌝ }
 {
-    let p = plane::dominating_point(bytes::halfsegment(s, at));
-    let q = plane::dominating_point(bytes::halfsegment(s, next));
+    let p = geometry::dominating_point(bytes::halfsegment(s, at));
+    let q = geometry::dominating_point(bytes::halfsegment(s, next));
     plane::is_same_point(p, q)
 }
 

@@ -9,13 +9,13 @@ use Rattle.whole.specs.Count.{odd}
 use Rattle.plane.specs.Plane.{within, before, samePoint, sameSegment, ordered, side, dominating, farEnd, comesBefore, sideAt, isAt, notBefore, notAfter, on, isEnd, countsBelow, countsBelowLeft, onSome, inside, interiorAbove, isBoundary, endsAt, opposite, cross, endWithin, touch}
 use Rattle.scene.specs.Read.{signed, coordinate, kindOf, shapeOf, recordAt, elementsFrom, readObject, readScene}
 use Rattle.scene.specs.Conditions.{segments, inOrder, outOfOrder, partner, unpaired, touching, touchingItself, oddEnd, wrongIa, checkSceneBy, checkScene}
-use Rattle.features.specs.Flags.{hasBit}
+use Rattle.flags.specs.Flags.{hasBit}
 use Rattle.features.specs.Wanted.{wanted, vectorOfF, vectorOfG}
-use Rattle.features.specs.Walk.{pointsOf, edges}
+use Rattle.flags.specs.Walk.{pointsOf, edges}
 use Rattle.cells.specs.declared.Explored.{Explored}
-use Rattle.cells.specs.Matrix.{matrixOf}
+use Rattle.matrix.specs.Matrix.{matrixOf}
 use Rattle.cells.specs.Explored.{exploredOf}
-use Rattle.report.specs.Line.{digits, decimal, okLine, noLine, lineOf}
+use Rattle.fields.specs.Line.{digits, decimal, okLine, noLine, lineOf}
 
 -- ---- records, as document 01 writes them
 

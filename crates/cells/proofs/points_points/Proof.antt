@@ -1,6 +1,6 @@
 -- `cells::points_points` meets its contract.
-use Rattle.features.specs.Flags.{hasBit}
-use Rattle.cells.specs.Matrix.{matrixOf}
+use Rattle.flags.specs.Flags.{hasBit}
+use Rattle.matrix.specs.Matrix.{matrixOf}
 use borrow.Author.Needs.{needs}
 use Rattle.cells.proofs.points_points.Statement.{statement}
 use Rattle.cells.proofs.points_points.Tie as tie

@@ -1,6 +1,6 @@
 -- `cells::region_region` meets its contract.
-use Rattle.features.specs.Flags.{hasBit}
-use Rattle.cells.specs.Matrix.{matrixOf}
+use Rattle.flags.specs.Flags.{hasBit}
+use Rattle.matrix.specs.Matrix.{matrixOf}
 use borrow.Author.Needs.{needs}
 use Rattle.cells.proofs.region_region.Statement.{statement}
 use Rattle.cells.proofs.region_region.Tie as tie

@@ -4,7 +4,8 @@ use Prim.Native.Nat.{_-_, _≤_}
 use native.Mathlib.Omega.{arith}
 use mathlib.Core.Path.{_≡_, sym, _∙_}
 use borrow.Author.Needs.{needs}
-use Rattle.checks.specs.Refusals.{faultUnder, verdict, objectVerdict}
+use Rattle.conditions.specs.Faults.{faultUnder}
+use Rattle.checks.specs.Refusals.{verdict, objectVerdict}
 use Rattle.checks.proofs.Verdicts.{numbered, refuses, passes, sound, object-numbered}
 use Rattle.checks.proofs.object_verdict.Statement.{statement}
 use Rattle.checks.proofs.object_verdict.Tie as tie

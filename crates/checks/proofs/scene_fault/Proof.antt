@@ -7,7 +7,8 @@ use borrow.Author.Tests.{eq-eqb, ne-eqb}
 use Rattle.scene.specs.declared.Scene.{Scene}
 use Rattle.scene.specs.declared.Fault.{Fault}
 use Rattle.scene.specs.declared.Fault.the-variants.{At, Nothing}
-use Rattle.checks.specs.Refusals.{faultUnder, sceneFaultUnder}
+use Rattle.conditions.specs.Faults.{faultUnder}
+use Rattle.checks.specs.Refusals.{sceneFaultUnder}
 use Rattle.checks.proofs.scene_fault.Statement.{statement}
 use Rattle.checks.proofs.scene_fault.Tie as tie
 

@@ -1,7 +1,7 @@
 -- `report::write_answer` meets its contract.
 use borrow.Author.Needs.{needs}
-use Rattle.report.specs.Line.{lineOf}
-use Rattle.report.proofs.Line.{refused}
+use Rattle.fields.specs.Line.{lineOf}
+use Rattle.fields.proofs.Line.{refused}
 use Rattle.report.proofs.write_answer.Statement.{statement}
 use Rattle.report.proofs.write_answer.Tie as tie
 

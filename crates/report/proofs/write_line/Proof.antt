@@ -3,10 +3,10 @@ use borrow.Author.Needs.{needs}
 use Prim.Native.Nat.{_≤_}
 use native.Mathlib.Omega.{arith}
 use lib.ListN.{length}
-use Rattle.report.specs.Line.{lineOf}
-use Rattle.report.proofs.Written.{start-length, start-holds, lent-none, lent-all}
-use Rattle.report.proofs.Cells.{nine}
-use Rattle.report.proofs.Line.{line-limit}
+use Rattle.fields.specs.Line.{lineOf}
+use Rattle.fields.proofs.Written.{start-length, start-holds, lent-none, lent-all}
+use Rattle.fields.proofs.Cells.{nine}
+use Rattle.fields.proofs.Line.{line-limit}
 use Rattle.report.proofs.write_line.Statement.{statement}
 use Rattle.report.proofs.write_line.Tie as tie
 

@@ -4,9 +4,9 @@ use Prim.Native.Nat.{_+_, _≤_}
 use native.Mathlib.Omega.{arith}
 use lib.ListN.{length}
 use denote.Ref.{now}
-use Rattle.report.specs.Line.{decimal, cellBytes, okLine}
-use Rattle.report.proofs.Written.{followed}
-use Rattle.report.proofs.Line.{ok-length}
+use Rattle.fields.specs.Line.{decimal, cellBytes, okLine}
+use Rattle.fields.proofs.Written.{followed}
+use Rattle.fields.proofs.Line.{ok-length}
 use Rattle.report.proofs.write_ok.Statement.{statement}
 use Rattle.report.proofs.write_ok.Tie as tie
 

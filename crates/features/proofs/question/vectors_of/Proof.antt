@@ -2,7 +2,7 @@
 use borrow.Author.Needs.{needs}
 use Rattle.features.proofs.Answered.{accepted, vector-f, vector-g}
 use Rattle.checks.proofs.Laws.{SoundScene}
-use Rattle.features.proofs.Clear.{clear-f, clear-g}
+use Rattle.flags.proofs.Clear.{clear-f, clear-g}
 use Rattle.features.proofs.question.vectors_of.Statement.{statement}
 use Rattle.features.proofs.question.vectors_of.Tie as tie
 

@@ -4,7 +4,7 @@ use lib.Dec.{T}
 use borrow.Author.Needs.{needs}
 use Rattle.scene.specs.Conditions.{isRegion}
 use Rattle.scene.specs.declared.Shape.{Shape}
-use Rattle.features.proofs.ByElement.{outline-edges}
+use Rattle.flags.proofs.ByElement.{outline-edges}
 use Rattle.features.proofs.walk.edge_flags.Statement.{statement}
 use Rattle.features.proofs.walk.edge_flags.Tie as tie
 

@@ -9,7 +9,7 @@ use Rattle.scene.proofs.Given.{GoodPoint, GoodHalfsegment}
 use Rattle.plane.specs.declared.Point.{Point}
 use Rattle.plane.specs.Plane.{inRange}
 use Rattle.scene.specs.declared.Shape.the-variants.{Points, Line, Region}
-use Rattle.checks.proofs.Walk.{in-range-at}
+use Rattle.segments.proofs.Walk.{in-range-at}
 use Rattle.features.proofs.AtIndex.{place-there, point-there, halfsegment-there, above-there, clear-at, point-flags-at, segment-flags-at, edge-flags-at, no-flags-at}
 use Rattle.features.proofs.walk.element_flags.Statement.{statement}
 use Rattle.features.proofs.walk.element_flags.Tie as tie

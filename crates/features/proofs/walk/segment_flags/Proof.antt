@@ -1,6 +1,6 @@
 -- `features::walk::segment_flags` meets its contract: each arm is the function of its pair.
 use borrow.Author.Needs.{needs}
-use Rattle.features.proofs.ByElement.{outline-edges}
+use Rattle.flags.proofs.ByElement.{outline-edges}
 use Rattle.features.proofs.walk.segment_flags.Statement.{statement}
 use Rattle.features.proofs.walk.segment_flags.Tie as tie
 

@@ -5,8 +5,8 @@ use native.Mathlib.Omega.{arith}
 use mathlib.Core.Path.{sym, ap, subst, _∙_}
 use borrow.Author.Needs.{needs}
 use Rattle.scene.proofs.Flags.{refuted}
-use Rattle.features.specs.Walk.{masked, elementFlags}
-use Rattle.features.specs.declared.Found.{Found}
+use Rattle.flags.specs.Walk.{masked, elementFlags}
+use Rattle.flags.specs.declared.Found.{Found}
 use Rattle.features.proofs.Gathered.{Gathering, gathering, gathered-one, gathered-all, gathered-enough}
 use Rattle.features.proofs.walk.walk.Statement.{statement}
 use Rattle.features.proofs.walk.walk.Tie as tie

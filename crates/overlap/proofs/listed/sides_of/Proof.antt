@@ -3,9 +3,9 @@ use mathlib.Core.Path.{_≡_, sym, _∙_}
 use mathlib.Core.Bool.{true, false}
 use borrow.Author.Needs.{needs}
 use Rattle.scene.specs.Conditions.{segments}
-use Rattle.features.specs.Flags.{hasSegment}
-use Rattle.features.specs.Walk.{edges}
-use Rattle.features.proofs.ByElement.{outline-edges}
+use Rattle.flags.specs.Flags.{hasSegment}
+use Rattle.flags.specs.Walk.{edges}
+use Rattle.flags.proofs.ByElement.{outline-edges}
 use Rattle.overlap.proofs.Listing.{adjoins-own, adjoins-other}
 use Rattle.overlap.proofs.listed.sides_of.Statement.{statement}
 use Rattle.overlap.proofs.listed.sides_of.Tie as tie

@@ -8,7 +8,7 @@ use lib.ListN.{length, set}
 use borrow.Author.Needs.{needs}
 use Rattle.whole.specs.Count.{here, there, _∈_}
 use Rattle.plane.specs.declared.Segment.{Segment}
-use Rattle.features.specs.Walk.{edges}
+use Rattle.flags.specs.Walk.{edges}
 use Rattle.overlap.specs.declared.merged.Step.{Step}
 use Rattle.overlap.specs.Overlap.{byteOf}
 use Rattle.overlap.specs.Walked.{mergedFrom, NextIs, Stepped}

@@ -5,8 +5,8 @@ use native.Mathlib.Omega.{arith}
 use mathlib.Core.Path.{_≡_, refl, ap, _∙_}
 use lib.ListN.{length}
 use Rattle.scene.specs.Read.{place}
-use Rattle.checks.proofs.Walk.{object-fits}
-use Rattle.checks.proofs.Elements.{fits}
+use Rattle.segments.proofs.Walk.{object-fits}
+use Rattle.segments.proofs.Elements.{fits}
 use Rattle.overlap.specs.Walked.{segmentsFrom}
 use Rattle.overlap.proofs.Merging.{region-size, next-place, place-within, left-at, right-at, from-right}
 use Rattle.overlap.proofs.merged.next_left.Statement.{statement}

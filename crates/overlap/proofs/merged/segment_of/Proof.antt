@@ -8,7 +8,7 @@ use Rattle.plane.specs.Plane.{segmentInRange}
 use Rattle.scene.specs.Read.{segmentAt, place}
 use Rattle.scene.specs.Conditions.{isRegion}
 use Rattle.scene.proofs.Given.{GoodHalfsegment}
-use Rattle.checks.proofs.Elements.{fits, half-good, region-segments}
+use Rattle.segments.proofs.Elements.{fits, half-good, region-segments}
 use Rattle.overlap.proofs.merged.segment_of.Statement.{statement}
 use Rattle.overlap.proofs.merged.segment_of.Tie as tie
 

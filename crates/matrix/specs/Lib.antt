@@ -1,0 +1,2 @@
+-- The nine-intersection matrix, and what it means.
+pub mod Matrix

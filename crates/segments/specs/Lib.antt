@@ -1,0 +1,2 @@
+-- What the searches over an object's elements promise.
+pub mod Walked
