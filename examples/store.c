@@ -139,10 +139,14 @@ static bool save(FILE *file, const struct object *o)
         && fwrite(o->bytes, 1, o->length, file) == o->length;
 }
 
+/* Whether the bytes are an object at all is not tested here: the calls do that. */
 static bool load(FILE *file, struct object *o)
 {
-    return fread(o->name, NAME, 1, file) == 1 && fread(&o->length, sizeof o->length, 1, file) == 1
+    bool good = fread(o->name, NAME, 1, file) == 1 && fread(&o->length, sizeof o->length, 1, file) == 1
         && o->length <= OBJECT_BYTES && fread(o->bytes, 1, o->length, file) == o->length;
+
+    o->name[NAME - 1] = '\0';
+    return good;
 }
 
 static bool fill(FILE *file)
