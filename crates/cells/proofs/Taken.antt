@@ -21,7 +21,8 @@ use Rattle.scene.specs.declared.CheckedScene.{CheckedScene}
 use Rattle.scene.specs.Read.{shapeNumber}
 use Rattle.scene.specs.Conditions as C
 use Rattle.scene.specs.Conditions.{half, isLeft, hasSegments, segments, elements, keep, checkScene}
-use Rattle.checks.proofs.Laws.{SoundObject, SoundScene, sound-scene, split, regular, ia-is, across, segment-in, left-in, in-left, keep-in, element-in, in-element}
+use Rattle.checks.proofs.Laws.{SoundObject, SoundScene, sound-scene, split, regular, ia-is, across, segment-in, left-in, in-left}
+use Rattle.segments.proofs.Indices.{keep-in, element-in, in-element}
 use Rattle.flags.specs.Flags as F
 use Rattle.flags.specs.Flags.{Edge, Elements, outline, segmentsOf, flagsOfF, flagsOfG, pack}
 use Rattle.flags.specs.Walk.{edges, edgeOf, pointOf, pointsOf, elementsAs, elementsOf}

@@ -29,63 +29,7 @@ use Rattle.scene.specs.Conditions.{indices, elements, keep, hasSegments, isRegi
 use Rattle.scene.proofs.Taken.{TakenScene}
 use Rattle.scene.proofs.Given.{NoFault, checked-scene, checked-object}
 use Rattle.segments.proofs.Elements.{point-good, half-good, order-of-points, order-of-halves}
-
--- ---- the indices of an object's elements
-
-pub in-indices : (n j i : ℕ) → j ≤ i → i < j + n → i ∈ indices n j
-in-indices zero j i h k = absurd (omega arith)
-in-indices (suc n) j i h k = ⊎-elim (λ e. subst (λ (m : ℕ). m ∈ indices (suc n) j) e here) (λ l. there (in-indices n (suc j) i l (omega arith))) (eq-or-lt-of-le h)
-
-indices-in : (n j i : ℕ) → i ∈ indices n j → (j ≤ i) × (i < j + n)
-indices-in zero j i m = absurd (in-nil m)
-indices-in (suc n) j i m =
-    ⊎-elim (λ e. (omega arith, omega arith)) (λ k. let w = indices-in n (suc j) i k in (omega arith, omega arith)) (in-cons m)
-
-pub element-in : (l : Layout) (i : ℕ) → i < l .count → i ∈ elements l
-element-in l i h = in-indices (l .count) 0 i (omega arith) (omega arith)
-
-pub in-element : (l : Layout) (i : ℕ) → i ∈ elements l → i < l .count
-in-element l i m = omega (arith, indices-in (l .count) 0 i m .1)
-
-module _ (f : ℕ → Bool) where
-  pub keep-in : (is : List ℕ) {i : ℕ} → i ∈ keep f is → (i ∈ is) × (f i ≡ true)
-  keep-in [] m = absurd (in-nil m)
-  keep-in (j ∷ is) {i} m = go (f j) refl m (λ k. keep-in is k)
-    where
-      go : (b : Bool) → f j ≡ b → i ∈ cond b (j ∷ keep f is) (keep f is) → (i ∈ keep f is → (i ∈ is) × (f i ≡ true)) → (i ∈ (j ∷ is)) × (f i ≡ true)
-      go true e m later = ⊎-elim (λ q. (subst (λ (k : ℕ). k ∈ (j ∷ is)) (sym q) here, ap f q ∙ e)) (λ k. (there (later k .0), later k .1)) (in-cons m)
-      go false e m later = (there (later m .0), later m .1)
-
-  in-keep : {is : List ℕ} {i : ℕ} → i ∈ is → f i ≡ true → i ∈ keep f is
-  in-keep {i = i} (here {l = is}) e = subst (λ (b : Bool). i ∈ cond b (i ∷ keep f is) (keep f is)) (sym e) here
-  in-keep {i = i} (there {b = j} {l = is} m) e = go (f j) (in-keep m e)
-    where
-      go : (b : Bool) → i ∈ keep f is → i ∈ cond b (j ∷ keep f is) (keep f is)
-      go true k = there k
-      go false k = k
-
-  kept-rise : (n j : ℕ) → Sorted _<_ (keep f (indices n j))
-  kept-rise zero j = sorted-nil
-  kept-rise (suc n) j = go (f j) (kept-rise n (suc j))
-    where
-      go : (b : Bool) → Sorted _<_ (keep f (indices n (suc j))) → Sorted _<_ (cond b (j ∷ keep f (indices n (suc j))) (keep f (indices n (suc j))))
-      go true r = sorted-cons (λ i m. indices-in n (suc j) i (keep-in (indices n (suc j)) m .0) .0) r
-      go false r = r
-
-not-nothing : {p : ℕ} → At p ≡ Nothing → ⊥
-not-nothing e = let z : _≡_ {A = ℕ} 0 1 = cc in omega arith
-
--- no element is at fault
-none-wrong : (l : Layout) (wrong : ℕ → Bool) → earliest l wrong (elements l) ≡ Nothing → (i : ℕ) → i < l .count → wrong i ≡ false
-none-wrong l wrong e i h = go (elements l) e (element-in l i h)
-  where
-    go : (is : List ℕ) → earliest l wrong is ≡ Nothing → i ∈ is → wrong i ≡ false
-    go [] e m = absurd (in-nil m)
-    go (j ∷ is) e m = at (wrong j) refl e (go is)
-      where
-        at : (b : Bool) → wrong j ≡ b → cond b (At (place l j)) (earliest l wrong is) ≡ Nothing → (earliest l wrong is ≡ Nothing → i ∈ is → wrong i ≡ false) → wrong i ≡ false
-        at true q e later = absurd (not-nothing e)
-        at false q e later = ⊎-elim (λ x. ap wrong x ∙ q) (later e) (in-cons m)
+use Rattle.segments.proofs.Indices.{indices-in, element-in, in-element, keep-in, in-keep, kept-rise, not-nothing, none-wrong, halves-rise, points-rise}
 
 -- ---- an object that 10 to 14 do not refuse
 
@@ -147,40 +91,20 @@ as-partner s l i j h t = record {
 
 module _ {s : List ℕ} {l : Layout} (o : SoundObject s l) where
   -- 10: each element comes before every later one
-  neighbours : (i : ℕ) → suc i < l .count → T (inOrder s l i (suc i))
-  unfolding outOfOrder
-  neighbours i h = is-true (inOrder s l i (suc i)) (not-false (inOrder s l i (suc i)) (go (none-wrong l (isMisplaced s l) (o .order) (suc i) h)))
-    where
-      back : suc i - 1 ≡ i
-      back = omega arith
-
-      go : ltb 0 (suc i) && not (inOrder s l (suc i - 1) (suc i)) ≡ false → not (inOrder s l i (suc i)) ≡ false
-      go e = rw (lt-ltb 0 (suc i) (omega arith), back) at e
-
-  halves-rise : hasSegments (l .shape) ≡ true → (i j : ℕ) → i < j → j < l .count → T (comesBefore (half s l i) (half s l j))
-  halves-rise e =
-      rising (λ (h : Halfsegment). T (ordered (h .segment))) (λ h k. T (comesBefore h k)) comes-trans (half s l) (l .count)
-      (λ i h. half-good s l (o .read) i h e .in-order) (λ i h. subst T (order-of-halves s l i (suc i) e) (neighbours i h))
-
-  points-rise : hasSegments (l .shape) ≡ false → (i j : ℕ) → i < j → j < l .count → T (before (pointAt s (place l i)) (pointAt s (place l j)))
-  points-rise e =
-      rising (λ (p : Point). Unit {0}) (λ p q. T (before p q)) (λ p q r _ _ _. before-trans p q r) (λ i. pointAt s (place l i)) (l .count) (λ i h. tt)
-      (λ i h. subst T (order-of-points s l i (suc i) e) (neighbours i h))
-
   pub in-strict-order : (i j : ℕ) → i < j → j < l .count → T (inOrder s l i j)
   in-strict-order i j h k = go (hasSegments (l .shape)) refl
     where
       go : (b : Bool) → hasSegments (l .shape) ≡ b → T (inOrder s l i j)
-      go true e = subst T (sym (order-of-halves s l i j e)) (halves-rise e i j h k)
-      go false e = subst T (sym (order-of-points s l i j e)) (points-rise e i j h k)
+      go true e = subst T (sym (order-of-halves s l i j e)) (halves-rise s l (o .read) (o .order) e i j h k)
+      go false e = subst T (sym (order-of-points s l i j e)) (points-rise s l (o .read) (o .order) e i j h k)
 
   -- hence no element twice
   pub no-half-twice : hasSegments (l .shape) ≡ true → (i j : ℕ) → i < j → j < l .count → half s l i ≡ half s l j → ⊥
-  no-half-twice e i j h k q = comes-irreflexive (half s l j) (subst (λ (x : Halfsegment). T (comesBefore x (half s l j))) q (halves-rise e i j h k))
+  no-half-twice e i j h k q = comes-irreflexive (half s l j) (subst (λ (x : Halfsegment). T (comesBefore x (half s l j))) q (halves-rise s l (o .read) (o .order) e i j h k))
 
   pub no-point-twice : hasSegments (l .shape) ≡ false → (i j : ℕ) → i < j → j < l .count → pointAt s (place l i) ≡ pointAt s (place l j) → ⊥
   no-point-twice e i j h k q =
-      before-irreflexive (pointAt s (place l j)) (subst (λ (x : Point). T (before x (pointAt s (place l j)))) q (points-rise e i j h k))
+      before-irreflexive (pointAt s (place l j)) (subst (λ (x : Point). T (before x (pointAt s (place l j)))) q (points-rise s l (o .read) (o .order) e i j h k))
 
   -- the segments are those of the left halfsegments
   pub left-in : (i : ℕ) → i < l .count → isLeft s l i ≡ true → half s l i .segment ∈ segments s l
@@ -216,7 +140,7 @@ module _ {s : List ℕ} {l : Layout} (o : SoundObject s l) where
           let a = keep-in (isLeft s l) (elements l) m in
           let b = keep-in (isLeft s l) (elements l) k in
           subst₂ (λ (h k : Halfsegment). T (comesBefore h k)) (as-half s l i true (left-segments s l i (a .1) .1)) (as-half s l j true (left-segments s l j (b .1) .1))
-          (halves-rise (left-segments s l i (a .1) .0) i j h (in-element l j (b .0)))
+          (halves-rise s l (o .read) (o .order) (left-segments s l i (a .1) .0) i j h (in-element l j (b .0)))
 
   -- 12: no two of them touch
   pub no-touch : (t u : Segment) → t ∈ segments s l → u ∈ segments s l → touch t u ≡ false
@@ -301,7 +225,7 @@ module _ {s : List ℕ} {l : Layout} (o : SoundObject s l) where
 
     pub points-sorted : Sorted (λ p q. T (before p q)) (map (λ i. pointAt s (place l i)) (elements l))
     points-sorted =
-        sorted-map (λ i. pointAt s (place l i)) (rise (l .count) 0) (λ i j m k h. points-rise points i j h (in-element l j k))
+        sorted-map (λ i. pointAt s (place l i)) (rise (l .count) 0) (λ i j m k h. points-rise s l (o .read) (o .order) points i j h (in-element l j k))
       where
         rise : (n j : ℕ) → Sorted _<_ (indices n j)
         rise zero j = sorted-nil

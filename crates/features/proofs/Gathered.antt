@@ -5,7 +5,7 @@ use mathlib.Core.Path.{_≡_, refl, sym, ap, _∙_}
 use mathlib.Core.Bool.{Bool, true, false, not, _&&_, _||_, or-assoc, or-false, true≢false}
 use Rattle.whole.proofs.Logic.{none-of}
 use Rattle.scene.specs.Conditions.{indices}
-use Rattle.checks.proofs.Laws.{in-indices}
+use Rattle.segments.proofs.Indices.{in-indices}
 use Rattle.segments.proofs.Walk.{between, all-between, between-next, between-none}
 use Rattle.flags.specs.declared.Found.{Found}
 use Rattle.flags.specs.Walk.{bits, flag, bitwise, nothing, either, masked, lacks, gather}

@@ -19,7 +19,8 @@ use Rattle.scene.specs.declared.Layout.{Layout}
 use Rattle.scene.specs.declared.Scene.{Scene}
 use Rattle.scene.specs.declared.CheckedScene.{CheckedScene}
 use Rattle.scene.specs.Conditions.{elements, keep, isRegion, isLeft, segments}
-use Rattle.checks.proofs.Laws.{SoundObject, SoundScene, sound-scene, in-element, ia-is}
+use Rattle.checks.proofs.Laws.{SoundObject, SoundScene, sound-scene, ia-is}
+use Rattle.segments.proofs.Indices.{in-element}
 use Rattle.flags.specs.Flags.{Edge, Elements, region, outline, hasSegment, midInside, midOutside, class01, class10, class12, class21, class02, class20, class11, flagsOfF, flagsOfG}
 use Rattle.flags.specs.Walk.{edgeOf, edges, elementsOf, elementsAs, sameIa, sameEdge, hasEdge, Clear}
 use Rattle.flags.proofs.ByElement.{outline-edges}

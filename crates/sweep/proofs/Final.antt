@@ -22,6 +22,7 @@ use Rattle.scene.specs.declared.Scene.{Scene}
 use Rattle.scene.specs.declared.Fault.the-variants.{Nothing}
 use Rattle.scene.specs.Read.{place, segmentAt, iaAt}
 use Rattle.scene.specs.Conditions.{elements, keep, hasSegments, isRegion, half, ia, isLeft, segments, partner, isUnpaired, unpaired, isTouching, touching, touchingItself, endsOddly, oddEnd, hasWrongIa, wrongIa, touchingAcross}
+use Rattle.segments.proofs.Indices.{element-in, in-element, keep-in, no-fault}
 use Rattle.sweep.specs.Lower.{under}
 use Rattle.sweep.specs.Evenly.{EndsEvenly, dominatedBy}
 use Rattle.sweep.specs.Kept.{Strand, ownUnder, ownEqual, Kept}
@@ -30,7 +31,7 @@ use Rattle.sweep.proofs.Start.{start-interior}
 use Rattle.sweep.proofs.Begun.{strandBy, reached, strands, Of, find-of, make-of}
 use Rattle.sweep.proofs.Run.{total, Orderly, Run}
 use Rattle.sweep.proofs.Counts.{count-by, count-own, count-segments}
-use Rattle.sweep.proofs.Indices.{element-in, in-element, keep-in, no-fault}
+
 
 module _ (s : List ℕ) (sc : Scene) (o : Orderly s sc) (run : Run s sc (total s sc true) (total s sc false) [])
     (evenly : (first : Bool) → T (isRegion (objectOf s sc first .shape)) → EndsEvenly s (objectOf s sc first)) where

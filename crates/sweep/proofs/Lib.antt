@@ -8,7 +8,7 @@ pub mod Events
 pub mod Begun
 pub mod Run
 pub mod Counts
-pub mod Indices
 pub mod Final
+pub mod Ordered
 pub mod Shifted
 pub mod Pairs
