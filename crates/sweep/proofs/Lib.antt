@@ -6,4 +6,5 @@ pub mod Under
 pub mod Counted
 pub mod Events
 pub mod Shifted
+pub mod Entries
 pub mod Pairs
