@@ -1,29 +1,29 @@
 -- The entries of the status: each can be read where it stands in the bytes. And what holds of them by their places, as the loops find it, holds of
 -- them as members of a list.
-use Prim.Native.Nat.{ℕ, suc, _+_, _<_, _≤_}
+use Prim.Native.Nat.{ℕ, _+_, _<_, _≤_}
 use native.Mathlib.Decide.{ℕ-discrete}
 use native.Mathlib.Omega.{arith}
-use mir.Val.{boolByte}
-use mathlib.Core.Path.{_≡_, refl, sym, ap, subst, _∙_}
+use mathlib.Core.Path.{_≡_, refl, sym, ap, ap₂, subst, _∙_}
 use mathlib.Core.Bool.{Bool, true, false, not, _&&_, Bool·beq}
-use mathlib.Core.List.{List, [], _∷_, _++_}
+use mathlib.Core.List.{List, [], _∷_}
 use lib.Dec.{T}
 use lib.ListN.{length, getD, take, drop, length-drop}
 use lib.Seq.{length-take-le, take-suc, take-take, getD-take, getD-drop}
 use native.Mathlib.Numerals.{add-one}
-use Rattle.whole.specs.Count.{_∈_, bit, count}
-use Rattle.whole.proofs.Logic.{in-at, in-index}
+use Rattle.whole.specs.Count.{_∈_}
+use Rattle.whole.proofs.Logic.{in-at, in-index, is-true}
+use Rattle.whole.proofs.Parity.{_⊻_, xor-false, parity, parity-nil, parity-cons, parity-append}
 use Rattle.plane.specs.declared.Segment.{Segment}
 use Rattle.plane.specs.Plane.{segmentInRange}
 use Rattle.scene.specs.declared.Scene.{Scene}
 use Rattle.scene.specs.Read.{place, segmentAt, iaAt, IsScene}
 use Rattle.scene.specs.Conditions.{hasSegments, isRegion}
 use Rattle.scene.proofs.Taken.{TakenScene, taken-scene, scene-short}
+use Rattle.scene.proofs.Flags.{upheld}
 use Rattle.scene.proofs.Given.{GoodHalfsegment, good-halfsegment, ia-there}
 use Rattle.sweep.specs.declared.event.Step.the-variants.{On, Stop}
 use Rattle.sweep.specs.Swept.{objectOf, isFirst, strandOf, strandAt, Entry}
-use Rattle.sweep.specs.Ready.{Readable, Legible, Ready}
-use Rattle.sweep.proofs.Counted.{count-append}
+use Rattle.sweep.specs.Ready.{Readable, AllReadable, Ready}
 
 -- ---- an entry's record
 
@@ -60,6 +60,12 @@ same-strand s sc first at e q p r = ap (λ (b : Bool). strandOf s sc b e) q ∙ 
 pub in-range-at : {s : List ℕ} {at : ℕ} {t : Segment} → Readable s at → t ≡ segmentAt s at → T (segmentInRange t)
 in-range-at r e = subst (λ (t : Segment). T (segmentInRange t)) (sym e) (r .in-range)
 
+-- a test that was not refused, of the segment u of the entry e and the segment t of the event: what it says of the entry m where e was read
+pub passed-at : (f : ℕ → Segment → Segment → Bool) (s : List ℕ) (at : ℕ) {m e : ℕ} {u t : Segment} {r : Bool} → e ≡ m → u ≡ segmentAt s e → t ≡ segmentAt s at
+    → r ≡ f e u t → not r ≡ false → T (f m (segmentAt s m) (segmentAt s at))
+passed-at f s at {m} {e} {u} {t} x p q k n =
+    is-true _ (ap (λ (m : ℕ). f m (segmentAt s m) (segmentAt s at)) (sym x) ∙ ap₂ (f e) (sym p) (sym q) ∙ upheld k n)
+
 -- ---- the status
 
 member : (l : List ℕ) (n i : ℕ) → n ≤ length l → i < n → getD l i 0 ∈ take n l
@@ -70,8 +76,8 @@ module _ {s : List ℕ} {sc : Scene} {first : Bool} {at : ℕ} {status : List �
   pub ready-entry : (i : ℕ) → i < n → Entry s sc (getD status i 0)
   ready-entry i h = r .entries (getD status i 0) (member status n i (r .room) h)
 
-  pub ready-legible : Legible s at status n
-  ready-legible = record {
+  pub ready-readable : AllReadable s at status n
+  ready-readable = record {
     event = entry-readable s sc (r .scene) (r .event);
     room = r .room;
     entries = λ i h. entry-readable s sc (r .scene) (ready-entry i h);
@@ -125,18 +131,18 @@ not-on e = let z : _≡_ {A = ℕ} 0 1 = cc in omega arith
 pub same-on : {m n : ℕ} → On m ≡ On n → m ≡ n
 same-on e = cc
 
--- ---- a count of the first entries
+-- ---- the parity of the first entries
 
-pub byte-small : (b : Bool) → boolByte b ≤ 1
-byte-small true = omega arith
-byte-small false = omega arith
+xor-is : (a b : Bool) → not (Bool·beq a b) ≡ a ⊻ b
+xor-is true true = refl
+xor-is true false = refl
+xor-is false true = refl
+xor-is false false = refl
 
-byte-bit : (b : Bool) → boolByte b ≡ bit b
-byte-bit true = refl
-byte-bit false = refl
-
-pub count-one : (f : ℕ → Bool) (l : List ℕ) (i : ℕ) → i < length l → count f (take (i + 1) l) ≡ count f (take i l) + boolByte (f (getD l i 0))
-count-one f l i h =
-    ap (λ (m : ℕ). count f (take m l)) (add-one i)
-    ∙ ap (count f) (take-suc l i 0 h)
-    ∙ omega (arith, count-append f (take i l) (getD l i 0 ∷ []), byte-bit (f (getD l i 0)))
+pub parity-one : (f : ℕ → Bool) (l : List ℕ) (i : ℕ) → i < length l → {odd : Bool} → odd ≡ parity f (take i l)
+    → not (Bool·beq odd (f (getD l i 0))) ≡ parity f (take (i + 1) l)
+parity-one f l i h {odd} e =
+    xor-is odd (f (getD l i 0))
+    ∙ ap₂ _⊻_ e (sym (xor-false (f (getD l i 0))) ∙ ap (λ (b : Bool). f (getD l i 0) ⊻ b) (sym (parity-nil f)) ∙ sym (parity-cons f (getD l i 0) []))
+    ∙ sym (parity-append f (take i l) (getD l i 0 ∷ []))
+    ∙ ap (parity f) (sym (take-suc l i 0 h) ∙ ap (λ (m : ℕ). take m l) (sym (add-one i)))

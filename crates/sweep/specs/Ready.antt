@@ -17,7 +17,7 @@ pub record Readable (s : List ℕ) (at : ℕ) : Type 0 where
   pub in-range : T (segmentInRange (segmentAt s at))
 
 -- the event's record and those of the first n entries are such
-pub record Legible (s : List ℕ) (at : ℕ) (status : List ℕ) (n : ℕ) : Type 0 where
+pub record AllReadable (s : List ℕ) (at : ℕ) (status : List ℕ) (n : ℕ) : Type 0 where
   pub event : Readable s at
   pub room : n ≤ length status
   pub entries : (i : ℕ) → i < n → Readable s (getD status i 0)

@@ -18,7 +18,7 @@ ghost use Rattle.scene.specs.Read.{segmentAt, iaAt, IsScene};
 ghost use Rattle.scene.specs.Conditions.{isRegion};
 ghost use Rattle.sweep.specs.Lower.{passesUnder, passesOver};
 ghost use Rattle.sweep.specs.Swept.{underBeginning, underEnd, objectOf, strandOf, isFirst, strandAt, Began, Ended, Entry};
-ghost use Rattle.sweep.specs.Ready.{Legible, Ready};
+ghost use Rattle.sweep.specs.Ready.{AllReadable, Ready};
 
 // The number of entries that are now in use; or the sweep gives up.
 pub enum Step {
@@ -90,7 +90,7 @@ fn is_over_end(u: Segment, t: Segment) -> bool
 
 // How many entries from the bottom belong under the segment at an offset.
 fn count_under(s: &[u8], scene: Scene, first: bool, at: usize, status: &[u16], n: usize) -> usize
-    requires { ⌜ Legible (now s) at (now status) n ⌝ }
+    requires { ⌜ AllReadable (now s) at (now status) n ⌝ }
     ensures { λ r. ⌜ (r ≤ n) × ((i : ℕ) → i < r → T (underBeginning (strandOf (now (s .entry)) scene first at) (strandAt (now (s .entry)) scene (getD (now (status .entry)) i 0)))) ⌝ }
 {
     let t = bytes::segment(s, at);
@@ -110,7 +110,7 @@ fn count_under(s: &[u8], scene: Scene, first: bool, at: usize, status: &[u16], n
 
 // Do the entries from k on pass over its left end?
 fn are_over(s: &[u8], at: usize, status: &[u16], k: usize, n: usize) -> bool
-    requires { ⌜ Legible (now s) at (now status) n ⌝ }
+    requires { ⌜ AllReadable (now s) at (now status) n ⌝ }
     ensures { λ r. ⌜ (T r → (i : ℕ) → k ≤ i → i < n → T (passesOver (segmentAt (now (s .entry)) (getD (now (status .entry)) i 0)) (segmentAt (now (s .entry)) at .left))) ⌝ }
 {
     let t = bytes::segment(s, at);
@@ -124,18 +124,18 @@ fn are_over(s: &[u8], at: usize, status: &[u16], k: usize, n: usize) -> bool
     true
 }
 
-// How many of the first k entries are of F, or not? G starts at an offset.
-fn count_own(start: usize, first: bool, status: &[u16], k: usize) -> usize
+// Are an odd number of the first k entries of F, or not of F? G starts at an offset.
+fn has_odd_own(start: usize, first: bool, status: &[u16], k: usize) -> bool
     requires { ⌜ k ≤ length (now status) ⌝ }
-    ensures { λ r. ⌜ r ≡ count (λ e. Bool·beq first (ltb e start)) (take k (now (status .entry))) ⌝ }
+    ensures { λ r. ⌜ r ≡ odd (count (λ e. Bool·beq first (ltb e start)) (take k (now (status .entry)))) ⌝ }
 {
-    let mut n: usize = 0;
+    let mut odd = false;
     let mut i: usize = 0;
     while i < k {
-        n += (first == (wide(status[i]) < start)) as usize;
+        odd = odd != (first == (wide(status[i]) < start));
         i += 1;
     }
-    n
+    odd
 }
 
 fn is_region(k: Shape) -> bool
@@ -179,8 +179,7 @@ fn has_right_ia(
         return true;
     }
     let g = scene.g;
-    let odd = count_own(g.start, first, status, k) % 2 == 1;
-    odd != bytes::ia(s, at)
+    has_odd_own(g.start, first, status, k) != bytes::ia(s, at)
 }
 
 // The left halfsegment at an offset.
@@ -245,7 +244,7 @@ fn own_place(s: &[u8], scene: Scene, first: bool, at: usize, status: &[u16], n: 
 
 // Do the entries from k on belong over the segment that ends?
 fn are_over_end(s: &[u8], at: usize, status: &[u16], k: usize, n: usize) -> bool
-    requires { ⌜ Legible (now s) at (now status) n ⌝ }
+    requires { ⌜ AllReadable (now s) at (now status) n ⌝ }
     ensures { λ r. ⌜ (T r → (i : ℕ) → k ≤ i → i < n → T (passesOver (segmentAt (now (s .entry)) (getD (now (status .entry)) i 0)) (segmentAt (now (s .entry)) at .right) || sameSegment (segmentAt (now (s .entry)) (getD (now (status .entry)) i 0)) (segmentAt (now (s .entry)) at))) ⌝ }
 {
     let t = bytes::segment(s, at);

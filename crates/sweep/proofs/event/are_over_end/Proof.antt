@@ -2,19 +2,17 @@
 -- entries that are left.
 use Prim.Native.Nat.{ℕ, _-_, _<_, _≤_}
 use native.Mathlib.Omega.{arith}
-use mathlib.Core.Path.{sym, ap, ap₂, subst, _∙_}
+use mathlib.Core.Path.{sym, subst}
 use mathlib.Core.Bool.{Bool, _||_}
 use borrow.Author.Needs.{needs}
 use lib.ListN.{getD}
 use lib.Dec.{T}
 use Rattle.plane.specs.Plane.{sameSegment}
 use Rattle.scene.specs.Read.{segmentAt}
-use Rattle.scene.proofs.Flags.{upheld}
-use Rattle.whole.proofs.Logic.{is-true}
 use Rattle.plane.specs.declared.Segment.{Segment}
 use Rattle.sweep.specs.Ready.{Readable}
 use Rattle.sweep.specs.Lower.{passesOver}
-use Rattle.sweep.proofs.Entries.{in-range-at, one-more}
+use Rattle.sweep.proofs.Entries.{in-range-at, passed-at, one-more}
 use Rattle.sweep.proofs.event.are_over_end.Statement.{statement}
 use Rattle.sweep.proofs.event.are_over_end.Tie as tie
 
@@ -72,12 +70,8 @@ loop-again : tie.Need-loop-again Inv-loop μ-loop
 loop-again c =
     let u = c .before .before in
     let e = u .before in
-    let a = z e .args in
     one-more (d e .loop .i) (d e .loop .inv)
-    (λ b. is-true _
-    (ap (λ (m : ℕ). isOver (segmentAt (a .s .now) m) (segmentAt (a .s .now) (a .at))) (sym (e .wide .ensures))
-    ∙ ap₂ isOver (sym (u .segment2 .ensures)) (sym (d e .before .segment .ensures))
-    ∙ upheld (c .before .is-over-end .ensures) (c .if1 .left)))
+    (λ b. passed-at (λ m. isOver) (z e .args .s .now) (z e .args .at) (e .wide .ensures) (u .segment2 .ensures) (d e .before .segment .ensures) (c .before .is-over-end .ensures) (c .if1 .left))
 
 returns-2 : tie.Need-returns-2 Inv-loop μ-loop
 returns-2 c = λ yes i a b. c .before .loop .inv i (omega arith) a

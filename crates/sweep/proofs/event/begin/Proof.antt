@@ -14,7 +14,7 @@ use Rattle.whole.proofs.Logic.{is-true}
 use Rattle.scene.specs.Read.{segmentAt}
 use Rattle.sweep.specs.Lower.{passesOver}
 use Rattle.sweep.specs.Swept.{underBeginning, strandOf, strandAt, isFirst, Began}
-use Rattle.sweep.proofs.Entries.{ready-legible, entry-small, of-first, of-rest, not-on, same-on}
+use Rattle.sweep.proofs.Entries.{ready-readable, entry-small, of-first, of-rest, not-on, same-on}
 use Rattle.sweep.proofs.event.begin.Statement.{statement}
 use Rattle.sweep.proofs.event.begin.Tie as tie
 
@@ -58,10 +58,10 @@ returns : tie.Need-returns
 returns c = (refl, λ m e. absurd (not-on e))
 
 count-under-requires : tie.Need-count-under-requires
-count-under-requires c κs = ready-legible (c .before .before .before .before .pre)
+count-under-requires c κs = ready-readable (c .before .before .before .before .pre)
 
 are-over-requires : tie.Need-are-over-requires
-are-over-requires c κs = ready-legible (c .before .before .before .before .before .before .pre)
+are-over-requires c κs = ready-readable (c .before .before .before .before .before .before .pre)
 
 same-length : tie.Need-same-length
 same-length c = search needs

@@ -2,7 +2,7 @@
 -- that are left.
 use Prim.Native.Nat.{ℕ, _-_, _<_, _≤_}
 use native.Mathlib.Omega.{arith}
-use mathlib.Core.Path.{sym, ap, ap₂, subst, _∙_}
+use mathlib.Core.Path.{sym, subst}
 use mathlib.Core.Bool.{Bool, not, _&&_, _||_, Bool·beq}
 use borrow.Author.Needs.{needs}
 use lib.ListN.{getD}
@@ -10,11 +10,9 @@ use lib.Dec.{T, ltb}
 use Rattle.plane.specs.declared.Segment.{Segment}
 use Rattle.plane.specs.Plane.{samePoint, sameSegment}
 use Rattle.scene.specs.Read.{segmentAt}
-use Rattle.scene.proofs.Flags.{upheld}
-use Rattle.whole.proofs.Logic.{is-true}
 use Rattle.sweep.specs.Ready.{Readable}
 use Rattle.sweep.specs.Lower.{passesUnder}
-use Rattle.sweep.proofs.Entries.{in-range-at, one-more}
+use Rattle.sweep.proofs.Entries.{in-range-at, passed-at, one-more}
 use Rattle.sweep.proofs.event.count_under.Statement.{statement}
 use Rattle.sweep.proofs.event.count_under.Tie as tie
 
@@ -78,10 +76,8 @@ loop-again c =
     let a = z e .args in (
       omega arith,
       one-more (d e .loop .k) (d e .loop .inv .1)
-          (is-true _
-          (ap (λ (m : ℕ). isUnder (segmentAt (a .s .now) m) (segmentAt (a .s .now) (a .at)) (Bool·beq (a .first) (ltb m (a .scene .g .start)))) (sym (e .wide .ensures))
-          ∙ ap₂ (λ (v t : Segment). isUnder v t (Bool·beq (a .first) (ltb (e .wide .result) (a .scene .g .start)))) (sym (u .segment2 .ensures)) (sym (d e .before .before .segment .ensures))
-          ∙ upheld (c .before .is-under-beginning .ensures) (c .if1 .left))),
+          (passed-at (λ m v t. isUnder v t (Bool·beq (a .first) (ltb m (a .scene .g .start)))) (a .s .now) (a .at)
+          (e .wide .ensures) (u .segment2 .ensures) (d e .before .before .segment .ensures) (c .before .is-under-beginning .ensures) (c .if1 .left)),
     )
 
 returns-2 : tie.Need-returns-2 Inv-loop μ-loop

@@ -9,7 +9,7 @@ use lib.ListN.{take}
 use lib.Seq.{length-take-le, getD-take}
 use Rattle.whole.proofs.Logic.{is-true}
 use Rattle.sweep.specs.Swept.{underEnd, overEnd, strandOf, strandAt, Ended}
-use Rattle.sweep.proofs.Entries.{ready-legible, of-first, of-rest, not-on, same-on}
+use Rattle.sweep.proofs.Entries.{ready-readable, of-first, of-rest, not-on, same-on}
 use Rattle.sweep.proofs.event.end.Statement.{statement}
 use Rattle.sweep.proofs.event.end.Tie as tie
 
@@ -61,7 +61,7 @@ add-are-over-end : tie.Need-add-are-over-end
 add-are-over-end c = search needs
 
 are-over-end-requires : tie.Need-are-over-end-requires
-are-over-end-requires c κs = ready-legible (c .before .before .before .before .before .before .pre)
+are-over-end-requires c κs = ready-readable (c .before .before .before .before .before .before .pre)
 
 same-length-2 : tie.Need-same-length-2
 same-length-2 c = search needs

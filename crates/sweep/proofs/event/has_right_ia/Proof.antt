@@ -1,19 +1,13 @@
 -- `sweep::event::has_right_ia` meets its contract: the number of own entries below is odd exactly if ia is not set.
-use Prim.Native.Nat.{ℕ, _%_}
-use mathlib.Core.Path.{_≡_, refl, sym, ap, subst, _∙_}
-use mathlib.Core.Bool.{Bool, not}
+use mathlib.Core.Path.{sym, ap, subst, _∙_}
+use mathlib.Core.Bool.{not}
 use borrow.Author.Needs.{needs}
-use lib.Dec.{T, eqb}
-use Rattle.whole.specs.Count.{odd}
+use lib.Dec.{T}
 use Rattle.whole.proofs.Logic.{is-true}
 use Rattle.scene.proofs.Flags.{upheld, refuted}
 use Rattle.sweep.proofs.Entries.{entry-ia, beq-other}
 use Rattle.sweep.proofs.event.has_right_ia.Statement.{statement}
 use Rattle.sweep.proofs.event.has_right_ia.Tie as tie
-
-remainder : (n : ℕ) → odd n ≡ eqb (n % 2) 1
-unfolding odd
-remainder n = refl
 
 has-region-requires : tie.Need-has-region-requires
 has-region-requires c κs = search needs
@@ -23,8 +17,8 @@ returns c =
     let a = c .before .before .before .before .args in
     λ yes region. absurd (subst T (refuted (c .before .has-region .ensures (a .s .now)) (c .if1 .taken)) region)
 
-count-own-requires : tie.Need-count-own-requires
-count-own-requires c κs = search needs
+has-odd-own-requires : tie.Need-has-odd-own-requires
+has-odd-own-requires c κs = search needs
 
 ia-requires : tie.Need-ia-requires
 ia-requires c κs =
@@ -35,9 +29,9 @@ ia-requires c κs =
 
 returns-2 : tie.Need-returns-2
 returns-2 c =
-    let n = c .before .count-own in
-    λ yes region. ap odd (sym (n .ensures)) ∙ remainder (n .result) ∙ beq-other (eqb (n .result % 2) 1) (c .ia .result) yes ∙ ap not (c .ia .ensures)
+    let odd = c .before .has-odd-own in
+    λ yes region. sym (odd .ensures) ∙ beq-other (odd .result) (c .ia .result) yes ∙ ap not (c .ia .ensures)
 
 pub has-right-ia-spec : {M : Type 1} → statement M
 has-right-ia-spec =
-    tie.close (tie.spec has-region-requires returns count-own-requires ia-requires returns-2)
+    tie.close (tie.spec has-region-requires returns has-odd-own-requires ia-requires returns-2)

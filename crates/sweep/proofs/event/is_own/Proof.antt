@@ -1,11 +1,10 @@
 -- `sweep::event::is_own` meets its contract: the object, the segment and the ia are the same.
-use mathlib.Core.Path.{_≡_, sym, ap, subst, _∙_}
+use mathlib.Core.Path.{_≡_, sym, ap, _∙_}
 use mathlib.Core.Bool.{Bool, _&&_, Bool·beq}
 use borrow.Author.Needs.{needs}
 use borrow.Author.Tests.{not-false}
 use lib.Dec.{T, ltb}
 use Rattle.whole.proofs.Logic.{is-true, true-is}
-use Rattle.plane.specs.Plane.{sameSegment}
 use Rattle.plane.proofs.Equal.{sameSegment-read}
 use Rattle.scene.specs.Read.{segmentAt}
 use Rattle.scene.specs.Conditions.{isRegion}

@@ -2,7 +2,7 @@
 -- number of entries that are left.
 use Prim.Native.Nat.{ℕ, _-_, _<_, _≤_}
 use native.Mathlib.Omega.{arith}
-use mathlib.Core.Path.{sym, ap, ap₂, subst, _∙_}
+use mathlib.Core.Path.{sym, ap, subst, _∙_}
 use mathlib.Core.Bool.{Bool, _||_}
 use borrow.Author.Needs.{needs}
 use lib.ListN.{getD}
@@ -11,12 +11,10 @@ use Rattle.whole.proofs.Logic.{is-true}
 use Rattle.plane.specs.declared.Segment.{Segment}
 use Rattle.plane.specs.Plane.{samePoint}
 use Rattle.scene.specs.Read.{segmentAt}
-use Rattle.scene.proofs.Flags.{upheld}
 use Rattle.sweep.specs.Lower.{passesUnder}
-use Rattle.sweep.specs.Kept.{Strand}
-use Rattle.sweep.specs.Swept.{strandAt, strandOf, Entry}
+use Rattle.sweep.specs.Swept.{strandAt, Entry}
 use Rattle.sweep.specs.Ready.{Readable}
-use Rattle.sweep.proofs.Entries.{entry-readable, ready-entry, in-range-at, one-more}
+use Rattle.sweep.proofs.Entries.{entry-readable, ready-entry, in-range-at, passed-at, one-more}
 use Rattle.sweep.proofs.event.own_place.Statement.{statement}
 use Rattle.sweep.proofs.event.own_place.Tie as tie
 
@@ -97,14 +95,10 @@ loop-less c = omega arith
 loop-again : tie.Need-loop-again Inv-loop μ-loop
 loop-again c =
     let u = c .before .before in
-    let e = u .before .before .before in
-    let a = z e .args in (
+    let e = u .before .before .before in (
       omega arith,
       one-more (d e .loop .k) (d e .loop .inv .1)
-          (is-true _
-          (ap (λ (m : ℕ). isUnder (segmentAt (a .s .now) m) (segmentAt (a .s .now) (a .at))) (sym (e .wide .ensures))
-          ∙ ap₂ isUnder (sym (u .segment2 .ensures)) (sym (d e .before .segment .ensures))
-          ∙ upheld (c .before .is-under-end .ensures) (c .if2 .left))),
+          (passed-at (λ m. isUnder) (z e .args .s .now) (z e .args .at) (e .wide .ensures) (u .segment2 .ensures) (d e .before .segment .ensures) (c .before .is-under-end .ensures) (c .if2 .left)),
     )
 
 returns-3 : tie.Need-returns-3 Inv-loop μ-loop
