@@ -1,7 +1,7 @@
 -- `sweep::event::end` meets its contract: what the searches found by places holds of the members.
 use Prim.Native.Nat.{ℕ, suc, _+_, _-_, _<_}
 use native.Mathlib.Omega.{arith}
-use mathlib.Core.Path.{_≡_, refl, ap, subst, _∙_}
+use mathlib.Core.Path.{_≡_, refl, sym, subst}
 use borrow.Author.Needs.{needs}
 use borrow.Author.Tests.{not-false}
 use lib.Dec.{T}
@@ -41,7 +41,7 @@ module _ (c : tie.After-remove) where
       record {
         position = k;
         there = omega (arith, length-take-le n l (z .pre .room), in-use);
-        own = ap (strandAt s sc) (getD-take n l k 0 in-use) ∙ found .own-place .ensures .1 in-use .0;
+        own = subst (λ (e : ℕ). strandAt s sc e ≡ own) (sym (getD-take n l k 0 in-use)) (found .own-place .ensures .1 in-use .0);
         new-is = c .remove .ensures .1;
         under-it = of-first (λ e. T (underEnd own (strandAt s sc e))) l n k (z .pre .room) (found .own-place .ensures .0) (found .own-place .ensures .1 in-use .1);
         over-it = of-rest (λ e. T (overEnd own (strandAt s sc e))) l n (suc k) (z .pre .room)
