@@ -163,16 +163,8 @@ fn has_region(scene: Scene, first: bool) -> bool
 }
 
 // A region's interior is above a segment where an even number of its own pass under it.
-fn has_right_ia(
-    s: &[u8],
-    scene: Scene,
-    first: bool,
-    at: usize,
-    status: &[u16],
-    n: usize,
-    k: usize,
-) -> bool
-    requires { ⌜ Ready (now s) scene first at (now status) n × (k ≤ n) ⌝ }
+fn has_right_ia(s: &[u8], scene: Scene, first: bool, at: usize, status: &[u16], k: usize) -> bool
+    requires { ⌜ IsScene (now s) scene × Entry (now s) scene at × (isFirst (now s) scene at ≡ first) × (k ≤ length (now status)) ⌝ }
     ensures { λ r. ⌜ (T r → T (isRegion (objectOf (now (s .entry)) scene first .shape)) → odd (count (λ e. Bool·beq first (isFirst (now (s .entry)) scene e)) (take k (now (status .entry)))) ≡ not (iaAt (now (s .entry)) at)) ⌝ }
 {
     if !has_region(scene, first) {
@@ -194,7 +186,7 @@ pub fn begin(s: &[u8], scene: Scene, first: bool, at: usize, status: &mut [u16],
     if !are_over(s, at, status, k, n) {
         return Step::Stop;
     }
-    if !has_right_ia(s, scene, first, at, status, n, k) {
+    if !has_right_ia(s, scene, first, at, status, k) {
         return Step::Stop;
     }
     status::insert(status, n, k, at as u16);

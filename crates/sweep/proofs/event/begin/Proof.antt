@@ -70,7 +70,10 @@ returns-2 : tie.Need-returns-2
 returns-2 c = (refl, λ m e. absurd (not-on e))
 
 has-right-ia-requires : tie.Need-has-right-ia-requires
-has-right-ia-requires c κs = search needs
+has-right-ia-requires c κs =
+    let u = c .before .before .before .before in
+    let p = u .before .before .before .before .before .pre in
+    (p .scene, p .event, p .object, omega (arith, u .count-under .ensures .0, p .room))
 
 same-length-2 : tie.Need-same-length-2
 same-length-2 c = search needs

@@ -24,8 +24,8 @@ ia-requires : tie.Need-ia-requires
 ia-requires c κs =
     let e = c .before .before in
     let z = e .before .before .before .before in
-    let r = z .pre .0 in
-    entry-ia (z .args .s .now) (z .args .scene) (r .scene) (r .object) (r .event) (is-true _ (upheld (e .before .has-region .ensures (z .args .s .now)) (e .if1 .left)))
+    entry-ia (z .args .s .now) (z .args .scene) (z .pre .0) (z .pre .2) (z .pre .1)
+    (is-true _ (upheld (e .before .has-region .ensures (z .args .s .now)) (e .if1 .left)))
 
 returns-2 : tie.Need-returns-2
 returns-2 c =
