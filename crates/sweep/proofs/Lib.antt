@@ -11,4 +11,5 @@ pub mod Counts
 pub mod Final
 pub mod Ordered
 pub mod Shifted
+pub mod Entries
 pub mod Pairs

@@ -1,18 +1,15 @@
--- Lists with one entry more or less: the loops that shift an array's entries by one, and what holds of the entries after it.
+-- Lists with one entry more or less: the loops that shift an array's entries by one, and what is among the entries after it.
 use Prim.Native.Nat.{ℕ, zero, suc, _+_, _-_, _<_, _≤_}
 use native.Mathlib.Nat.{zero-add, suc-add}
 use native.Mathlib.Omega.{arith}
 use mathlib.Core.Path.{_≡_, sym, ap, ap₂, subst, _∙_}
 use mathlib.Core.Logic.{_⊎_, inl, inr, ⊎-elim}
-use mathlib.Core.Bool.{Bool}
 use mathlib.Core.List.{List, [], _∷_, _++_, append-assoc}
 use lib.ListN.{length, take, drop, set, getD, length-append, length-drop, take-append-drop, List·getD-append}
-use lib.Seq.{length-take-le, take-suc, take-nil, take-take, take-at, drop-at, set-at, getD-at, split-at, append-snoc, getD-take, getD-drop, getD-append-add}
+use lib.Seq.{length-take-le, take-suc, take-nil, take-take, take-at, drop-at, set-at, split-at, append-snoc, getD-take, getD-drop, getD-append-add}
 use lib.Seq.{paste, paste-zero, paste-suc, take-paste, length-paste-head, slice, slice-empty, slice-cons, length-slice}
-use lib.Dec.{T}
-use Rattle.whole.specs.Count.{_∈_, here, there, every}
-use Rattle.whole.proofs.Logic.{every-at, every-make, in-cons, in-left, in-right, in-append}
-use Rattle.whole.proofs.Parity.{_⊻_, xor-comm, xor-assoc, parity, parity-cons, parity-append}
+use Rattle.whole.specs.Count.{_∈_, here, there}
+use Rattle.whole.proofs.Logic.{in-cons, in-left, in-right, in-append}
 use Rattle.sweep.specs.Status.{inserted, removed}
 
 -- the first m of what is left after f
@@ -119,55 +116,7 @@ module _ {A : Type 0} (d : A) (l : List A) where
         all : suc k + (n - 1 - k) ≡ n
         all = omega arith
 
--- ---- the entries after it: by index
-
--- the entry i of the status is the array's at i
-pub entry : {A : Type 0} (d : A) (n : ℕ) (array : List A) (i : ℕ) → i < n → getD (take n array) i d ≡ getD array i d
-entry d n array i h = getD-take n array i d h
-
-module _ {A : Type 0} (d : A) (k : ℕ) (l : List A) (within : k ≤ length l) where
-  below : (i : ℕ) → i < k → (r : List A) → getD (take k l ++ r) i d ≡ getD l i d
-  below i h r = List·getD-append (take k l) r d i (subst (λ (m : ℕ). i < m) (sym (length-take-le k l within)) h) ∙ getD-take k l i d h
-
-  above : (j : ℕ) (r : List A) → getD (take k l ++ r) (k + j) d ≡ getD r j d
-  above j r = ap (λ (m : ℕ). getD (take k l ++ r) (m + j) d) (sym (length-take-le k l within)) ∙ getD-append-add (take k l) r j d
-
-  pub inserted-below : (a : A) (i : ℕ) → i < k → getD (inserted k a l) i d ≡ getD l i d
-  inserted-below a i h = below i h (a ∷ drop k l)
-
-  pub inserted-here : (a : A) → getD (inserted k a l) k d ≡ a
-  inserted-here a = getD-at (take k l) a (drop k l) d k (length-take-le k l within)
-
-  pub inserted-above : (a : A) (i : ℕ) → k ≤ i → getD (inserted k a l) (suc i) d ≡ getD l i d
-  inserted-above a i h =
-      ap (λ (m : ℕ). getD (inserted k a l) m d) up
-      ∙ above (suc (i - k)) (a ∷ drop k l)
-      ∙ getD-drop k l (i - k) d
-      ∙ ap (λ (m : ℕ). getD l m d) back
-    where
-      up : suc i ≡ k + suc (i - k)
-      up = omega arith
-
-      back : k + (i - k) ≡ i
-      back = omega arith
-
-  pub removed-below : (i : ℕ) → i < k → getD (removed k l) i d ≡ getD l i d
-  removed-below i h = below i h (drop (suc k) l)
-
-  pub removed-above : (i : ℕ) → k ≤ i → getD (removed k l) i d ≡ getD l (suc i) d
-  removed-above i h =
-      ap (λ (m : ℕ). getD (removed k l) m d) up
-      ∙ above (i - k) (drop (suc k) l)
-      ∙ getD-drop (suc k) l (i - k) d
-      ∙ ap (λ (m : ℕ). getD l m d) back
-    where
-      up : i ≡ k + (i - k)
-      up = omega arith
-
-      back : suc k + (i - k) ≡ suc i
-      back = omega arith
-
--- ---- which they are
+-- ---- what is among the entries
 
 module _ {A : Type 0} where
   -- what is removed goes back where it was
@@ -200,23 +149,8 @@ module _ {A : Type 0} where
         whole : b ∈ (take k l ++ drop k l) → b ∈ l
         whole q = subst (λ (r : List A). b ∈ r) (take-append-drop k l) q
 
-    pub parity-inserted : (f : A → Bool) (a : A) → parity f (inserted k a l) ≡ f a ⊻ parity f l
-    parity-inserted f a =
-        parity-append f (take k l) (a ∷ drop k l)
-        ∙ ap (λ (b : Bool). parity f (take k l) ⊻ b) (parity-cons f a (drop k l))
-        ∙ sym (xor-assoc (parity f (take k l)) (f a) (parity f (drop k l)))
-        ∙ ap (λ (b : Bool). b ⊻ parity f (drop k l)) (xor-comm (parity f (take k l)) (f a))
-        ∙ xor-assoc (f a) (parity f (take k l)) (parity f (drop k l))
-        ∙ ap (λ (b : Bool). f a ⊻ b) (sym (parity-append f (take k l) (drop k l)) ∙ ap (parity f) (take-append-drop k l))
-
-    pub every-inserted : (f : A → Bool) (a : A) → T (f a) → T (every f l) → T (every f (inserted k a l))
-    every-inserted f a new old = every-make f (inserted k a l) (λ b m. ⊎-elim (λ e. subst (λ (x : A). T (f x)) (sym e) new) (λ q. every-at f old q) (in-inserted m))
-
   pub in-removed : (d : A) (k : ℕ) (l : List A) → k < length l → {b : A} → b ∈ removed k l → b ∈ l
   in-removed d k l h {b} m = subst (λ (r : List A). b ∈ r) (inserted-removed d k l h) (inserted-old k (removed k l) (getD l k d) m)
 
   pub removed-rest : (d : A) (k : ℕ) (l : List A) → k < length l → {b : A} → b ∈ l → (b ≡ getD l k d) ⊎ (b ∈ removed k l)
   removed-rest d k l h {b} m = in-inserted k (removed k l) (subst (λ (r : List A). b ∈ r) (sym (inserted-removed d k l h)) m)
-
-  pub parity-removed : (d : A) (k : ℕ) (l : List A) → k < length l → (f : A → Bool) → parity f l ≡ f (getD l k d) ⊻ parity f (removed k l)
-  parity-removed d k l h f = ap (parity f) (sym (inserted-removed d k l h)) ∙ parity-inserted k (removed k l) f (getD l k d)

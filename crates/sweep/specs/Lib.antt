@@ -4,3 +4,4 @@ pub mod Status
 pub mod Evenly
 pub mod Kept
 pub mod Swept
+pub mod Ready
