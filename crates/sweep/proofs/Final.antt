@@ -26,12 +26,11 @@ use Rattle.segments.proofs.Indices.{element-in, in-element, keep-in, no-fault}
 use Rattle.sweep.specs.Lower.{under}
 use Rattle.sweep.specs.Evenly.{EndsEvenly, dominatedBy}
 use Rattle.sweep.specs.Kept.{Strand, ownUnder, ownEqual, Kept}
-use Rattle.sweep.specs.Swept.{objectOf, strandOf, isBeginning, strandsBy, Passes}
+use Rattle.sweep.specs.Swept.{objectOf, strandOf, isBeginning, strandsBy, total, Passes}
 use Rattle.sweep.proofs.Start.{start-interior}
 use Rattle.sweep.proofs.Begun.{strandBy, reached, strands, Of, find-of, make-of}
-use Rattle.sweep.proofs.Run.{total, Orderly, Run}
+use Rattle.sweep.proofs.Run.{Orderly, Run}
 use Rattle.sweep.proofs.Counts.{count-by, count-own, count-segments}
-
 
 module _ (s : List ℕ) (sc : Scene) (o : Orderly s sc) (run : Run s sc (total s sc true) (total s sc false) [])
     (evenly : (first : Bool) → T (isRegion (objectOf s sc first .shape)) → EndsEvenly s (objectOf s sc first)) where

@@ -24,9 +24,9 @@ use Rattle.scene.specs.Conditions.{hasSegments, half, outOfOrder}
 use Rattle.scene.proofs.Taken.{TakenScene, taken-scene}
 use Rattle.segments.proofs.Elements.{half-good}
 use Rattle.segments.proofs.Indices.{halves-rise}
-use Rattle.sweep.specs.Swept.{objectOf, isFirst}
+use Rattle.sweep.specs.Swept.{objectOf, isFirst, total}
 use Rattle.sweep.proofs.Under.{NotBefore}
-use Rattle.sweep.proofs.Run.{total, pointOf, Orderly}
+use Rattle.sweep.proofs.Run.{pointOf, Orderly}
 
 -- an element that comes before another has the earlier dominating point, or the same
 comes-point : (h k : Halfsegment) → T (comesBefore h k) → T (before (dominating h) (dominating k)) ⊎ (dominating h ≡ dominating k)

@@ -23,7 +23,7 @@ use Rattle.scene.specs.Conditions.{hasSegments, isRegion}
 use Rattle.sweep.specs.Lower.{passesUnder, passesOver}
 use Rattle.sweep.specs.Kept.{Strand, sameObject, Kept}
 use Rattle.sweep.specs.Status.{inserted, removed}
-use Rattle.sweep.specs.Swept.{underBeginning, underEnd, overEnd, objectOf, strandOf, isFirst, strandAt, isBeginning, Began, Ended, Entry}
+use Rattle.sweep.specs.Swept.{underBeginning, underEnd, overEnd, objectOf, strandOf, isFirst, strandAt, isBeginning, Began, Ended, Taken, it-began, it-ended, total}
 use Rattle.sweep.proofs.Under.{NotBefore}
 use Rattle.sweep.proofs.Events.{Reached, UnderBeginning, passing, turning, equal, UnderEnd, passing-end, ending, OverEnd, passing-over, equal-over, begins, ends}
 use Rattle.sweep.proofs.Counted.{in-between, or-between}
@@ -59,17 +59,14 @@ module _ {A B : Type 0} (f : A → B) where
   count-map g (a ∷ l) = omega (arith, count-map g l)
 
 module _ (s : List ℕ) (sc : Scene) where
-  abbrev pub total : Bool → ℕ
-  total first = cond (hasSegments (objectOf s sc first .shape)) (objectOf s sc first .count) 0
-
   abbrev pub pointOf : Bool → ℕ → Point
   pointOf first k = dominating (halfsegmentAt s (place (objectOf s sc first) k))
 
   -- what a scene gives that has been read and is in order
   pub record Orderly : Type 0 where
-    pub sound : (first : Bool) (k : ℕ) → k < total first → T (ordered (segmentAt s (place (objectOf s sc first) k)))
-    pub owned : (first : Bool) (k : ℕ) → k < total first → isFirst s sc (place (objectOf s sc first) k) ≡ first
-    pub rises : (first : Bool) (k m : ℕ) → k < m → m < total first → NotBefore (pointOf first m) (pointOf first k)
+    pub sound : (first : Bool) (k : ℕ) → k < total s sc first → T (ordered (segmentAt s (place (objectOf s sc first) k)))
+    pub owned : (first : Bool) (k : ℕ) → k < total s sc first → isFirst s sc (place (objectOf s sc first) k) ≡ first
+    pub rises : (first : Bool) (k m : ℕ) → k < m → m < total s sc first → NotBefore (pointOf first m) (pointOf first k)
 
   abbrev isRegionOf : Bool → Bool
   isRegionOf first = isRegion (objectOf s sc first .shape)
@@ -78,7 +75,7 @@ module _ (s : List ℕ) (sc : Scene) where
   pub record EndsLater (i j : ℕ) (e : ℕ) : Type 0 where
     pub index : ℕ
     pub to-come : reached s sc i j (isFirst s sc e) ≤ index
-    pub within : index < total (isFirst s sc e)
+    pub within : index < total s sc (isFirst s sc e)
     pub is-end : isBeginning s sc (isFirst s sc e) index ≡ false
     pub is : strandBy s sc (isFirst s sc e) index ≡ strandAt s sc e
 
@@ -87,7 +84,7 @@ module _ (s : List ℕ) (sc : Scene) where
 
   -- i elements of F and j of G have been taken
   pub record Run (i j : ℕ) (entries : List ℕ) : Type 0 where
-    pub in-time : (first other : Bool) (k m : ℕ) → k < reached s sc i j first → reached s sc i j other ≤ m → m < total other
+    pub in-time : (first other : Bool) (k m : ℕ) → k < reached s sc i j first → reached s sc i j other ≤ m → m < total s sc other
         → NotBefore (pointOf other m) (pointOf first k)
     pub kept : AllEndLater i j entries → Kept isRegionOf (strands s sc true i j) (strands s sc false i j) (map (strandAt s sc) entries)
 
@@ -107,8 +104,8 @@ module _ (s : List ℕ) (sc : Scene) where
   abbrev ownOf : ℕ → ℕ → Bool → Strand
   ownOf i j first = strandOf s sc first (placeOf i j first)
 
-  module _ (o : Orderly) {i j : ℕ} {entries : List ℕ} (run : Run i j entries) (first : Bool) (more : reached s sc i j first < total first)
-      (least : (other : Bool) (m : ℕ) → reached s sc i j other ≤ m → m < total other → NotBefore (pointOf other m) (pointOf first (reached s sc i j first))) where
+  module _ (o : Orderly) {i j : ℕ} {entries : List ℕ} (run : Run i j entries) (first : Bool) (more : reached s sc i j first < total s sc first)
+      (least : (other : Bool) (m : ℕ) → reached s sc i j other ≤ m → m < total s sc other → NotBefore (pointOf other m) (pointOf first (reached s sc i j first))) where
     reaches : AllEndLater i j entries → Reached (pointOf first (reached s sc i j first)) (strands s sc true i j) (strands s sc false i j) (map (strandAt s sc) entries)
     reaches later =
         record {
@@ -180,7 +177,7 @@ module _ (s : List ℕ) (sc : Scene) where
       weaken : {e : ℕ} → EndsLater i′ j′ e → EndsLater i j e
       weaken {e} l = record { index = l .index; to-come = omega (arith, grows (isFirst s sc e), l .to-come); within = l .within; is-end = l .is-end; is = l .is }
 
-      in-time-on : (b other : Bool) (k m : ℕ) → k < reached s sc i′ j′ b → reached s sc i′ j′ other ≤ m → m < total other → NotBefore (pointOf other m) (pointOf b k)
+      in-time-on : (b other : Bool) (k m : ℕ) → k < reached s sc i′ j′ b → reached s sc i′ j′ other ≤ m → m < total s sc other → NotBefore (pointOf other m) (pointOf b k)
       in-time-on b other k m h l w =
           ⊎-elim (λ g. run .in-time b other k m g low w)
           (λ q. subst (λ (n : ℕ). NotBefore (pointOf other m) (pointOf b n)) (sym (q .1)) (subst (λ (c : Bool). NotBefore (pointOf other m) (pointOf c (reached s sc i j first))) (sym (q .0)) (least other m low w))) (by-one b k h)
@@ -220,19 +217,14 @@ module _ (s : List ℕ) (sc : Scene) where
           own-ends = record {
             index = reached s sc i j first;
             to-come = subst (λ (c : Bool). reached s sc i j c ≤ reached s sc i j first) (sym own-first) (le-refl (reached s sc i j first));
-            within = subst (λ (c : Bool). reached s sc i j first < total c) (sym own-first) more;
+            within = subst (λ (c : Bool). reached s sc i j first < total s sc c) (sym own-first) more;
             is-end = subst (λ (c : Bool). isBeginning s sc c (reached s sc i j first) ≡ false) (sym own-first) e;
             is = subst (λ (c : Bool). strandBy s sc c (reached s sc i j first) ≡ strandAt s sc own-entry) (sym own-first) (sym (b .own));
           }
 
-  -- what an event did to the entries
-  pub data Taken (first : Bool) (k : ℕ) (old new : List ℕ) : Type 0 where
-    it-began : isBeginning s sc first k ≡ true → Began s sc first (place (objectOf s sc first) k) old new → Taken first k old new
-    it-ended : isBeginning s sc first k ≡ false → Ended s sc first (place (objectOf s sc first) k) old new → Taken first k old new
-
   module _ (o : Orderly) {i j : ℕ} {entries new : List ℕ} (run : Run i j entries) where
-    pub take-first : i < total true → ((other : Bool) (m : ℕ) → reached s sc i j other ≤ m → m < total other → NotBefore (pointOf other m) (pointOf true i))
-        → Taken true i entries new → Run (suc i) j new
+    pub take-first : i < total s sc true → ((other : Bool) (m : ℕ) → reached s sc i j other ≤ m → m < total s sc other → NotBefore (pointOf other m) (pointOf true i))
+        → Taken s sc true i entries new → Run (suc i) j new
     take-first more least t = go t
       where
         grows : (b : Bool) → reached s sc i j b ≤ reached s sc (suc i) j b
@@ -243,12 +235,12 @@ module _ (s : List ℕ) (sc : Scene) where
         by-one true k h = ⊎-elim (λ e. inr (refl, e)) inl (eq-or-lt-of-le (le-of-suc-le-suc h))
         by-one false k h = inl h
 
-        go : Taken true i entries new → Run (suc i) j new
+        go : Taken s sc true i entries new → Run (suc i) j new
         go (it-began e b) = advance-begun o run true more least (suc i) j grows by-one e b (further-first s sc i j true e) (still-first s sc i j true e)
         go (it-ended e b) = advance-ended o run true more least (suc i) j grows by-one e b (still-first s sc i j false e) (further-first s sc i j false e)
 
-    pub take-second : j < total false → ((other : Bool) (m : ℕ) → reached s sc i j other ≤ m → m < total other → NotBefore (pointOf other m) (pointOf false j))
-        → Taken false j entries new → Run i (suc j) new
+    pub take-second : j < total s sc false → ((other : Bool) (m : ℕ) → reached s sc i j other ≤ m → m < total s sc other → NotBefore (pointOf other m) (pointOf false j))
+        → Taken s sc false j entries new → Run i (suc j) new
     take-second more least t = go t
       where
         grows : (b : Bool) → reached s sc i j b ≤ reached s sc i (suc j) b
@@ -259,7 +251,7 @@ module _ (s : List ℕ) (sc : Scene) where
         by-one true k h = inl h
         by-one false k h = ⊎-elim (λ e. inr (refl, e)) inl (eq-or-lt-of-le (le-of-suc-le-suc h))
 
-        go : Taken false j entries new → Run i (suc j) new
+        go : Taken s sc false j entries new → Run i (suc j) new
         go (it-began e b) = advance-begun o run false more least i (suc j) grows by-one e b (further-second s sc i j true e) (still-second s sc i j true e)
         go (it-ended e b) = advance-ended o run false more least i (suc j) grows by-one e b (still-second s sc i j false e) (further-second s sc i j false e)
 

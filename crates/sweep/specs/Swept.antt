@@ -9,7 +9,7 @@ use lib.ListN.{length, getD, take, drop}
 use Rattle.whole.specs.Count.{_∈_, odd, count}
 use Rattle.plane.specs.declared.Point.{Point}
 use Rattle.plane.specs.declared.Segment.{Segment}
-use Rattle.plane.specs.Plane.{samePoint, sameSegment}
+use Rattle.plane.specs.Plane.{samePoint, sameSegment, comesBefore}
 use Rattle.scene.specs.declared.Layout.{Layout}
 use Rattle.scene.specs.declared.Scene.{Scene}
 use Rattle.scene.specs.Read.{segmentAt, halfsegmentAt, iaAt, place}
@@ -85,6 +85,22 @@ module _ (s : List ℕ) (sc : Scene) where
     pub new-is : new ≡ removed position old
     pub under-it : (e : ℕ) → e ∈ take position old → T (underEnd (strandOf first at) (strandAt e))
     pub over-it : (e : ℕ) → e ∈ drop (suc position) old → T (overEnd (strandOf first at) (strandAt e))
+
+  -- what the element k of an object does to the entries
+  pub data Taken (first : Bool) (k : ℕ) (old new : List ℕ) : Type 0 where
+    it-began : isBeginning first k ≡ true → Began first (place (objectOf first) k) old new → Taken first k old new
+    it-ended : isBeginning first k ≡ false → Ended first (place (objectOf first) k) old new → Taken first k old new
+
+  -- ---- the order of events
+
+  -- how many events an object has
+  abbrev pub total : Bool → ℕ
+  total first = cond (hasSegments (objectOf first .shape)) (objectOf first .count) 0
+
+  -- F's next event comes where G has none left, or where G's next halfsegment does not come before F's
+  abbrev pub takesFirst : ℕ → ℕ → Bool
+  takesFirst i j =
+      ltb i (total true) && (not (ltb j (total false)) || not (comesBefore (halfsegmentAt s (place (sc .g) j)) (halfsegmentAt s (place (sc .f) i))))
 
   -- the entry is the record of a halfsegment of its object, whole, in range and ordered
   pub record Entry (at : ℕ) : Type 0 where

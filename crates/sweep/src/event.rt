@@ -4,7 +4,6 @@ use crate::status;
 use plane::Point;
 use plane::Segment;
 use scene::Scene;
-use scene::Shape;
 use scene::bytes;
 ghost use mathlib.Core.Path.{_≡_};
 ghost use mathlib.Core.Bool.{not, _&&_, _||_, Bool·beq};
@@ -38,14 +37,14 @@ fn is_under(u: Segment, p: Point) -> bool
     requires { ⌜ T (segmentInRange u) × T (inRange p) ⌝ }
     ensures { λ r. ⌜ r ≡ passesUnder u p ⌝ }
 {
-    plane::is_left_of(u.left, u.right, p)
+    geometry::is_left_of(u.left, u.right, p)
 }
 
 fn is_over(u: Segment, p: Point) -> bool
     requires { ⌜ T (segmentInRange u) × T (inRange p) ⌝ }
     ensures { λ r. ⌜ r ≡ passesOver u p ⌝ }
 {
-    plane::is_right_of(u.left, u.right, p)
+    geometry::is_right_of(u.left, u.right, p)
 }
 
 // Does it begin with t, and turn left into it?
@@ -138,27 +137,17 @@ fn has_odd_own(start: usize, first: bool, status: &[u16], k: usize) -> bool
     odd
 }
 
-fn is_region(k: Shape) -> bool
-    ensures { λ r. ⌜ r ≡ isRegion k ⌝ }
-{
-    match k {
-        Shape::Points => false,
-        Shape::Line => false,
-        Shape::Region => true,
-    }
-}
-
 fn has_region(scene: Scene, first: bool) -> bool
     ensures { λ r. ⌜ ((s : List ℕ) → r ≡ isRegion (objectOf s scene first .shape)) ⌝ }
 {
     if first {
         let f = scene.f;
         let k = f.shape;
-        is_region(k)
+        segments::is_region(k)
     } else {
         let g = scene.g;
         let k = g.shape;
-        is_region(k)
+        segments::is_region(k)
     }
 }
 

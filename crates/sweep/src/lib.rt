@@ -1,4 +1,108 @@
-// The sweep over the halfsegments of a scene, from left to right: where it accepts, the conditions 11 to 15 hold.
+// The sweep over the halfsegments of a scene, from left to right: where it accepts, the conditions 11 to 15 hold. Where it does not, nothing is said.
+use event::Step;
+use scene::Layout;
+use scene::Scene;
+use scene::bytes;
+use scene::records;
+ghost use mathlib.Core.Path.{_≡_};
+ghost use mathlib.Core.Bool.{Bool, true, false, cond};
+ghost use Prim.Native.Nat.{ℕ, _<_, _≤_};
+ghost use lib.Dec.{T};
+ghost use lib.ListN.{length, take};
+ghost use Rattle.whole.specs.Count.{_∈_};
+ghost use Rattle.scene.specs.declared.Fault.the-variants.{Nothing};
+ghost use Rattle.scene.specs.Read.{IsScene};
+ghost use Rattle.scene.specs.Conditions.{hasSegments, outOfOrder};
+ghost use Rattle.sweep.specs.Evenly.{RegionsEndEvenly};
+ghost use Rattle.sweep.specs.Swept.{objectOf, total, takesFirst, Taken, Entry, Passes};
+
 pub mod evenly;
 pub mod event;
 pub mod status;
+
+// How many events an object has.
+fn event_count(l: Layout) -> usize
+    ensures { λ r. ⌜ r ≡ cond (hasSegments (l .shape)) (l .count) 0 ⌝ }
+{
+    let k = l.shape;
+    if segments::has_segments(k) {
+        l.count
+    } else {
+        0
+    }
+}
+
+// Is the next event F's?
+fn takes_first(s: &[u8], scene: Scene, i: usize, j: usize) -> bool
+    requires { ⌜ IsScene (now s) scene × (i ≤ total (now s) scene true) × (j ≤ total (now s) scene false) ⌝ }
+    ensures { λ r. ⌜ r ≡ takesFirst (now (s .entry)) scene i j ⌝ }
+{
+    let f = scene.f;
+    let g = scene.g;
+    if i == event_count(f) {
+        return false;
+    }
+    if j == event_count(g) {
+        return true;
+    }
+    let h = bytes::halfsegment(s, records::place(f, i));
+    let k = bytes::halfsegment(s, records::place(g, j));
+    !geometry::comes_before(k, h)
+}
+
+// The element k of F, or of G.
+fn take_event(s: &[u8], scene: Scene, first: bool, k: usize, status: &mut [u16], n: usize) -> Step
+    requires { ⌜ IsScene (now s) scene × (k < total (now s) scene first) × (n ≤ length (now status)) × ((e : ℕ) → e ∈ take n (now status) → Entry (now s) scene e) ⌝ }
+    ensures { λ r. ⌜ (length (now (status .exit)) ≡ length (now (status .entry))) × ((m : ℕ) → r ≡ Step.On m → (m ≤ length (now (status .exit))) × Taken (now (s .entry)) scene first k (take n (now (status .entry))) (take m (now (status .exit)))) ⌝ }
+{
+    let l = if first { scene.f } else { scene.g };
+    let at = records::place(l, k);
+    if s[at + 17] == 1 {
+        event::begin(s, scene, first, at, status, n)
+    } else {
+        event::end(s, scene, first, at, status, n)
+    }
+}
+
+// All events, one after the other.
+fn run_events(s: &[u8], scene: Scene, status: &mut [u16]) -> bool
+    requires { ⌜ IsScene (now s) scene × ((first : Bool) → outOfOrder (now s) (objectOf (now s) scene first) ≡ Nothing) ⌝ }
+    ensures { λ r. ⌜ (length (now (status .exit)) ≡ length (now (status .entry))) × (T r → RegionsEndEvenly (now (s .entry)) scene → Passes (now (s .entry)) scene) ⌝ }
+{
+    let f = scene.f;
+    let g = scene.g;
+    let of_f = event_count(f);
+    let of_g = event_count(g);
+    let mut i: usize = 0;
+    let mut j: usize = 0;
+    let mut n: usize = 0;
+    while i < of_f || j < of_g {
+        let first = takes_first(s, scene, i, j);
+        let k = if first { i } else { j };
+        match take_event(s, scene, first, k, status, n) {
+            Step::On(m) => {
+                n = m;
+            }
+            Step::Stop => {
+                return false;
+            }
+        }
+        if first {
+            i += 1;
+        } else {
+            j += 1;
+        }
+    }
+    n == 0
+}
+
+pub fn accepts(s: &[u8], scene: Scene) -> bool
+    requires { ⌜ IsScene (now s) scene × ((first : Bool) → outOfOrder (now s) (objectOf (now s) scene first) ≡ Nothing) ⌝ }
+    ensures { λ r. ⌜ (T r → Passes (now (s .entry)) scene) ⌝ }
+{
+    if !evenly::regions_end_evenly(s, scene) {
+        return false;
+    }
+    let mut status = [0u16; 1024];
+    run_events(s, scene, &mut status)
+}
