@@ -10,6 +10,7 @@ pub mod Run
 pub mod Counts
 pub mod Final
 pub mod Ordered
+pub mod Chosen
 pub mod Shifted
 pub mod Entries
 pub mod Pairs

@@ -9,7 +9,7 @@ use mathlib.Core.Bool.{Bool, true, false, not, _&&_, cond}
 use mathlib.Core.List.{List}
 use lib.Dec.{T, not-T, ltb}
 use borrow.Author.Tests.{lt-ltb, le-ltb}
-use Rattle.whole.proofs.Logic.{or-cases, and-left}
+use Rattle.whole.proofs.Logic.{or-cases, or-left, and-left, is-true}
 use Rattle.plane.specs.declared.Halfsegment.{Halfsegment}
 use Rattle.plane.specs.Plane.{before, samePoint, dominating, farEnd, side, comesBefore}
 use Rattle.plane.proofs.Order.{before-irreflexive, before-trans}
@@ -24,7 +24,7 @@ use Rattle.scene.specs.Conditions.{hasSegments, half, outOfOrder}
 use Rattle.scene.proofs.Taken.{TakenScene, taken-scene}
 use Rattle.segments.proofs.Elements.{half-good}
 use Rattle.segments.proofs.Indices.{halves-rise}
-use Rattle.sweep.specs.Swept.{objectOf, isFirst, total}
+use Rattle.sweep.specs.Swept.{objectOf, isFirst, total, Entry}
 use Rattle.sweep.proofs.Under.{NotBefore}
 use Rattle.sweep.proofs.Run.{pointOf, Orderly}
 
@@ -33,7 +33,11 @@ comes-point : (h k : Halfsegment) → T (comesBefore h k) → T (before (dominat
 unfolding comesBefore
 comes-point h k t = ⊎-elim inl (λ u. inr (samePoint-read (dominating h) (dominating k) (and-left (samePoint (dominating h) (dominating k)) _ u))) (or-cases (before (dominating h) (dominating k)) _ t)
 
-not-after : (h k : Halfsegment) → T (comesBefore h k) → NotBefore (dominating k) (dominating h)
+pub comes-by-point : (h k : Halfsegment) → T (before (dominating h) (dominating k)) → T (comesBefore h k)
+unfolding comesBefore
+comes-by-point h k t = or-left (before (dominating h) (dominating k)) _ t
+
+pub not-after : (h k : Halfsegment) → T (comesBefore h k) → NotBefore (dominating k) (dominating h)
 not-after h k t = not-T (before (dominating k) (dominating h)) clash
   where
     clash : T (before (dominating k) (dominating h)) → ⊥
@@ -76,3 +80,23 @@ module _ (s : List ℕ) (sc : Scene) (is : IsScene s sc) (order : (first : Bool)
         owned = owned;
         rises = λ first k m h l. not-after (half s (objectOf s sc first) k) (half s (objectOf s sc first) m) (halves-rise s (objectOf s sc first) (read first) (order first) (has first m l .0) k m h (has first m l .1));
       }
+
+  pub entry-at : (first : Bool) (k : ℕ) → k < total s sc first → Entry s sc (place (objectOf s sc first) k)
+  entry-at first k h =
+      record {
+        index = k;
+        within = subst (λ (b : Bool). k < objectOf s sc b .count) (sym (owned first k h)) (has first k h .1);
+        has-segments = subst (λ (b : Bool). T (hasSegments (objectOf s sc b .shape))) (sym (owned first k h)) (is-true (hasSegments (objectOf s sc first .shape)) (has first k h .0));
+        is-place = ap (λ (b : Bool). place (objectOf s sc b) k) (sym (owned first k h));
+      }
+
+  pub few-events : (first : Bool) → total s sc first ≤ 1024
+  few-events first = go (hasSegments (objectOf s sc first .shape)) first
+    where
+      few : (first : Bool) → objectOf s sc first .count ≤ 1024
+      few true = taken .f-taken .few
+      few false = taken .g-taken .object .few
+
+      go : (b : Bool) (first : Bool) → cond b (objectOf s sc first .count) 0 ≤ 1024
+      go true first = few first
+      go false first = omega arith

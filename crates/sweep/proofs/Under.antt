@@ -31,12 +31,12 @@ neither : (a b : Bool) → T (not (a || b)) → T (not a) × T (not b)
 neither true b t = absurd t
 neither false b t = (tt, t)
 
-after-x : (p q : Point) → NotBefore p q → NonNeg (p .x -ℤ q .x)
+pub after-x : (p q : Point) → NotBefore p q → NonNeg (p .x -ℤ q .x)
 unfolding before
 after-x p q t =
     leZ-nonneg (q .x) (p .x) (not-less (p .x) (q .x) (neither (ltZ (p .x) (q .x)) (eqZ (p .x) (q .x) && ltZ (p .y) (q .y)) t .0))
 
-after-y : (p q : Point) → NotBefore p q → p .x ≡ q .x → NonNeg (p .y -ℤ q .y)
+pub after-y : (p q : Point) → NotBefore p q → p .x ≡ q .x → NonNeg (p .y -ℤ q .y)
 unfolding before
 after-y p q t e =
     leZ-nonneg (q .y) (p .y)

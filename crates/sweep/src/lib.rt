@@ -50,6 +50,12 @@ fn takes_first(s: &[u8], scene: Scene, i: usize, j: usize) -> bool
     !geometry::comes_before(k, h)
 }
 
+fn next_of(first: bool, i: usize, j: usize) -> usize
+    ensures { λ r. ⌜ r ≡ cond first i j ⌝ }
+{
+    if first { i } else { j }
+}
+
 // The element k of F, or of G.
 fn take_event(s: &[u8], scene: Scene, first: bool, k: usize, status: &mut [u16], n: usize) -> Step
     requires { ⌜ IsScene (now s) scene × (k < total (now s) scene first) × (n ≤ length (now status)) × ((e : ℕ) → e ∈ take n (now status) → Entry (now s) scene e) ⌝ }
@@ -71,14 +77,13 @@ fn run_events(s: &[u8], scene: Scene, status: &mut [u16]) -> bool
 {
     let f = scene.f;
     let g = scene.g;
-    let of_f = event_count(f);
-    let of_g = event_count(g);
+    let all = event_count(f) + event_count(g);
     let mut i: usize = 0;
     let mut j: usize = 0;
     let mut n: usize = 0;
-    while i < of_f || j < of_g {
+    while i + j < all {
         let first = takes_first(s, scene, i, j);
-        let k = if first { i } else { j };
+        let k = next_of(first, i, j);
         match take_event(s, scene, first, k, status, n) {
             Step::On(m) => {
                 n = m;
@@ -87,11 +92,8 @@ fn run_events(s: &[u8], scene: Scene, status: &mut [u16]) -> bool
                 return false;
             }
         }
-        if first {
-            i += 1;
-        } else {
-            j += 1;
-        }
+        i += first as usize;
+        j += !first as usize;
     }
     n == 0
 }

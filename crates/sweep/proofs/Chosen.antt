@@ -1,0 +1,153 @@
+-- The event that the sweep takes next: there is one, and no later event's dominating point comes before its own.
+use Prim.Native.Nat.{ℕ, zero, suc, _+_, _<_, _≤_}
+use native.Mathlib.Nat.{eq-or-lt-of-le, add-zero}
+use native.Mathlib.Numerals.{add-one}
+use native.Mathlib.Omega.{arith}
+use mir.Val.{boolByte}
+use mathlib.Core.Path.{_≡_, refl, sym, ap, _∙_, subst}
+use mathlib.Core.Logic.{⊎-elim}
+use mathlib.Core.Bool.{Bool, true, false, not, _&&_, _||_, cond, true≢false}
+use mathlib.Core.List.{List, [], _∷_}
+use lib.Dec.{T, T-not, not-T, ltb}
+use lib.IntN.{ℤ, negℤ, _+ℤ_, _-ℤ_}
+use lib.Signed.{ltZ}
+use borrow.Author.Tests.{ltb-true, ltb-false, lt-ltb, le-ltb}
+use Rattle.whole.specs.Count.{eqZ, _∈_}
+use Rattle.whole.proofs.Solver.{var, _:+_, _:-_, opp, solve}
+use Rattle.whole.proofs.Sign.{Pos, NonNeg, nonneg-add, nonneg-both, nonneg-clash, neg-of-pos, ltZ-pos, eqZ-zero, sub-zero-eq}
+use Rattle.whole.proofs.Logic.{or-cases, and-left, and-right, is-true, true-is}
+use Rattle.plane.specs.declared.Point.{Point}
+use Rattle.plane.specs.declared.Halfsegment.{Halfsegment}
+use Rattle.plane.specs.Plane.{before, dominating, comesBefore}
+use Rattle.plane.proofs.Order.{before-irreflexive}
+use Rattle.scene.specs.declared.Scene.{Scene}
+use Rattle.scene.specs.Read.{place, halfsegmentAt}
+use Rattle.sweep.specs.Swept.{objectOf, total, takesFirst, Taken, it-began, it-ended, Entry}
+use Rattle.sweep.proofs.Under.{NotBefore, after-x, after-y}
+use Rattle.sweep.proofs.Shifted.{in-inserted, in-removed}
+use Rattle.sweep.proofs.Begun.{reached}
+use Rattle.sweep.proofs.Ordered.{not-after, comes-by-point}
+use Rattle.sweep.proofs.Run.{pointOf, Orderly, Run, take-first, take-second}
+
+-- ---- the order of points
+
+not-before-trans : (p q r : Point) → NotBefore p q → NotBefore q r → NotBefore p r
+unfolding before
+not-before-trans p q r h k = not-T (before p r) (λ b. ⊎-elim further level (or-cases (ltZ (p .x) (r .x)) (eqZ (p .x) (r .x) && ltZ (p .y) (r .y)) b))
+  where
+    sum : (a b c : ℤ) → (a -ℤ b) +ℤ (b -ℤ c) ≡ a -ℤ c
+    sum a b c = solve (a ∷ b ∷ c ∷ []) (var 0 :- var 1 :+ (var 1 :- var 2)) (var 0 :- var 2) tt
+
+    turned : (a b : ℤ) → b -ℤ a ≡ negℤ (a -ℤ b)
+    turned a b = solve (a ∷ b ∷ []) (var 1 :- var 0) (opp (var 0 :- var 1)) tt
+
+    clash : (a b : ℤ) → NonNeg (a -ℤ b) → T (ltZ a b) → ⊥
+    clash a b n t = nonneg-clash n (neg-of-pos (a -ℤ b) (subst Pos (turned a b) (ltZ-pos a b t)))
+
+    x-far : NonNeg (p .x -ℤ r .x)
+    x-far = subst NonNeg (sum (p .x) (q .x) (r .x)) (nonneg-add (after-x p q h) (after-x q r k))
+
+    further : T (ltZ (p .x) (r .x)) → ⊥
+    further t = clash (p .x) (r .x) x-far t
+
+    level : T (eqZ (p .x) (r .x) && ltZ (p .y) (r .y)) → ⊥
+    level t =
+        clash (p .y) (r .y) (subst NonNeg (sum (p .y) (q .y) (r .y)) (nonneg-add (after-y p q h first-x) (after-y q r k second-x)))
+        (and-right (eqZ (p .x) (r .x)) (ltZ (p .y) (r .y)) t)
+      where
+        ends : p .x ≡ r .x
+        ends = sub-zero-eq (p .x) (r .x) (eqZ-zero (p .x) (r .x) (and-left (eqZ (p .x) (r .x)) (ltZ (p .y) (r .y)) t))
+
+        first-x : p .x ≡ q .x
+        first-x =
+            sym (sub-zero-eq (q .x) (p .x) (nonneg-both (after-x p q h) (subst NonNeg (ap (λ z. q .x -ℤ z) (sym ends) ∙ turned (p .x) (q .x)) (after-x q r k))))
+
+        second-x : q .x ≡ r .x
+        second-x = sym first-x ∙ ends
+
+not-before-itself : (p : Point) → NotBefore p p
+not-before-itself p = not-T (before p p) (before-irreflexive p)
+
+module _ (s : List ℕ) (sc : Scene) (o : Orderly s sc) where
+  -- the elements of one object from one on
+  from-one : (first : Bool) (k m : ℕ) → k ≤ m → m < total s sc first → NotBefore (pointOf s sc first m) (pointOf s sc first k)
+  from-one first k m h l =
+      ⊎-elim (λ e. subst (λ (n : ℕ). NotBefore (pointOf s sc first n) (pointOf s sc first k)) e (not-before-itself (pointOf s sc first k))) (λ g. o .rises first k m g l) (eq-or-lt-of-le h)
+
+  -- and of the other object
+  from-other : (first other : Bool) (k j m : ℕ) → NotBefore (pointOf s sc other j) (pointOf s sc first k) → j ≤ m → m < total s sc other → NotBefore (pointOf s sc other m) (pointOf s sc first k)
+  from-other first other k j m n h l = not-before-trans (pointOf s sc other m) (pointOf s sc other j) (pointOf s sc first k) (from-one other j m h l) n
+
+  pub record Chosen (i j : ℕ) (first : Bool) : Type 0 where
+    pub more : reached s sc i j first < total s sc first
+    pub least : (other : Bool) (m : ℕ) → reached s sc i j other ≤ m → m < total s sc other → NotBefore (pointOf s sc other m) (pointOf s sc first (reached s sc i j first))
+
+  abbrev comes : ℕ → ℕ → Bool
+  comes i j = comesBefore (halfsegmentAt s (place (sc .g) j)) (halfsegmentAt s (place (sc .f) i))
+
+  chosen-first : (i j : ℕ) → takesFirst s sc i j ≡ true → Chosen i j true
+  chosen-first i j e = record { more = more; least = least }
+    where
+      both : T (ltb i (total s sc true) && (not (ltb j (total s sc false)) || not (comes i j)))
+      both = is-true _ e
+
+      more : i < total s sc true
+      more = ltb-true i (total s sc true) (true-is (ltb i (total s sc true)) (and-left (ltb i (total s sc true)) (not (ltb j (total s sc false)) || not (comes i j)) both))
+
+      least : (other : Bool) (m : ℕ) → reached s sc i j other ≤ m → m < total s sc other → NotBefore (pointOf s sc other m) (pointOf s sc true i)
+      least true m h l = from-one true i m h l
+      least false m h l =
+          from-other true false i j m (not-T (before (pointOf s sc false j) (pointOf s sc true i)) (λ b. ⊎-elim (λ n. T-not (ltb j (total s sc false)) n (is-true (ltb j (total s sc false)) (lt-ltb j (total s sc false) (omega arith)))) (λ n. T-not (comes i j) n (before-comes b)) (or-cases (not (ltb j (total s sc false))) (not (comes i j)) (and-right (ltb i (total s sc true)) (not (ltb j (total s sc false)) || not (comes i j)) both)))) h l
+        where
+          before-comes : T (before (pointOf s sc false j) (pointOf s sc true i)) → T (comes i j)
+          before-comes b = comes-by-point (halfsegmentAt s (place (sc .g) j)) (halfsegmentAt s (place (sc .f) i)) b
+
+  chosen-second : (i j : ℕ) → i ≤ total s sc true → i + j < total s sc true + total s sc false → takesFirst s sc i j ≡ false → Chosen i j false
+  chosen-second i j within left e = by-first (ltb i (total s sc true)) (ltb j (total s sc false)) (comes i j) refl refl refl e
+    where
+      by-first : (a b c : Bool) → ltb i (total s sc true) ≡ a → ltb j (total s sc false) ≡ b → comes i j ≡ c → a && (not b || not c) ≡ false → Chosen i j false
+      by-first true true true p q r t =
+          record {
+            more = ltb-true j (total s sc false) q;
+            least = λ other m h l. least other m h l;
+          }
+        where
+          least : (other : Bool) (m : ℕ) → reached s sc i j other ≤ m → m < total s sc other → NotBefore (pointOf s sc other m) (pointOf s sc false j)
+          least true m h l = from-other false true j i m (not-after (halfsegmentAt s (place (sc .g) j)) (halfsegmentAt s (place (sc .f) i)) (is-true (comes i j) r)) h l
+          least false m h l = from-one false j m h l
+      by-first true true false p q r t = absurd (true≢false t)
+      by-first true false c p q r t = absurd (true≢false t)
+      by-first false b c p q r t =
+          record {
+            more = omega (arith, ltb-false i (total s sc true) p);
+            least = λ other m h l. least other m h l;
+          }
+        where
+          least : (other : Bool) (m : ℕ) → reached s sc i j other ≤ m → m < total s sc other → NotBefore (pointOf s sc other m) (pointOf s sc false j)
+          least true m h l = absurd (past (ltb-false i (total s sc true) p) h l)
+            where
+              past : total s sc true ≤ i → i ≤ m → m < total s sc true → ⊥
+              past x y z = omega arith
+          least false m h l = from-one false j m h l
+
+  pub chosen : (i j : ℕ) → i ≤ total s sc true → i + j < total s sc true + total s sc false → (first : Bool) → takesFirst s sc i j ≡ first → Chosen i j first
+  chosen i j h l true e = chosen-first i j e
+  chosen i j h l false e = chosen-second i j h l e
+
+  pub taken-next : (i j : ℕ) {entries new : List ℕ} (first : Bool) → Chosen i j first → Run s sc i j entries → Taken s sc first (cond first i j) entries new
+      → Run s sc (i + boolByte first) (j + boolByte (not first)) new
+  taken-next i j {new = new} true c run t =
+      subst (λ (m : ℕ). Run s sc m (j + 0) new) (sym (add-one i)) (subst (λ (m : ℕ). Run s sc (suc i) m new) (sym (add-zero j)) (take-first s sc o run (c .more) (c .least) t))
+  taken-next i j {new = new} false c run t =
+      subst (λ (m : ℕ). Run s sc m (j + 1) new) (sym (add-zero i)) (subst (λ (m : ℕ). Run s sc i m new) (sym (add-one j)) (take-second s sc o run (c .more) (c .least) t))
+
+  pub further : (i j : ℕ) (first : Bool) → Chosen i j first → i ≤ total s sc true → j ≤ total s sc false
+      → (i + boolByte first ≤ total s sc true) × (j + boolByte (not first) ≤ total s sc false) × (i + boolByte first + (j + boolByte (not first)) ≡ i + j + 1)
+  further i j true c h l = (omega (arith, c .more), omega (arith, l), omega arith)
+  further i j false c h l = (omega (arith, h), omega (arith, c .more), omega arith)
+
+  -- the entries are records of the scene still
+  pub entries-still : {first : Bool} {k : ℕ} {old new : List ℕ} → Entry s sc (place (objectOf s sc first) k) → ((e : ℕ) → e ∈ old → Entry s sc e) → Taken s sc first k old new
+      → (e : ℕ) → e ∈ new → Entry s sc e
+  entries-still {old = old} own h (it-began e b) x m = ⊎-elim (λ q. subst (Entry s sc) (sym q) own) (h x) (in-inserted (b .position) old (subst (λ l. x ∈ l) (b .new-is) m))
+  entries-still {old = old} own h (it-ended e b) x m = h x (in-removed 0 (b .position) old (b .there) (subst (λ l. x ∈ l) (b .new-is) m))
