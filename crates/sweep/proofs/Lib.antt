@@ -9,6 +9,7 @@ pub mod Begun
 pub mod Run
 pub mod Counts
 pub mod Final
+pub mod Objects
 pub mod Ordered
 pub mod Chosen
 pub mod Shifted

@@ -14,7 +14,8 @@ use Rattle.sweep.specs.Swept.{objectOf, total, takesFirst, Taken, Entry,
 use Rattle.whole.proofs.Logic.{in-nil}
 use Rattle.sweep.proofs.Begun.{reached}
 use Rattle.sweep.proofs.Run.{Run, Orderly, run-start}
-use Rattle.sweep.proofs.Ordered.{orderly, entry-at, few-events}
+use Rattle.sweep.proofs.Objects.{entry, few-events}
+use Rattle.sweep.proofs.Ordered.{orderly}
 use Rattle.sweep.proofs.Final.{passes}
 use Rattle.sweep.proofs.Chosen.{Chosen, chosen, further, taken-next, entries-still}
 use Rattle.sweep.proofs.run_events.Statement.{statement}
@@ -78,7 +79,7 @@ module _ (c : tie.After-known-told Inv-loop μ-loop) where
   on = further (z e .args .s .now) (z e .args .scene) (start e) (d e .loop .i) (d e .loop .j) (e .before .takes-first .result) (it e) (d e .loop .inv .1) (d e .loop .inv .2)
 
   few : (first : Bool) → total (z e .args .s .now) (z e .args .scene) first ≤ 1024
-  few = few-events (z e .args .s .now) (z e .args .scene) (z e .pre .0) (z e .pre .1)
+  few = few-events (z e .args .s .now) (z e .args .scene) (z e .pre .0)
 
 event-count-requires : tie.Need-event-count-requires Inv-loop μ-loop
 event-count-requires c κs = search needs
@@ -89,7 +90,7 @@ event-count-requires-2 c κs = search needs
 add-all : tie.Need-add-all Inv-loop μ-loop
 add-all c =
     let z = c .before .before .before .before .before .before in
-    omega (arith, c .before .event-count .ensures, c .event-count2 .ensures, few-events (z .args .s .now) (z .args .scene) (z .pre .0) (z .pre .1) true, few-events (z .args .s .now) (z .args .scene) (z .pre .0) (z .pre .1) false)
+    omega (arith, c .before .event-count .ensures, c .event-count2 .ensures, few-events (z .args .s .now) (z .args .scene) (z .pre .0) true, few-events (z .args .s .now) (z .args .scene) (z .pre .0) false)
 
 loop-holds : tie.Need-loop-holds Inv-loop μ-loop
 loop-holds c =
@@ -99,7 +100,7 @@ loop-holds c =
 add-loop : tie.Need-add-loop Inv-loop μ-loop
 add-loop c =
     let z = c .before .before .before .before .before .before .before in
-    omega (arith, c .loop .inv .1, c .loop .inv .2, few-events (z .args .s .now) (z .args .scene) (z .pre .0) (z .pre .1) true, few-events (z .args .s .now) (z .args .scene) (z .pre .0) (z .pre .1) false)
+    omega (arith, c .loop .inv .1, c .loop .inv .2, few-events (z .args .s .now) (z .args .scene) (z .pre .0) true, few-events (z .args .s .now) (z .args .scene) (z .pre .0) false)
 
 takes-first-requires : tie.Need-takes-first-requires Inv-loop μ-loop
 takes-first-requires c κs = (c .before .before .before .before .before .before .before .before .pre .0, c .before .loop .inv .1, c .before .loop .inv .2)
@@ -143,7 +144,7 @@ loop-again c = (
   on c .0,
   on c .1,
   done c .0,
-  entries-still (z (e c) .args .s .now) (z (e c) .args .scene) (start (e c)) (entry-at (z (e c) .args .s .now) (z (e c) .args .scene) (z (e c) .pre .0) (z (e c) .pre .1) (e c .before .takes-first .result) (e c .next-of .result) (within (e c))) (d (e c) .loop .inv .4) (done c .1),
+  entries-still (z (e c) .args .s .now) (z (e c) .args .scene) (start (e c)) (entry (z (e c) .args .s .now) (z (e c) .args .scene) (z (e c) .pre .0) (e c .before .takes-first .result) (e c .next-of .result) (within (e c))) (d (e c) .loop .inv .4) (done c .1),
   taken-next (z (e c) .args .s .now) (z (e c) .args .scene) (start (e c)) (d (e c) .loop .i) (d (e c) .loop .j) (e c .before .takes-first .result) (it (e c)) (d (e c) .loop .inv .5) (subst (λ (k : ℕ). Taken (z (e c) .args .s .now) (z (e c) .args .scene) (e c .before .takes-first .result) k (take (d (e c) .loop .n) (d (e c) .loop .status)) (take (m c) (new c))) (e c .next-of .ensures) (done c .1)),
 )
 
