@@ -156,12 +156,14 @@ returns-2 c =
     let b = c .before in
     let z = b .before .before .before .before .before .before .before in
     let f : b .loop .i ≡ total (z .args .s .now) (z .args .scene) true = omega (arith, b .loop .inv .1, b .loop .inv .2, b .before .before .event-count .ensures, b .before .event-count2 .ensures) in
-    let g : b .loop .j ≡ total (z .args .s .now) (z .args .scene) false = omega (arith, b .loop .inv .1, b .loop .inv .2, b .before .before .event-count .ensures, b .before .event-count2 .ensures) in
-    (b .loop .inv .0, λ t evenly.
-      passes (z .args .s .now) (z .args .scene) (orderly (z .args .s .now) (z .args .scene) (z .pre .0) (z .pre .1))
-      (subst (λ (i : ℕ). Run (z .args .s .now) (z .args .scene) i (total (z .args .s .now) (z .args .scene) false) []) f
-      (subst (λ (j : ℕ). Run (z .args .s .now) (z .args .scene) (b .loop .i) j []) g
-      (subst (λ (n : ℕ). Run (z .args .s .now) (z .args .scene) (b .loop .i) (b .loop .j) (take n (b .loop .status))) (eqb→eq (b .loop .n) 0 t) (b .loop .inv .5)))) evenly)
+    let g : b .loop .j ≡ total (z .args .s .now) (z .args .scene) false = omega (arith, b .loop .inv .1, b .loop .inv .2, b .before .before .event-count .ensures, b .before .event-count2 .ensures) in (
+      b .loop .inv .0,
+      λ t evenly.
+          passes (z .args .s .now) (z .args .scene) (orderly (z .args .s .now) (z .args .scene) (z .pre .0) (z .pre .1))
+          (subst (λ (i : ℕ). Run (z .args .s .now) (z .args .scene) i (total (z .args .s .now) (z .args .scene) false) []) f
+          (subst (λ (j : ℕ). Run (z .args .s .now) (z .args .scene) (b .loop .i) j []) g
+          (subst (λ (n : ℕ). Run (z .args .s .now) (z .args .scene) (b .loop .i) (b .loop .j) (take n (b .loop .status))) (eqb→eq (b .loop .n) 0 t) (b .loop .inv .5)))) evenly,
+    )
 
 pub run-events-spec : {M : Type 1} → statement M
 run-events-spec =
