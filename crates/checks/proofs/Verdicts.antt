@@ -2,6 +2,7 @@
 -- parts, whatever conditions of its own it has.
 use Prim.Native.Nat.{ℕ, _+_, _<_, _≤_}
 use mathlib.Core.Path.{_≡_, refl, ap, _∙_}
+use mathlib.Core.Bool.{Bool, true, false}
 use mathlib.Core.List.{List, [], _∷_, _++_, map}
 use Rattle.scene.specs.declared.Layout.{Layout}
 use Rattle.scene.specs.declared.Scene.{Scene}
@@ -12,6 +13,7 @@ use Rattle.scene.specs.declared.CheckedObject.{CheckedObject}
 use Rattle.scene.specs.declared.CheckedScene.{CheckedScene}
 use Rattle.scene.specs.Read.{Condition, condition, decide, judge, readScene, readAlone, IsScene}
 use Rattle.scene.specs.Conditions.{outOfOrder, unpaired, touching, touchingItself, oddEnd, wrongIa, typesDescend, Rule, conditions, sceneRules, checkedScene, checkSceneBy, checkedObject, checkObject, objectRules}
+use Rattle.sweep.specs.Swept.{objectOf, Passes}
 use Rattle.checks.specs.declared.Verdict.the-variants.{Sound, Refused}
 use Rattle.conditions.specs.Faults.{faultUnder}
 use Rattle.checks.specs.Refusals.{sceneFaultUnder, verdict, settle, objectVerdict, geometryRules, geometryVerdict}
@@ -41,6 +43,25 @@ object-numbered s l = refl
 pub geometry-numbered : (s : List ℕ) (sc : Scene) → geometryVerdict s sc ≡ verdict (numbered (sceneFaultUnder s sc) 10 16)
 unfolding geometryVerdict outOfOrder unpaired touchingItself touching oddEnd wrongIa
 geometry-numbered s sc = refl
+
+-- ---- by the sweep
+
+pub swept : (s : List ℕ) (sc : Scene) → ((first : Bool) → outOfOrder s (objectOf s sc first) ≡ Nothing) → Passes s sc → geometryVerdict s sc ≡ Sound
+unfolding geometryVerdict
+swept s sc order p =
+    rw (
+      order true,
+      order false,
+      p .paired true,
+      p .paired false,
+      p .apart true,
+      p .apart false,
+      p .even true,
+      p .even false,
+      p .right-ia true,
+      p .right-ia false,
+      p .across,
+    )
 
 -- ---- one list of conditions after another
 

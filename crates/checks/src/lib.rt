@@ -10,7 +10,8 @@ use scene::records;
 ghost use mathlib.Core.Path.{_≡_};
 ghost use mathlib.Core.List.{List};
 ghost use Prim.Native.Nat.{ℕ};
-ghost use Rattle.scene.specs.Read.{IsObject};
+ghost use lib.Dec.{T};
+ghost use Rattle.scene.specs.Read.{IsObject, IsScene};
 ghost use Rattle.scene.specs.Conditions.{typesDescend, checkScene, checkObject};
 ghost use Rattle.checks.specs.Refusals.{sceneFaultUnder, objectVerdict, geometryVerdict};
 
@@ -69,8 +70,8 @@ pub fn object_verdict(s: &[u8], l: Layout) -> Verdict
     Verdict::Sound
 }
 
-// The first refusal under 10 to 15 of a scene.
-pub fn geometry_verdict(s: &[u8], scene: Scene) -> Verdict
+// The first refusal under 10 to 15 of a scene, condition by condition.
+fn plain_verdict(s: &[u8], scene: Scene) -> Verdict
     requires { ⌜ IsObject (now s) (scene .f) × IsObject (now s) (scene .g) ⌝ }
     ensures { λ r. ⌜ r ≡ geometryVerdict (now (s .entry)) scene ⌝ }
 {
@@ -85,6 +86,28 @@ pub fn geometry_verdict(s: &[u8], scene: Scene) -> Verdict
         number += 1;
     }
     Verdict::Sound
+}
+
+// Is a scene in order, and does the sweep accept it? It may say no of a sound scene, but never yes of another.
+fn is_swept(s: &[u8], scene: Scene) -> bool
+    requires { ⌜ IsScene (now s) scene ⌝ }
+    ensures { λ r. ⌜ (T r → geometryVerdict (now (s .entry)) scene ≡ Verdict.Sound) ⌝ }
+{
+    match scene_fault(s, scene, 10) {
+        Fault::At(_) => false,
+        Fault::Nothing => sweep::accepts(s, scene),
+    }
+}
+
+// The same: by the sweep where it accepts, which is fast, and else condition by condition.
+pub fn geometry_verdict(s: &[u8], scene: Scene) -> Verdict
+    requires { ⌜ IsScene (now s) scene ⌝ }
+    ensures { λ r. ⌜ r ≡ geometryVerdict (now (s .entry)) scene ⌝ }
+{
+    if is_swept(s, scene) {
+        return Verdict::Sound;
+    }
+    plain_verdict(s, scene)
 }
 
 // A scene's bytes, checked whole: taken, or refused with one number and one place.

@@ -9,7 +9,6 @@ use Rattle.scene.specs.declared.Fault.the-variants.{At, Nothing}
 use Rattle.scene.specs.declared.CheckedScene.{CheckedScene}
 use Rattle.scene.specs.Read.{IsScene}
 use Rattle.scene.specs.Conditions.{typesDescend, sceneRules, checkScene}
-use Rattle.scene.proofs.Taken.{taken-scene}
 use Rattle.checks.specs.declared.Verdict.the-variants.{Sound, Refused}
 use Rattle.checks.specs.Refusals.{geometryVerdict}
 use Rattle.checks.proofs.Verdicts.{check-refused, check-read}
@@ -61,10 +60,7 @@ enum-told : tie.Need-enum-told
 enum-told c = search needs
 
 geometry-verdict-requires : tie.Need-geometry-verdict-requires
-geometry-verdict-requires c κs =
-    let d = c .before .before .before in
-    let t = taken-scene (bytes d) (scene d) (read d) in
-    (t .f-read, t .g-taken .read)
+geometry-verdict-requires c κs = let d = c .before .before .before in read d
 
 enum-known-r-2 : tie.Need-enum-known-r-2
 enum-known-r-2 c = search needs

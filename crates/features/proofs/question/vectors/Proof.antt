@@ -62,10 +62,7 @@ returns c =
     stray (bytes d) (scene d) (read d) (z d .args .want-f) (z d .args .want-g) (rising e) (sym (c .before .any-stray .ensures) ∙ c .if1 .taken)
 
 geometry-verdict-requires : tie.Need-geometry-verdict-requires
-geometry-verdict-requires c κs =
-    let d = told (c .before .before) in
-    let t = taken-scene (bytes d) (scene d) (read d) in
-    (t .f-read, t .g-taken .read)
+geometry-verdict-requires c κs = read (told (c .before .before))
 
 enum-known-r-2 : tie.Need-enum-known-r-2
 enum-known-r-2 c = search needs
