@@ -1,15 +1,34 @@
 # make test: everything that the gate checks. make run: builds explore and answers the sample scenes; make run SCENE=file answers a file.
-.PHONY: test run archive tools pictures fmt clean
+# make install PREFIX=dir: header, archive and pkg-config file. make fuzz SECONDS=n: fresh scenes and inputs for so long.
+.PHONY: test run archive install fuzz tools pictures fmt clean
 
 test:
 	@bash tests/gate
 
 # The proved program, and the archive for C
-target/bin/explore: $(shell find crates -name '*.rt' -o -name '*.antt')
+sources := $(shell find crates -name '*.rt' -o -name '*.antt')
+
+target/bin/explore: $(sources)
 	@rt check explore
 
-archive:
+archive: target/staticlib/libkarvoiss.a
+
+target/staticlib/libkarvoiss.a: $(sources)
 	@rt staticlib karvoiss
+
+# Where a C build finds them; DESTDIR is put before PREFIX for packages
+PREFIX ?= /usr/local
+prefix := $(abspath $(PREFIX))
+
+install: archive
+	@install -d $(DESTDIR)$(prefix)/include $(DESTDIR)$(prefix)/lib/pkgconfig
+	@install -m 644 include/karvoiss.h $(DESTDIR)$(prefix)/include
+	@install -m 644 target/staticlib/libkarvoiss.a $(DESTDIR)$(prefix)/lib
+	@sed 's|@PREFIX@|$(prefix)|' include/karvoiss.pc.in > $(DESTDIR)$(prefix)/lib/pkgconfig/karvoiss.pc
+
+SECONDS ?= 60
+fuzz: archive target/tools/scene
+	@tests/fuzz $(SECONDS)
 
 ifdef SCENE
 run: target/bin/explore

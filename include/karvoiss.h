@@ -70,6 +70,14 @@
 extern "C" {
 #endif
 
+/* The stack that each call needs at most, in bytes. No call recurses, and each
+ * was measured on scenes of full size, of every pair of types, to need about
+ * 1,000 bytes; the numbers leave room for other compilers.
+ */
+#define KARVOISS_VECTORS_STACK 2048
+#define KARVOISS_CELLS_STACK 2048
+#define KARVOISS_OVERLAP_STACK 2048
+
 /* The topological feature vectors of F and G.
  *
  * A flag is set exactly if some element as named exists. Bits by the types of

@@ -15,6 +15,7 @@ mod judge;
 mod library;
 mod maker;
 mod mistakes;
+mod notation;
 mod picture;
 mod pieces;
 mod plan;
@@ -34,6 +35,7 @@ use tally::Tally;
 
 const USAGE: &str = "usage: reference answer < scene    the line that explore writes
        reference list < scene      the overlap list, or its refusal
+       reference vectors < text    the lines that the program vectors writes
        reference draw < scene      the scene as bytes, words and a drawing
        reference scene SEED        writes the scene that a seed names
        reference self              the scenes made by hand against their known answers
@@ -61,6 +63,7 @@ fn main() {
             println!("{}", list_line(&input()));
             true
         }
+        ["vectors"] => answer_cases(&String::from_utf8_lossy(&input())),
         ["draw"] => {
             print!("{}", drawing::scene_text(&input()));
             true
@@ -96,6 +99,23 @@ fn list_line(bytes: &[u8]) -> String {
         return format!("no {} {}", answer.number, answer.place);
     }
     judgement.list.iter().map(u8::to_string).collect::<Vec<_>>().join(" ")
+}
+
+/// Both vectors of each case, or `no`, number and place.
+fn answer_cases(text: &str) -> bool {
+    let cases = notation::cases(text).unwrap_or_else(|case| {
+        eprintln!("this case cannot be read: {case}");
+        exit(1)
+    });
+    for case in cases {
+        let answer = judge(&case.bytes, &RIGHT).vectors(case.want_f, case.want_g);
+        if answer.number == 0 {
+            println!("{}: {} {}", case.label, answer.f, answer.g);
+        } else {
+            println!("{}: no {} {}", case.label, answer.number, answer.place);
+        }
+    }
+    true
 }
 
 /// The scenes made by hand against what document 01, or a hand, says of them.

@@ -4,10 +4,8 @@ use libc::STDIN_FILENO;
 use libc::STDOUT_FILENO;
 use scene::CheckedObject;
 use scene::CheckedScene;
-ghost use Prim.Native.Nat.{_≤_};
+ghost use Prim.Native.Nat.{_<_, _≤_};
 ghost use lib.ListN.{length};
-
-mod notation;
 
 fn report(label: &[u8], number: u8, place: usize) {
     io::write_all(STDOUT_FILENO, label);
@@ -32,11 +30,10 @@ fn check_object(label: &[u8], bytes: &[u8]) {
     }
 }
 
-fn check_first(label: &[u8], space: &[u8], n: usize) {
-    if n > space.len() {
-        return;
-    }
-    let bytes = &space[0..n];
+fn check(label: &[u8], text: &[u8]) {
+    let mut space = [0u8; 16384];
+    let n = notation::write(&mut space, text);
+    let bytes = &space[..n];
     if label.len() > 0 && label[0] == b'o' {
         check_object(label, bytes);
     } else {
@@ -44,38 +41,22 @@ fn check_first(label: &[u8], space: &[u8], n: usize) {
     }
 }
 
-fn check(label: &[u8], text: &[u8]) {
-    let mut space = [0u8; 16384];
-    let n = notation::write(&mut space, text);
-    check_first(label, &space, n);
-}
-
-// The first place from some place on where a byte stands, or the length.
-fn find(text: &[u8], from: usize, b: u8) -> usize
-    requires { ⌜ from ≤ length (now text) ⌝ }
-    ensures { λ r. ⌜ (from ≤ r) × (r ≤ length (now (text .entry))) ⌝ }
+// Checks the case that begins at some place, and says where the next one begins.
+fn check_case(text: &[u8], at: usize) -> usize
+    requires { ⌜ at < length (now text) ⌝ }
+    ensures { λ r. ⌜ (at < r) × (r ≤ length (now (text .entry))) ⌝ }
 {
-    let mut i = from;
-    while i < text.len() {
-        if text[i] == b {
-            return i;
-        }
-        i += 1;
-    }
-    i
+    let case = notation::case_at(text, at);
+    let colon = case.colon;
+    let end = case.end;
+    check(&text[at..colon], &text[colon..end]);
+    case.next
 }
 
-// A case ends with `;` and a line end.
 fn check_all(text: &[u8]) {
     let mut at: usize = 0;
     while at < text.len() {
-        let colon = find(text, at, b':');
-        let end = find(text, colon, b';');
-        if text.len() - end < 2 {
-            return;
-        }
-        check(&text[at..colon], &text[colon..end]);
-        at = end + 2;
+        at = check_case(text, at);
     }
 }
 

@@ -1,5 +1,46 @@
-// Scenes as document 01 writes them, "84 1 P(1,1) 69 84 1 69", into bytes: a number is a byte, and in P(x,y), L(..) and R(..) the first two or four
-// numbers are coordinates. #n stands for n points, (0,0) to (n-1,0).
+// Cases of a text, each `label: bytes;` on lines of its own, and bytes as document 01 writes them, "84 1 P(1,1) 69 84 1 69": a number is a byte, and in
+// P(x,y), L(..) and R(..) the first two or four numbers are coordinates. #n stands for n points, (0,0) to (n-1,0).
+ghost use Prim.Native.Nat.{_<_, _≤_};
+ghost use mathlib.Core.Path.{_≡_};
+ghost use lib.ListN.{length, take};
+
+// A label ends at its colon, what it labels at its semicolon, and the next case begins after the line end.
+pub struct Case {
+    pub colon: usize,
+    pub end: usize,
+    pub next: usize,
+}
+
+// The first place from some place on where a byte stands, or the length.
+pub fn find(text: &[u8], from: usize, b: u8) -> usize
+    requires { ⌜ from ≤ length (now text) ⌝ }
+    ensures { λ r. ⌜ (from ≤ r) × (r ≤ length (now (text .entry))) ⌝ }
+{
+    let mut i = from;
+    while i < text.len() {
+        if text[i] == b {
+            return i;
+        }
+        i += 1;
+    }
+    i
+}
+
+// The case that begins at some place; the text's end stands for what is missing.
+pub fn case_at(text: &[u8], at: usize) -> Case
+    requires { ⌜ at < length (now text) ⌝ }
+    ensures { λ r. ⌜ (at ≤ r .colon) × (r .colon ≤ r .end) ⌝ }
+    ensures { λ r. ⌜ (r .end ≤ length (now (text .entry))) × (r .next ≤ length (now (text .entry))) ⌝ }
+    ensures { λ r. ⌜ at < r .next ⌝ }
+{
+    let colon = find(text, at, b':');
+    let end = find(text, colon, b';');
+    let mut next = text.len();
+    if text.len() - end > 2 {
+        next = end + 2;
+    }
+    Case { colon, end, next }
+}
 
 // What has been written, and the number that is being read.
 struct Writing {
@@ -111,8 +152,11 @@ fn read(out: &mut [u8], w: Writing, c: u8) -> Writing {
     }
 }
 
-// Writes the bytes that a text stands for at the start of out, and answers how many they are.
-pub fn write(out: &mut [u8], text: &[u8]) -> usize {
+// Writes the bytes that a text stands for at the start of out, and answers how many they are. The second part of its contract follows from the first,
+// and is there for callers that take `&out[..n]`.
+pub fn write(out: &mut [u8], text: &[u8]) -> usize
+    ensures { λ r. ⌜ (r ≤ length (now (out .exit))) × (r ≡ length (take r (now (out .exit)))) ⌝ }
+{
     let mut w = between(0, 0);
     let mut i: usize = 0;
     while i < text.len() {
@@ -120,5 +164,8 @@ pub fn write(out: &mut [u8], text: &[u8]) -> usize {
         i += 1;
     }
     let last = ended(out, w);
+    if last.at > out.len() {
+        return out.len();
+    }
     last.at
 }

@@ -1,9 +1,9 @@
--- `refusals::find` meets its contract. The loop's invariant: `i` is from the start on and within the text; the measure is what is left of the text.
+-- `notation::find` meets its contract. The loop's invariant: `i` is from the start on and within the text; the measure is what is left of the text.
 use Prim.Native.Nat.{_-_, _≤_}
 use native.Mathlib.Omega.{arith}
 use lib.ListN.{length}
-use Rattle.refusals.proofs.find.Statement.{statement}
-use Rattle.refusals.proofs.find.Tie as tie
+use Rattle.notation.proofs.find.Statement.{statement}
+use Rattle.notation.proofs.find.Tie as tie
 
 abbrev Inv-loop : tie.InvT-loop
 Inv-loop text from b i₀ i = (from ≤ i) × (i ≤ length text)

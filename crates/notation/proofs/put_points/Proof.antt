@@ -1,11 +1,11 @@
--- `refusals::notation::put_points` is safe and ends: the buffer keeps its length, and the measure is the number of points that are left.
+-- `notation::put_points` is safe and ends: the buffer keeps its length, and the measure is the number of points that are left.
 use Prim.Native.Nat.{_-_, _≤_}
 use native.Mathlib.Omega.{arith}
 use mathlib.Core.Path.{_≡_}
 use lib.ListN.{length}
 use borrow.Author.Needs.{needs}
-use Rattle.refusals.proofs.notation.put_points.Statement.{statement}
-use Rattle.refusals.proofs.notation.put_points.Tie as tie
+use Rattle.notation.proofs.put_points.Statement.{statement}
+use Rattle.notation.proofs.put_points.Tie as tie
 
 abbrev Inv-loop : tie.InvT-loop
 Inv-loop out₀ at count end₀ x₀ out end x = (x ≤ count) × (length out ≡ length out₀)

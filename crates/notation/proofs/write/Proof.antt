@@ -1,11 +1,12 @@
--- `refusals::notation::write` is safe and ends: the buffer keeps its length, and the measure is what is left of the text.
+-- `notation::write` stays within the buffer and ends: the buffer keeps its length, and the measure is what is left of the text.
 use Prim.Native.Nat.{_-_, _≤_}
 use native.Mathlib.Omega.{arith}
-use mathlib.Core.Path.{_≡_}
+use mathlib.Core.Path.{_≡_, sym}
 use lib.ListN.{length}
+use lib.Seq.{length-take-le}
 use borrow.Author.Needs.{needs}
-use Rattle.refusals.proofs.notation.write.Statement.{statement}
-use Rattle.refusals.proofs.notation.write.Tie as tie
+use Rattle.notation.proofs.write.Statement.{statement}
+use Rattle.notation.proofs.write.Tie as tie
 
 abbrev Inv-loop : tie.InvT-loop
 Inv-loop out₀ text w₀ i₀ out w i = (i ≤ length text) × (length out ≡ length out₀)
@@ -41,7 +42,13 @@ same-length : tie.Need-same-length Inv-loop μ-loop
 same-length c = search needs
 
 returns : tie.Need-returns Inv-loop μ-loop
-returns c = search needs
+returns c = (search needs, sym (length-take-le _ _ (search needs)))
+
+same-length-2 : tie.Need-same-length-2 Inv-loop μ-loop
+same-length-2 c = search needs
+
+returns-2 : tie.Need-returns-2 Inv-loop μ-loop
+returns-2 c = (search needs, sym (length-take-le _ _ (search needs)))
 
 pub write-spec : {M : Type 1} → statement M
 write-spec =
@@ -58,4 +65,6 @@ write-spec =
     loop-again
     ended-requires
     same-length
-    returns)
+    returns
+    same-length-2
+    returns-2)

@@ -1,0 +1,244 @@
+/* A small store of shapes. It keeps each shape as a named object in a file,
+ * asks Karvoiss how every two of them lie to each other, and prints a register
+ * of the answers, one pair to a line.
+ *
+ *     store          fills a store in a temporary file
+ *     store FILE     fills and keeps it in FILE
+ *
+ * To build it, with Karvoiss installed:
+ *
+ *     cc store.c $(pkg-config --cflags --libs karvoiss) -o store
+ */
+#include <karvoiss.h>
+
+#include <stdio.h>
+#include <stdlib.h>
+#include <string.h>
+
+/* An object's bytes: a type record, up to 1,024 elements of at most 19 bytes,
+ * and an end record. A scene is two objects, one after the other. */
+enum { POINTS = 1, LINE = 2, REGION = 3 };
+enum { NAME = 12, OBJECT_BYTES = 2 + 1024 * 19 + 1, OBJECTS = 16 };
+
+struct object {
+    char name[NAME];
+    size_t length;
+    uint8_t bytes[OBJECT_BYTES];
+};
+
+/* ---- Making objects ------------------------------------------------------ */
+
+/* The left end comes first: less x, or the same x and less y. In a region,
+ * ia is 1 if the interior is above the segment (left of it, if vertical). */
+struct segment {
+    int32_t x, y, right_x, right_y;
+    uint8_t ia;
+};
+
+/* Each segment is stored twice: d = 1 at its left end, d = 0 at its right. */
+struct half {
+    struct segment s;
+    uint8_t d;
+};
+
+static void put_byte(struct object *o, uint8_t b)
+{
+    o->bytes[o->length++] = b;
+}
+
+/* 32 bits, low byte first */
+static void put_number(struct object *o, int32_t v)
+{
+    for (int i = 0; i < 4; i++)
+        put_byte(o, (uint8_t)((uint32_t)v >> (8 * i)));
+}
+
+static void put_half(struct object *o, uint8_t type, const struct half *h)
+{
+    put_byte(o, type == REGION ? 82 : 76);
+    put_number(o, h->s.x);
+    put_number(o, h->s.y);
+    put_number(o, h->s.right_x);
+    put_number(o, h->s.right_y);
+    put_byte(o, h->d);
+    if (type == REGION)
+        put_byte(o, h->s.ia);
+}
+
+static void begin(struct object *o, const char *name, uint8_t type)
+{
+    memset(o, 0, sizeof *o);
+    strncpy(o->name, name, NAME - 1);
+    put_byte(o, 84);
+    put_byte(o, type);
+}
+
+static void end(struct object *o)
+{
+    put_byte(o, 69);
+}
+
+/* Points must come in order: by x, then by y. */
+static void make_points(struct object *o, const char *name, const int32_t (*xy)[2], int count)
+{
+    begin(o, name, POINTS);
+    for (int i = 0; i < count; i++) {
+        put_byte(o, 80);
+        put_number(o, xy[i][0]);
+        put_number(o, xy[i][1]);
+    }
+    end(o);
+}
+
+static int sign(int64_t v)
+{
+    return (v > 0) - (v < 0);
+}
+
+/* The order of halfsegments: by dominating point; there, d = 0 before d = 1;
+ * then h before k if k's far end is to the left of the ray through h's. */
+static int by_order(const void *a, const void *b)
+{
+    const struct half *h = a, *k = b;
+    int64_t hx = h->d ? h->s.x : h->s.right_x, hy = h->d ? h->s.y : h->s.right_y;
+    int64_t kx = k->d ? k->s.x : k->s.right_x, ky = k->d ? k->s.y : k->s.right_y;
+
+    if (hx != kx)
+        return sign(hx - kx);
+    if (hy != ky)
+        return sign(hy - ky);
+    if (h->d != k->d)
+        return h->d - k->d;
+
+    int64_t far_hx = (h->d ? h->s.right_x : h->s.x) - hx, far_hy = (h->d ? h->s.right_y : h->s.y) - hy;
+    int64_t far_kx = (k->d ? k->s.right_x : k->s.x) - hx, far_ky = (k->d ? k->s.right_y : k->s.y) - hy;
+
+    return -sign(far_hx * far_ky - far_hy * far_kx);
+}
+
+static void make_shape(struct object *o, const char *name, uint8_t type, const struct segment *segments, int count)
+{
+    static struct half halves[1024];
+
+    for (int i = 0; i < count; i++) {
+        halves[2 * i] = (struct half){segments[i], 1};
+        halves[2 * i + 1] = (struct half){segments[i], 0};
+    }
+    qsort(halves, 2 * (size_t)count, sizeof *halves, by_order);
+    begin(o, name, type);
+    for (int i = 0; i < 2 * count; i++)
+        put_half(o, type, &halves[i]);
+    end(o);
+}
+
+/* ---- The file: for each object its name, its length, its bytes ----------- */
+
+static bool save(FILE *file, const struct object *o)
+{
+    return fwrite(o->name, NAME, 1, file) == 1 && fwrite(&o->length, sizeof o->length, 1, file) == 1
+        && fwrite(o->bytes, 1, o->length, file) == o->length;
+}
+
+/* Whether the bytes are an object at all is not tested here: the calls do that. */
+static bool load(FILE *file, struct object *o)
+{
+    bool good = fread(o->name, NAME, 1, file) == 1 && fread(&o->length, sizeof o->length, 1, file) == 1
+        && o->length <= OBJECT_BYTES && fread(o->bytes, 1, o->length, file) == o->length;
+
+    o->name[NAME - 1] = '\0';
+    return good;
+}
+
+static bool fill(FILE *file)
+{
+    static const int32_t wells[][2] = {{2, 2}, {4, 2}, {9, 9}};
+    static const int32_t far_away[][2] = {{1000001, 0}};
+    static const struct segment road[] = {{2, 2, 4, 2, 0}, {4, 2, 8, 2, 0}};
+    static const struct segment ditch[] = {{6, 0, 6, 5, 0}};
+    static const struct segment field[] = {{0, 0, 4, 0, 1}, {0, 0, 0, 4, 0}, {0, 4, 4, 4, 0}, {4, 0, 4, 2, 1}, {4, 2, 4, 4, 1}};
+    static const struct segment yard[] = {{4, 0, 8, 0, 1}, {4, 0, 4, 2, 0}, {4, 2, 8, 2, 0}, {8, 0, 8, 2, 1}};
+    static struct object o;
+    bool good = true;
+
+    make_points(&o, "wells", wells, 3);
+    good &= save(file, &o);
+    make_points(&o, "lost", far_away, 1);
+    good &= save(file, &o);
+    make_shape(&o, "road", LINE, road, 2);
+    good &= save(file, &o);
+    make_shape(&o, "ditch", LINE, ditch, 1);
+    good &= save(file, &o);
+    make_shape(&o, "field", REGION, field, 5);
+    good &= save(file, &o);
+    make_shape(&o, "yard", REGION, yard, 4);
+    good &= save(file, &o);
+    return good;
+}
+
+/* ---- The register -------------------------------------------------------- */
+
+/* Nothing need be tested before a call: whatever the bytes are, the answer says
+ * so. The place is an offset in the scene, and tells which object is at fault. */
+static void print_refusal(const struct object *f, const struct object *g, uint32_t number, size_t place)
+{
+    bool in_f = place < f->length;
+
+    printf("%-6s %-6s refused: number %u, %s at byte %zu\n", f->name, g->name, (unsigned)number,
+           in_f ? f->name : g->name, in_f ? place : place - f->length);
+}
+
+static const char *in_a_word(const karvoiss_cells_t *m)
+{
+    if (m->cell[0][0])
+        return "the interiors meet";
+    return m->cell[0][1] || m->cell[1][0] || m->cell[1][1] ? "they touch" : "apart";
+}
+
+static void print_pair(const struct object *f, const struct object *g)
+{
+    static uint8_t scene[2 * OBJECT_BYTES];
+    size_t length = f->length + g->length;
+
+    memcpy(scene, f->bytes, f->length);
+    memcpy(scene + f->length, g->bytes, g->length);
+
+    /* masks 0 and 0: all flags are wanted */
+    karvoiss_vectors_t v = karvoiss_vectors(scene, length, 0, 0);
+    karvoiss_cells_t m = karvoiss_cells(scene, length);
+
+    if (v.number != 0) {
+        print_refusal(f, g, v.number, v.place);
+        return;
+    }
+    printf("%-6s %-6s %3u %3u  ", f->name, g->name, (unsigned)v.f, (unsigned)v.g);
+    for (int row = 0; row < 3; row++)
+        for (int column = 0; column < 3; column++)
+            putchar(m.cell[row][column] ? '1' : '0');
+    printf("  %s\n", in_a_word(&m));
+}
+
+int main(int argc, char **argv)
+{
+    static struct object objects[OBJECTS];
+    int count = 0;
+    FILE *file = argc > 1 ? fopen(argv[1], "wb+") : tmpfile();
+
+    if (file == NULL || !fill(file)) {
+        perror("store");
+        return 1;
+    }
+    rewind(file);
+    while (count < OBJECTS && load(file, &objects[count]))
+        count++;
+    fclose(file);
+
+    printf("F      G        f   g  cells\n");
+    /* the type is the second byte; F's must not be above G's */
+    for (int i = 0; i < count; i++)
+        for (int k = i + 1; k < count; k++)
+            if (objects[i].bytes[1] <= objects[k].bytes[1])
+                print_pair(&objects[i], &objects[k]);
+            else
+                print_pair(&objects[k], &objects[i]);
+    return 0;
+}

@@ -1,0 +1,60 @@
+/* The archive with a mistake on purpose, linked with --wrap: -DMISTAKE_name chooses it. Each test of the border must notice its own. */
+#include "karvoiss.h"
+
+#include <stdlib.h>
+#include <string.h>
+
+karvoiss_cells_t __real_karvoiss_cells(const uint8_t *scene, size_t length);
+karvoiss_cells_t __wrap_karvoiss_cells(const uint8_t *scene, size_t length);
+karvoiss_overlap_t __real_karvoiss_overlap(const uint8_t *scene, size_t length, uint8_t *list, size_t room);
+karvoiss_overlap_t __wrap_karvoiss_overlap(const uint8_t *scene, size_t length, uint8_t *list, size_t room);
+
+karvoiss_cells_t __wrap_karvoiss_cells(const uint8_t *scene, size_t length)
+{
+#if defined MISTAKE_reads_null
+    static volatile uint8_t first;
+
+    first = *(const volatile uint8_t *)scene;
+    (void)first;
+#elif defined MISTAKE_reads_on
+    static volatile uint8_t next;
+
+    next = ((const volatile uint8_t *)scene)[length];
+    (void)next;
+#elif defined MISTAKE_reads_before
+    static volatile uint8_t last;
+
+    last = ((const volatile uint8_t *)scene)[-1];
+    (void)last;
+#elif defined MISTAKE_writes_scene
+    if (length > 0)
+        *(volatile uint8_t *)scene = *scene;
+#elif defined MISTAKE_keeps_state
+    static volatile size_t kept;
+
+    kept = length;
+    karvoiss_cells_t answer = __real_karvoiss_cells(scene, length);
+    answer.place += kept != length;
+    return answer;
+#elif defined MISTAKE_deep
+    volatile uint8_t local[KARVOISS_CELLS_STACK];
+
+    for (size_t i = 0; i < sizeof local; i++)
+        local[i] = 0;
+#elif defined MISTAKE_heap
+    free(malloc(length));
+#endif
+    return __real_karvoiss_cells(scene, length);
+}
+
+karvoiss_overlap_t __wrap_karvoiss_overlap(const uint8_t *scene, size_t length, uint8_t *list, size_t room)
+{
+    karvoiss_overlap_t answer = __real_karvoiss_overlap(scene, length, list, room);
+
+#if defined MISTAKE_writes_on
+    ((volatile uint8_t *)list)[answer.count] = 0;
+#elif defined MISTAKE_clears_rest
+    memset(list + answer.count, 0, room - answer.count);
+#endif
+    return answer;
+}

@@ -1,0 +1,78 @@
+/* For libFuzzer: an input is two masks, a room (each 16 bits, low byte first) and a scene. The archive must answer what the reference does.
+ * The scene and the list end at pages that may not be touched, so that a byte too far is noticed though the archive has no checks of its own. */
+#define _DEFAULT_SOURCE
+#include "scenes.h"
+
+#include <sys/mman.h>
+#include <unistd.h>
+
+enum { HEAD = 6, MOST = 1 << 17, GUARD = 64, ROOM = LIST + GUARD };
+
+struct reference {
+    karvoiss_vectors_t vectors;
+    karvoiss_vectors_t wanted;
+    karvoiss_cells_t cells;
+    karvoiss_overlap_t overlap;
+};
+
+struct reference reference_answers(const uint8_t *scene, size_t length, uint16_t want_f, uint16_t want_g, uint8_t *list, size_t room);
+int LLVMFuzzerTestOneInput(const uint8_t *data, size_t size);
+
+/* The end of `size` bytes, a whole number of pages, before a page that may not be touched. */
+static uint8_t *fenced_end(size_t size)
+{
+    size_t page = (size_t)sysconf(_SC_PAGESIZE);
+    uint8_t *start = mmap(NULL, size + page, PROT_READ | PROT_WRITE, MAP_PRIVATE | MAP_ANONYMOUS, -1, 0);
+
+    if (start == MAP_FAILED || mprotect(start + size, page, PROT_NONE) != 0)
+        fail("mmap", "no memory");
+    return start + size;
+}
+
+static void require(bool holds, const char *what)
+{
+    if (!holds) {
+        fprintf(stderr, "DISAGREEMENT: %s\n", what);
+        abort();
+    }
+}
+
+static size_t number(const uint8_t *data)
+{
+    return data[0] + 256u * data[1];
+}
+
+int LLVMFuzzerTestOneInput(const uint8_t *data, size_t size)
+{
+    static uint8_t *scene_end, *list_end;
+    static uint8_t expected[GUARD + ROOM];
+
+    if (size < HEAD || size - HEAD > MOST)
+        return -1;
+    if (scene_end == NULL) {
+        scene_end = fenced_end(MOST);
+        list_end = fenced_end(1 << 13);
+    }
+
+    size_t length = size - HEAD, room = number(data + 4) % ROOM;
+    uint16_t want_f = (uint16_t)number(data), want_g = (uint16_t)number(data + 2);
+    uint8_t *scene = scene_end - length, *list = list_end - room;
+
+    memcpy(scene, data + HEAD, length);
+    memset(expected, 0xEE, GUARD + room);
+    memset(list - GUARD, 0xEE, GUARD + room);
+
+    struct reference reference = reference_answers(scene, length, want_f, want_g, expected + GUARD, room);
+    karvoiss_vectors_t vectors = karvoiss_vectors(scene, length, 0, 0);
+    karvoiss_vectors_t wanted = karvoiss_vectors(scene, length, want_f, want_g);
+    karvoiss_cells_t cells = karvoiss_cells(scene, length);
+    karvoiss_overlap_t overlap = karvoiss_overlap(scene, length, list, room);
+
+    require(same_vectors(&reference.vectors, &vectors), "vectors");
+    require(same_vectors(&reference.wanted, &wanted), "vectors under the masks");
+    require(same_cells(&reference.cells, &cells), "cells");
+    require(same_overlap(&reference.overlap, &overlap), "overlap list");
+    require(memcmp(expected, list - GUARD, GUARD + room) == 0, "the lent buffer, its list or what is around it");
+    require(memcmp(data + HEAD, scene, length) == 0, "the scene was changed");
+    return 0;
+}

@@ -1,0 +1,37 @@
+/* Null where the length is 0: for the scene of each call, and for the list, alone and with it. */
+#include "scenes.h"
+
+static const uint8_t empty_regions[] = {84, 3, 69, 84, 3, 69};
+
+static void is_overlap(const char *name, karvoiss_overlap_t answer, uint32_t number, size_t count)
+{
+    if (answer.number != number || answer.place != 0 || answer.count != count)
+        fail(name, "another answer");
+}
+
+/* argv[1]: a scene of two regions that are not both empty */
+int main(int argc, char **argv)
+{
+    if (argc != 2)
+        fail("null", "name one scene");
+
+    struct scene scene = read_scene(argv[1]);
+    uint8_t list[1] = {0xEE};
+    karvoiss_vectors_t v = karvoiss_vectors(NULL, 0, 0, 0);
+    karvoiss_cells_t c = karvoiss_cells(NULL, 0);
+    static const karvoiss_vectors_t no_vectors = {.number = 1};
+    static const karvoiss_cells_t no_cells = {.number = 1};
+
+    if (!same_vectors(&v, &no_vectors))
+        fail("vectors of null", "another answer");
+    if (!same_cells(&c, &no_cells))
+        fail("cells of null", "another answer");
+    is_overlap("overlap of null into a buffer", karvoiss_overlap(NULL, 0, list, 1), 1, 0);
+    is_overlap("overlap of null into null", karvoiss_overlap(NULL, 0, NULL, 0), 1, 0);
+    is_overlap("overlap of two empty regions into null", karvoiss_overlap(empty_regions, sizeof empty_regions, NULL, 0), 0, 0);
+    is_overlap("overlap of two regions into null", karvoiss_overlap(scene.bytes, scene.length, NULL, 0), 17, 0);
+    if (list[0] != 0xEE)
+        fail("overlap of null into a buffer", "the buffer was changed");
+    puts("null: 6 calls");
+    return 0;
+}

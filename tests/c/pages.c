@@ -1,0 +1,117 @@
+/* Scenes and lists that lie right before a page that may not be touched, and right after one. Each scene is asked about whole and cut at
+ * every byte, in pages that may only be read; the answers must be those that the same bytes get in ordinary memory. */
+#define _DEFAULT_SOURCE
+#include "scenes.h"
+
+#include <signal.h>
+#include <sys/mman.h>
+#include <unistd.h>
+
+static size_t page;
+static const char *current = "nothing yet";
+
+/* `size` bytes, a whole number of pages, between two pages that may not be touched. */
+struct fenced {
+    uint8_t *start;
+    size_t size;
+};
+
+static struct fenced fence(size_t least)
+{
+    struct fenced area = {.size = (least + page - 1) / page * page};
+    uint8_t *all = mmap(NULL, area.size + 2 * page, PROT_NONE, MAP_PRIVATE | MAP_ANONYMOUS, -1, 0);
+
+    if (all == MAP_FAILED || mprotect(all + page, area.size, PROT_READ | PROT_WRITE) != 0)
+        fail("mmap", "no memory");
+    area.start = all + page;
+    return area;
+}
+
+static uint8_t *at_start(struct fenced area, size_t length)
+{
+    (void)length;
+    return area.start;
+}
+
+static uint8_t *at_end(struct fenced area, size_t length)
+{
+    return area.start + area.size - length;
+}
+
+static void say_where(int signal)
+{
+    (void)signal;
+    static const char what[] = "border: a page was touched that was not lent: ";
+
+    if (write(2, what, sizeof what - 1) < 0 || write(2, current, strlen(current)) < 0 || write(2, "\n", 1) < 0)
+        _exit(2);
+    _exit(1);
+}
+
+typedef uint8_t *(*placing)(struct fenced, size_t);
+
+static void ask_at(struct fenced scenes, placing place, const struct scene *scene, size_t length)
+{
+    static uint8_t ordinary[1 << 17];
+    static uint8_t list[LIST];
+    struct answers expected, found;
+    uint8_t *bytes = place(scenes, length);
+
+    if (length > sizeof ordinary)
+        fail(scene->name, "too long");
+    memcpy(ordinary, scene->bytes, length);
+    ask(ordinary, length, expected.list, LIST, &expected);
+    mprotect(scenes.start, scenes.size, PROT_READ | PROT_WRITE);
+    memcpy(bytes, scene->bytes, length);
+    mprotect(scenes.start, scenes.size, PROT_READ);
+    ask(bytes, length, list, LIST, &found);
+    if (!same_answers(&expected, &found) || memcmp(expected.list, list, LIST) != 0)
+        fail(scene->name, "another answer beside a fence");
+}
+
+/* Every room up to two more than the count. */
+static size_t lists_at(struct fenced lists, placing place, const struct scene *scene)
+{
+    struct answers whole, found;
+    size_t room = 0;
+
+    ask(scene->bytes, scene->length, whole.list, LIST, &whole);
+    for (; room <= whole.overlap.count + 2; room++) {
+        uint8_t *list = place(lists, room);
+        bool taken = whole.overlap.number == 0 && room >= whole.overlap.count;
+        size_t count = taken ? whole.overlap.count : 0;
+
+        ask(scene->bytes, scene->length, list, room, &found);
+        if (found.overlap.count != count || memcmp(list, whole.list, count) != 0)
+            fail(scene->name, "another list beside a fence");
+        for (size_t i = count; i < room; i++)
+            if (list[i] != 0xEE)
+                fail(scene->name, "a later byte was changed beside a fence");
+    }
+    return room;
+}
+
+int main(int argc, char **argv)
+{
+    static const placing placings[] = {at_start, at_end};
+    struct sigaction action = {.sa_handler = say_where};
+    size_t cuts = 0, rooms = 0;
+
+    page = (size_t)sysconf(_SC_PAGESIZE);
+    sigaction(SIGSEGV, &action, NULL);
+    sigaction(SIGBUS, &action, NULL);
+    for (int i = 1; i < argc; i++) {
+        struct scene scene = read_scene(argv[i]);
+        struct fenced scenes = fence(scene.length), lists = fence(LIST);
+
+        current = scene.name;
+        for (int k = 0; k < 2; k++) {
+            for (size_t length = 0; length <= scene.length; length++, cuts++)
+                ask_at(scenes, placings[k], &scene, length);
+            rooms += lists_at(lists, placings[k], &scene);
+        }
+        free(scene.bytes);
+    }
+    printf("pages: %d scenes, %zu cuts, %zu rooms\n", argc - 1, cuts, rooms);
+    return argc > 1 ? 0 : 1;
+}

@@ -1,0 +1,80 @@
+/* The stack that each call needs, measured: the call runs on a painted stack of its own, and what is no longer painted was used. The header
+ * states a limit for each call, and no scene may need more. */
+#define _DEFAULT_SOURCE
+#include "scenes.h"
+
+#include <ucontext.h>
+
+enum { STACK = 1 << 18, PAINT = 0xC5 };
+
+static _Alignas(64) uint8_t stack[STACK];
+static ucontext_t here, there;
+static struct scene scene;
+static uint8_t list[LIST];
+static struct answers answers;
+
+static void ask_vectors(void)
+{
+    answers.vectors = karvoiss_vectors(scene.bytes, scene.length, 0, 0);
+}
+
+static void ask_cells(void)
+{
+    answers.cells = karvoiss_cells(scene.bytes, scene.length);
+}
+
+static void ask_overlap(void)
+{
+    answers.overlap = karvoiss_overlap(scene.bytes, scene.length, list, LIST);
+}
+
+/* The few bytes of the asking function itself are counted in. */
+static size_t used_by(void (*asks)(void))
+{
+    size_t unused = 0;
+
+    memset(stack, PAINT, STACK);
+    getcontext(&there);
+    there.uc_stack.ss_sp = stack;
+    there.uc_stack.ss_size = STACK;
+    there.uc_link = &here;
+    makecontext(&there, asks, 0);
+    swapcontext(&here, &there);
+    while (unused < STACK && stack[unused] == PAINT)
+        unused++;
+    return STACK - unused;
+}
+
+struct call {
+    const char *name;
+    void (*asks)(void);
+    size_t stated;
+    size_t measured;
+};
+
+int main(int argc, char **argv)
+{
+    struct call calls[] = {
+        {"karvoiss_vectors", ask_vectors, KARVOISS_VECTORS_STACK, 0},
+        {"karvoiss_cells", ask_cells, KARVOISS_CELLS_STACK, 0},
+        {"karvoiss_overlap", ask_overlap, KARVOISS_OVERLAP_STACK, 0},
+    };
+    int bad = argc < 2;
+
+    for (int i = 1; i < argc; i++) {
+        scene = read_scene(argv[i]);
+        for (int k = 0; k < 3; k++) {
+            size_t used = used_by(calls[k].asks);
+
+            if (used > calls[k].measured)
+                calls[k].measured = used;
+        }
+        free(scene.bytes);
+    }
+    for (int k = 0; k < 3; k++) {
+        printf("stack: %s used %zu bytes, the header states %zu\n", calls[k].name, calls[k].measured, calls[k].stated);
+        if (calls[k].measured > calls[k].stated || calls[k].measured == 0)
+            bad = 1;
+    }
+    return bad;
+}

@@ -1,0 +1,68 @@
+//! The reference as a static library: one judgement of a byte string, for a harness in C that asks the archive the same (tests/c/fuzz.c).
+//! Built with coverage counters it guides a fuzzer: every branch that the reference takes is one that the archive must take too.
+
+// the scenes that the comparison makes, and its mistakes, have no use here
+#![allow(dead_code)]
+
+mod cells;
+mod check;
+mod flags;
+mod judge;
+mod mistakes;
+mod pieces;
+mod plane;
+mod scene;
+
+use judge::{judge, VectorsAnswer};
+use mistakes::RIGHT;
+
+#[repr(C)]
+pub struct Vectors {
+    number: u32,
+    place: usize,
+    f: u16,
+    g: u16,
+}
+
+#[repr(C)]
+pub struct Cells {
+    number: u32,
+    place: usize,
+    cell: [[bool; 3]; 3],
+}
+
+#[repr(C)]
+pub struct Overlap {
+    number: u32,
+    place: usize,
+    count: usize,
+}
+
+#[repr(C)]
+pub struct Answers {
+    vectors: Vectors,
+    wanted: Vectors,
+    cells: Cells,
+    overlap: Overlap,
+}
+
+fn vectors(answer: VectorsAnswer) -> Vectors {
+    Vectors { number: answer.number, place: answer.place, f: answer.f, g: answer.g }
+}
+
+/// All flags, the wanted flags, the cells, and the overlap list into `list`.
+///
+/// # Safety
+/// `scene` has `length` bytes and `list` has `room`, neither is null.
+#[no_mangle]
+pub unsafe extern "C" fn reference_answers(scene: *const u8, length: usize, want_f: u16, want_g: u16, list: *mut u8, room: usize) -> Answers {
+    let (scene, list) = unsafe { (std::slice::from_raw_parts(scene, length), std::slice::from_raw_parts_mut(list, room)) };
+    let judgement = judge(scene, &RIGHT);
+    let (cells, overlap) = (judgement.cells(), judgement.overlap(list));
+    Answers {
+        vectors: vectors(judgement.vectors(0, 0)),
+        wanted: vectors(judgement.vectors(want_f, want_g)),
+        cells: Cells { number: cells.number, place: cells.place, cell: cells.cell },
+        overlap: Overlap { number: overlap.number, place: overlap.place, count: overlap.count },
+    }
+}
