@@ -38,7 +38,7 @@ fn taken(s: &[u8], scene: Scene) -> Explored
     let of_g = g.shape;
     let all = masks::masks_of(of_f, of_g);
     let both = question::vectors_of(s, scene, all.f, all.g);
-    let cells = crate::matrix(of_f, of_g, both.f, both.g, f.count == 0, g.count == 0);
+    let cells = table::matrix(of_f, of_g, both.f, both.g, f.count == 0, g.count == 0);
     Explored {
         number: 0,
         place: 0,

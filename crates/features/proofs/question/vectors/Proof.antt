@@ -3,7 +3,6 @@ use Prim.Native.Nat.{ℕ}
 use mathlib.Core.Path.{_≡_, sym, _∙_}
 use mathlib.Core.List.{List}
 use borrow.Author.Needs.{needs}
-use Rattle.scene.proofs.Taken.{taken-scene}
 use Rattle.scene.specs.Conditions.{typesDescend}
 use Rattle.scene.specs.Read.{IsScene}
 use Rattle.scene.specs.declared.Fault.the-variants.{Nothing}

@@ -1,7 +1,7 @@
--- `cells::own_interior` meets its contract.
+-- `table::own_interior` meets its contract.
 use borrow.Author.Needs.{needs}
-use Rattle.cells.proofs.own_interior.Statement.{statement}
-use Rattle.cells.proofs.own_interior.Tie as tie
+use Rattle.table.proofs.own_interior.Statement.{statement}
+use Rattle.table.proofs.own_interior.Tie as tie
 
 has-either-requires : tie.Need-has-either-requires
 has-either-requires c κs = search needs

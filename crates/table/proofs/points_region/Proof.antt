@@ -1,9 +1,9 @@
--- `cells::points_region` meets its contract.
+-- `table::points_region` meets its contract.
 use Rattle.flags.specs.Flags.{hasBit}
 use Rattle.matrix.specs.Matrix.{matrixOf}
 use borrow.Author.Needs.{needs}
-use Rattle.cells.proofs.points_region.Statement.{statement}
-use Rattle.cells.proofs.points_region.Tie as tie
+use Rattle.table.proofs.points_region.Statement.{statement}
+use Rattle.table.proofs.points_region.Tie as tie
 
 negate-requires : tie.Need-negate-requires
 negate-requires c κs = search needs

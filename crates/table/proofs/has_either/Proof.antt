@@ -1,7 +1,7 @@
--- `cells::has_either` meets its contract.
+-- `table::has_either` meets its contract.
 use borrow.Author.Needs.{needs}
-use Rattle.cells.proofs.has_either.Statement.{statement}
-use Rattle.cells.proofs.has_either.Tie as tie
+use Rattle.table.proofs.has_either.Statement.{statement}
+use Rattle.table.proofs.has_either.Tie as tie
 
 has-requires : tie.Need-has-requires
 has-requires c κs = search needs

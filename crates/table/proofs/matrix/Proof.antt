@@ -1,9 +1,9 @@
--- `cells::matrix` meets its contract.
+-- `table::matrix` meets its contract.
 use Rattle.flags.specs.Flags.{hasBit}
 use Rattle.matrix.specs.Matrix.{matrixOf}
 use borrow.Author.Needs.{needs}
-use Rattle.cells.proofs.matrix.Statement.{statement}
-use Rattle.cells.proofs.matrix.Tie as tie
+use Rattle.table.proofs.matrix.Statement.{statement}
+use Rattle.table.proofs.matrix.Tie as tie
 
 enum-told : tie.Need-enum-told
 enum-told c = search needs

@@ -1,7 +1,7 @@
--- `cells::both_interiors` meets its contract.
+-- `table::both_interiors` meets its contract.
 use borrow.Author.Needs.{needs}
-use Rattle.cells.proofs.both_interiors.Statement.{statement}
-use Rattle.cells.proofs.both_interiors.Tie as tie
+use Rattle.table.proofs.both_interiors.Statement.{statement}
+use Rattle.table.proofs.both_interiors.Tie as tie
 
 has-either-requires : tie.Need-has-either-requires
 has-either-requires c κs = search needs

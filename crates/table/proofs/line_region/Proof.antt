@@ -1,9 +1,9 @@
--- `cells::line_region` meets its contract.
+-- `table::line_region` meets its contract.
 use Rattle.flags.specs.Flags.{hasBit}
 use Rattle.matrix.specs.Matrix.{matrixOf}
 use borrow.Author.Needs.{needs}
-use Rattle.cells.proofs.line_region.Statement.{statement}
-use Rattle.cells.proofs.line_region.Tie as tie
+use Rattle.table.proofs.line_region.Statement.{statement}
+use Rattle.table.proofs.line_region.Tie as tie
 
 has-requires : tie.Need-has-requires
 has-requires c κs = search needs

@@ -1,9 +1,9 @@
--- `cells::points_points` meets its contract.
+-- `table::points_points` meets its contract.
 use Rattle.flags.specs.Flags.{hasBit}
 use Rattle.matrix.specs.Matrix.{matrixOf}
 use borrow.Author.Needs.{needs}
-use Rattle.cells.proofs.points_points.Statement.{statement}
-use Rattle.cells.proofs.points_points.Tie as tie
+use Rattle.table.proofs.points_points.Statement.{statement}
+use Rattle.table.proofs.points_points.Tie as tie
 
 has-requires : tie.Need-has-requires
 has-requires c κs = search needs

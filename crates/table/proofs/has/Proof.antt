@@ -1,9 +1,9 @@
--- `cells::has` meets its contract.
+-- `table::has` meets its contract.
 use mathlib.Core.Path.{refl}
 use Rattle.whole.specs.Count.{odd}
 use borrow.Author.Needs.{needs}
-use Rattle.cells.proofs.has.Statement.{statement}
-use Rattle.cells.proofs.has.Tie as tie
+use Rattle.table.proofs.has.Statement.{statement}
+use Rattle.table.proofs.has.Tie as tie
 
 div-result : tie.Need-div-result
 div-result c = search needs

@@ -1,9 +1,9 @@
--- `cells::line_line` meets its contract.
+-- `table::line_line` meets its contract.
 use Rattle.flags.specs.Flags.{hasBit}
 use Rattle.matrix.specs.Matrix.{matrixOf}
 use borrow.Author.Needs.{needs}
-use Rattle.cells.proofs.line_line.Statement.{statement}
-use Rattle.cells.proofs.line_line.Tie as tie
+use Rattle.table.proofs.line_line.Statement.{statement}
+use Rattle.table.proofs.line_line.Tie as tie
 
 has-either-requires : tie.Need-has-either-requires
 has-either-requires c κs = search needs
