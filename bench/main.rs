@@ -1,0 +1,165 @@
+//! The measurements: scenes of all families, our answers and times beside those of GEOS, and the table and the picture made of them.
+//! The scenes come from here and from the reference's maker; nothing of the crates takes part but the archive's exported functions.
+//!
+//! bench/run builds this once, runs it with each version of GEOS, and writes docs/BENCH.md and docs/bench.svg.
+
+mod clock;
+mod compare;
+mod faults;
+mod geos;
+mod picture;
+mod report;
+mod results;
+mod rows;
+mod shapes;
+
+// the reference's modules, as they stand
+#[allow(dead_code)]
+#[path = "../tests/reference/cells.rs"]
+mod cells;
+#[allow(dead_code)]
+#[path = "../tests/reference/check.rs"]
+mod check;
+#[allow(dead_code)]
+#[path = "../tests/reference/damage.rs"]
+mod damage;
+#[allow(dead_code)]
+#[path = "../tests/reference/flags.rs"]
+mod flags;
+#[allow(dead_code)]
+#[path = "../tests/reference/judge.rs"]
+mod judge;
+#[allow(dead_code)]
+#[path = "../tests/reference/library.rs"]
+mod library;
+#[allow(dead_code)]
+#[path = "../tests/reference/maker.rs"]
+mod maker;
+#[allow(dead_code)]
+#[path = "../tests/reference/mistakes.rs"]
+mod mistakes;
+#[allow(dead_code)]
+#[path = "../tests/reference/pieces.rs"]
+mod pieces;
+#[allow(dead_code)]
+#[path = "../tests/reference/plan.rs"]
+mod plan;
+#[allow(dead_code)]
+#[path = "../tests/reference/plane.rs"]
+mod plane;
+#[allow(dead_code)]
+#[path = "../tests/reference/random.rs"]
+mod random;
+#[allow(dead_code)]
+#[path = "../tests/reference/scene.rs"]
+mod scene;
+
+use damage::damaged;
+use flags::line_boundary;
+use geos::{bench_geos_from_bytes, Geos, Pair, Parts};
+use maker::{full, PAIRS};
+use random::Random;
+use scene::{read_scene, scene_bytes, LINE};
+use std::path::Path;
+use std::process::exit;
+use std::time::Instant;
+
+const USAGE: &str = "usage: bench compare           GEOS's cells against ours; fails if a difference is unexplained
+       bench time               times of every row, ours and GEOS's
+       bench peer               GEOS's times alone
+       bench slowest            our times for scenes with a fault, and the slowest of many random scenes
+       bench make DIR           writes the scenes of full size, a file each
+       bench count ours FILE..  asks for the cells of each scene once, for callgrind
+       bench count geos FILE..  the same of GEOS
+       bench report DIR         makes docs/BENCH.md and docs/bench.svg from the runs' outputs in DIR";
+
+/// Random scenes of each pair that are looked through for the slowest, each as it is and damaged.
+const LOOKED_THROUGH: u64 = 100;
+
+fn main() {
+    let arguments: Vec<String> = std::env::args().skip(1).collect();
+    let arguments: Vec<&str> = arguments.iter().map(String::as_str).collect();
+    let good = match arguments[..] {
+        ["compare"] => {
+            println!("version {}", Geos::version());
+            compare::run(&Geos::new())
+        }
+        ["time"] => time(true),
+        ["peer"] => time(false),
+        ["slowest"] => slowest(),
+        ["make", directory] => make(directory),
+        ["count", who, ref files @ ..] => count(who, files),
+        ["report", directory] => report::write(Path::new(directory)).is_ok(),
+        _ => {
+            eprintln!("{USAGE}");
+            exit(2);
+        }
+    };
+    exit(if good { 0 } else { 1 });
+}
+
+/// The scene's objects in parts for GEOS, so ordered that it has the best chance to be right.
+fn parts(bytes: &[u8]) -> [Parts; 2] {
+    let (f, g) = read_scene(bytes).expect("the rows are scenes");
+    [f, g].map(|object| Parts::with_boundary_first(&object, &if object.kind == LINE { line_boundary(&object) } else { Vec::new() }))
+}
+
+fn time(with_ours: bool) -> bool {
+    let geos = Geos::new();
+    println!("version {}", Geos::version());
+    for row in rows::all() {
+        let bytes = &row.bytes;
+        let parts = parts(bytes);
+        let right = library::cells(bytes).expect("cells are 0 or 1");
+        assert_eq!(right.number, 0, "{} is refused", row.name());
+        let verdict = if bench_geos_from_bytes(&geos, bytes, &parts) == Some(right.cell) { "right" } else { "wrong" };
+        let (cells, vectors) =
+            if with_ours { (clock::best(|| library::cells(bytes)), clock::best(|| library::vectors(bytes, 0, 0))) } else { (0.0, 0.0) };
+        let whole = clock::best(|| bench_geos_from_bytes(&geos, bytes, &parts));
+        let built = Pair::build(&geos, bytes, &parts);
+        let relate = clock::best(|| built.relate());
+        println!("row {} {cells:.3} {vectors:.3} {whole:.3} {relate:.3} {verdict}", row.name());
+    }
+    true
+}
+
+fn slowest() -> bool {
+    for fault in faults::all() {
+        let answer = library::cells(&fault.bytes).expect("cells are 0 or 1");
+        assert_ne!(answer.number, 0, "{} has no fault", fault.name);
+        println!("fault {} {} {:.3}", fault.name, answer.number, clock::best(|| library::cells(&fault.bytes)));
+    }
+    for kinds in PAIRS {
+        for seed in 0..2 * LOOKED_THROUGH {
+            let mut random = Random::new(seed / 2);
+            let (f, g) = full(&mut random, kinds);
+            let bytes = if seed % 2 == 0 { scene_bytes(&f, &g) } else { damaged(&mut random, &f, &g) };
+            let once = || {
+                let start = Instant::now();
+                let answer = library::cells(&bytes).expect("cells are 0 or 1");
+                (start.elapsed().as_secs_f64() * 1e6, answer.number)
+            };
+            let (time, number) = (0..3).map(|_| once()).min_by(|a, b| a.0.total_cmp(&b.0)).expect("asked three times");
+            println!("any seed-{seed}-{}{} {number} {time:.3}", kinds.0, kinds.1);
+        }
+    }
+    true
+}
+
+fn make(directory: &str) -> bool {
+    let full_size = rows::all().into_iter().filter(|row| row.size == rows::FULL);
+    full_size.map(|row| std::fs::write(Path::new(directory).join(row.name()), &row.bytes)).all(|written| written.is_ok())
+}
+
+fn count(who: &str, files: &[&str]) -> bool {
+    let geos = Geos::new();
+    for file in files {
+        let bytes = std::fs::read(file).expect("the scene can be read");
+        let right = match who {
+            "ours" => library::cells(&bytes).map(|answer| answer.number == 0),
+            _ => Ok(bench_geos_from_bytes(&geos, &bytes, &parts(&bytes)).is_some()),
+        };
+        assert_eq!(right, Ok(true), "{file} is not answered");
+    }
+    true
+}
