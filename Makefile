@@ -1,5 +1,5 @@
 # make test: everything that the gate checks. make run: builds explore and answers the sample scenes; make run SCENE=file answers a file.
-.PHONY: test run archive tools pictures fmt clean
+.PHONY: test run archive tools pictures bench fmt clean
 
 test:
 	@bash tests/gate
@@ -32,6 +32,10 @@ pictures: $(patsubst scenes/%.wkt,docs/scenes/%.svg,$(wildcard scenes/*.wkt))
 
 docs/scenes/%.svg: scenes/%.wkt target/tools/scene target/bin/explore
 	@target/tools/scene make --beyond $< | target/tools/scene draw -o $@
+
+# Times beside GEOS, after bench/setup: the measured part of docs/BENCH.md, and docs/bench.svg
+bench: archive
+	@bench/run
 
 fmt:
 	@rt fmt

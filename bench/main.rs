@@ -62,7 +62,6 @@ use random::Random;
 use scene::{read_scene, scene_bytes, LINE};
 use std::path::Path;
 use std::process::exit;
-use std::time::Instant;
 
 const USAGE: &str = "usage: bench compare           GEOS's cells against ours; fails if a difference is unexplained
        bench time               times of every row, ours and GEOS's
@@ -134,13 +133,8 @@ fn slowest() -> bool {
             let mut random = Random::new(seed / 2);
             let (f, g) = full(&mut random, kinds);
             let bytes = if seed % 2 == 0 { scene_bytes(&f, &g) } else { damaged(&mut random, &f, &g) };
-            let once = || {
-                let start = Instant::now();
-                let answer = library::cells(&bytes).expect("cells are 0 or 1");
-                (start.elapsed().as_secs_f64() * 1e6, answer.number)
-            };
-            let (time, number) = (0..3).map(|_| once()).min_by(|a, b| a.0.total_cmp(&b.0)).expect("asked three times");
-            println!("any seed-{seed}-{}{} {number} {time:.3}", kinds.0, kinds.1);
+            let answer = library::cells(&bytes).expect("cells are 0 or 1");
+            println!("any seed-{seed}-{}{} {} {:.3}", kinds.0, kinds.1, answer.number, clock::roughly(|| library::cells(&bytes)));
         }
     }
     true

@@ -160,13 +160,13 @@ fn faults(results: &Results) -> String {
 
 fn comparison(results: &Results) -> String {
     let mut text = String::from(
-        "### The comparison of cells\n\nScenes of each pair of types: the rows above in all sizes, and random ones. \"Predicted\" are those on which the \
-         described fault would show; each difference must be just the predicted one.\n\n\
-         | GEOS | types | scenes | same cells | predicted | the known fault | unexplained |\n|---|---|---|---|---|---|---|\n",
+        "### The comparison of cells\n\nThe rows above in all sizes, and random scenes: those with our cells, those where the version's known fault shows, just \
+         as predicted, and those where GEOS gives something else.\n\n\
+         | GEOS | types | same cells | known fault | unexplained |\n|---|---|---|---|---|\n",
     );
     for (version, all) in results.versions.iter().zip(&results.compared) {
-        for Compared { kinds, scenes, agree, known, predicted, unexplained } in all {
-            let _ = writeln!(text, "| {version} | {} | {scenes} | {agree} | {predicted} | {known} | {unexplained} |", pair_name(*kinds));
+        for Compared { kinds, agree, known, unexplained } in all {
+            let _ = writeln!(text, "| {version} | {} | {agree} | {known} | {unexplained} |", pair_name(*kinds));
         }
     }
     text

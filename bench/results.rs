@@ -41,10 +41,8 @@ pub struct Other {
 /// One pair of types in the comparison with one version.
 pub struct Compared {
     pub kinds: (u8, u8),
-    pub scenes: usize,
     pub agree: usize,
     pub known: usize,
-    pub predicted: usize,
     pub unexplained: usize,
 }
 
@@ -92,9 +90,7 @@ fn counts(directory: &Path, file: &str) -> HashMap<String, u64> {
 fn compared(directory: &Path, file: &str) -> Vec<Compared> {
     let all = lines(directory, file, "compared");
     let numbers = all.iter().map(|words| words.iter().map(|word| number(word)).collect::<Vec<usize>>());
-    numbers
-        .map(|n| Compared { kinds: (n[0] as u8, n[1] as u8), scenes: n[2], agree: n[3], known: n[4], predicted: n[5], unexplained: n[6] })
-        .collect()
+    numbers.map(|n| Compared { kinds: (n[0] as u8, n[1] as u8), agree: n[2], known: n[3], unexplained: n[4] }).collect()
 }
 
 fn others(directory: &Path, first: &str) -> Vec<Other> {
