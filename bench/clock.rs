@@ -4,7 +4,7 @@
 use std::ffi::{c_int, c_long};
 use std::hint::black_box;
 
-const BATCHES: usize = 9;
+const BATCHES: usize = 5;
 /// A batch's length, and what is spent at most on one call's batches, in microseconds.
 const BATCH: f64 = 4_000.0;
 const MOST: f64 = 2_000_000.0;

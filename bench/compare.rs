@@ -90,27 +90,33 @@ fn skips_boundary(line: &Object, other: &Object) -> bool {
     if line.kind != LINE || other.is_empty() {
         return false;
     }
-    let boundary = line_boundary(line);
-    let its_segments = other.segments();
-    let is_outside = |p: Point| {
-        let at = Fraction::whole(p);
-        let on = other.points.contains(&p) || its_segments.iter().any(|s| s.has(&at));
-        !on && (other.kind == LINE || !inside(&its_segments, &at))
-    };
+    let boundary = boundary_outside(line, other);
     let its_box = Box::of(other);
     let mut found_outside = false;
     for s in line.segments() {
         if found_outside && its_box.is_beside(&Box::round([s.left, s.right].into_iter())) {
             continue;
         }
-        for end in [s.left, s.right] {
-            found_outside |= is_outside(end);
-            if is_outside(end) && boundary.contains(&end) {
-                return false;
-            }
+        if [s.left, s.right].iter().any(|end| boundary.contains(end)) {
+            return false;
         }
+        found_outside |= [s.left, s.right].iter().any(|end| is_outside(*end, other));
     }
     true
+}
+
+/// The boundary points of a line that lie outside the other object; none if it is no line.
+pub fn boundary_outside(line: &Object, other: &Object) -> Vec<Point> {
+    if line.kind != LINE {
+        return Vec::new();
+    }
+    line_boundary(line).into_iter().filter(|p| is_outside(*p, other)).collect()
+}
+
+fn is_outside(p: Point, object: &Object) -> bool {
+    let (at, segments) = (Fraction::whole(p), object.segments());
+    let on = object.points.contains(&p) || segments.iter().any(|s| s.has(&at));
+    !on && (object.kind == LINE || !inside(&segments, &at))
 }
 
 /// The smallest upright box round some points; one round none lies beside every box.

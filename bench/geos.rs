@@ -55,13 +55,13 @@ impl Parts {
         }
     }
 
-    /// The same with a line's segments that hold a boundary point first. A set of parts has no order; 3.13 answers more of these right.
-    pub fn with_boundary_first(object: &Object, boundary: &[Point]) -> Parts {
+    /// The same with a line's segments that end at one of some points first.
+    pub fn with_first(object: &Object, points: &[Point]) -> Parts {
         let mut parts = Parts::of(object);
         if let Parts::Segments(paths) = &mut parts {
-            let bound = segments(object).map(|(s, _)| boundary.iter().any(|p| s.has_end(*p)));
-            let mut keyed: Vec<(bool, Path)> = bound.zip(paths.drain(..)).collect();
-            keyed.sort_by_key(|(bound, _)| !bound);
+            let comes_first = segments(object).map(|(s, _)| points.iter().any(|p| s.has_end(*p)));
+            let mut keyed: Vec<(bool, Path)> = comes_first.zip(paths.drain(..)).collect();
+            keyed.sort_by_key(|(first, _)| !first);
             paths.extend(keyed.into_iter().map(|(_, path)| path));
         }
         parts

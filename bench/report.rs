@@ -68,23 +68,32 @@ fn title(family: &str, kinds: (u8, u8)) -> String {
     format!("{family} ({})", pair_name(kinds))
 }
 
+/// A row's ratio, if it has one.
+type Ratio<'a> = &'a dyn Fn(&str, &Times) -> Option<f64>;
+
 fn summary(results: &Results) -> String {
     let rows = rows(results, FULL);
-    let line = |what: &str, value: fn(&Times) -> Option<f64>| {
-        let values: Vec<(String, f64)> = rows.iter().filter_map(|(family, kinds, times)| Some((title(family, *kinds), value(times)?))).collect();
-        let ratios: Vec<f64> = values.iter().map(|(_, ratio)| *ratio).collect();
+    let line = |what: &str, ratio: Ratio| {
+        let all = rows.iter().filter_map(|(family, kinds, times)| Some((title(family, *kinds), ratio(&name(family, *kinds, FULL), times)?)));
+        let all: Vec<(String, f64)> = all.collect();
+        let ratios: Vec<f64> = all.iter().map(|(_, ratio)| *ratio).collect();
         let slower = ratios.iter().filter(|ratio| **ratio > 1.0).count();
-        let (name, most) = worst(&values);
-        format!("| {what} | {} | {:.3} | {most:.2}, {name} | {slower} |\n", values.len(), median(&ratios))
+        let (name, most) = worst(&all);
+        format!("| {what} | {} | {:.3} | {most:.2}, {name} | {slower} |\n", all.len(), median(&ratios))
     };
     let [new, old] = &results.versions;
     let mut text = String::from(
         "### Ratios at 512 segments\n\n| our cells against | rows | median | worst | rows where we are slower |\n|---|---|---|---|---|\n",
     );
-    text += &line(&format!("GEOS {new}: build, validity, relate"), Times::ratio);
-    text += &line(&format!("GEOS {old}: the same"), |times| times.old.right.then_some(times.cells / times.old.whole));
-    text += &line("the faster of the two: the same", Times::ratio_to_faster);
-    text += &line(&format!("GEOS {new}: relate alone"), |times| times.new.right.then_some(times.cells / times.new.relate));
+    let counted = |row: &str, times: &Times| {
+        let [ours, its] = [0, 1].map(|which| results.counts[which].get(row));
+        times.new.right.then_some(*ours? as f64 / *its? as f64)
+    };
+    text += &line(&format!("GEOS {new}: build, validity, relate"), &|_, times| times.ratio());
+    text += &line("the same, counted in instructions", &counted);
+    text += &line(&format!("GEOS {old}: build, validity, relate"), &|_, times| times.old.right.then_some(times.cells / times.old.whole));
+    text += &line("the faster of the two: build, validity, relate", &|_, times| times.ratio_to_faster());
+    text += &line(&format!("GEOS {new}: relate alone"), &|_, times| times.new.right.then_some(times.cells / times.new.relate));
     let wrong: Vec<String> = rows.iter().filter(|(_, _, times)| !times.new.right).map(|(family, kinds, _)| title(family, *kinds)).collect();
     let excluded = if wrong.is_empty() { "none".to_string() } else { wrong.join("; ") };
     let _ = write!(text, "\nLeft out, since GEOS {new} gives other cells: {excluded}.\n\n");

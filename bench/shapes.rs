@@ -164,8 +164,9 @@ fn rings(n: usize, _: bool) -> [Vec<Segment>; 2] {
 }
 
 fn squares(n: usize, _: bool) -> [Vec<Segment>; 2] {
-    let side = (1..).take_while(|side| 4 * side * side <= n as i64).last().unwrap_or(1);
-    let of = |first: i64| (0..side * side).flat_map(|i| square((first + 120 * (i / side), first + 120 * (i % side)), 40)).collect();
+    let count = (n as i64 / 4).min(121);
+    let side = (1..).find(|side| side * side >= count).unwrap_or(1);
+    let of = |first: i64| (0..count).flat_map(|i| square((first + 120 * (i / side), first + 120 * (i % side)), 40)).collect();
     [of(0), of(60)]
 }
 
