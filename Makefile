@@ -1,6 +1,6 @@
 # make test: everything that the gate checks. make run: builds explore and answers the sample scenes; make run SCENE=file answers a file.
 # make install PREFIX=dir: header, archive and pkg-config file. make fuzz SECONDS=n: fresh scenes and inputs for so long.
-.PHONY: test run archive install fuzz tools pictures fmt clean
+.PHONY: test run archive install fuzz tools pictures bench fmt clean
 
 test:
 	@bash tests/gate
@@ -51,6 +51,10 @@ pictures: $(patsubst scenes/%.wkt,docs/scenes/%.svg,$(wildcard scenes/*.wkt))
 
 docs/scenes/%.svg: scenes/%.wkt target/tools/scene target/bin/explore
 	@target/tools/scene make --beyond $< | target/tools/scene draw -o $@
+
+# Times beside GEOS, after bench/setup: the measured part of docs/BENCH.md, and docs/bench.svg
+bench: archive
+	@bench/run
 
 fmt:
 	@rt fmt

@@ -1,0 +1,141 @@
+//! The peer's nine cells against ours, scene by scene. Every difference must be one that a known fault of that version of GEOS predicts for just
+//! this scene; docs/BENCH.md describes the faults.
+
+use crate::cells::{matrix, Matrix};
+use crate::flags::line_boundary;
+use crate::geos::{bench_geos_from_bytes, Geos, Parts};
+use crate::library;
+use crate::maker::{full, small, PAIRS};
+use crate::mistakes::{Rules, RIGHT};
+use crate::plane::{inside, Fraction, Point};
+use crate::random::Random;
+use crate::rows;
+use crate::scene::{read_scene, scene_bytes, Half, Object, LINE};
+
+/// Random scenes of each pair of types: small ones, and ones of full size.
+const SMALL: u64 = 4_000;
+const FULL: u64 = 40;
+
+/// The scenes of one pair: those with our cells, those where the known fault shows, those where GEOS gives something else than predicted.
+#[derive(Default)]
+struct Tally {
+    agree: usize,
+    known: usize,
+    unexplained: usize,
+}
+
+/// Compares the rows and the random scenes; writes a line for each pair of types. True if nothing is left unexplained.
+pub fn run(geos: &Geos) -> bool {
+    let version = Geos::version();
+    let mut good = true;
+    for kinds in PAIRS {
+        let mut tally = Tally::default();
+        for row in rows::all().iter().filter(|row| row.kinds == kinds) {
+            one(geos, &version, &row.name(), &row.bytes, &mut tally);
+        }
+        for seed in 0..SMALL + FULL {
+            let mut random = Random::new(seed);
+            let (f, g) = if seed < SMALL { small(&mut random, kinds) } else { full(&mut random, kinds) };
+            one(geos, &version, &format!("seed {seed} of {kinds:?}"), &scene_bytes(&f, &g), &mut tally);
+        }
+        let Tally { agree, known, unexplained } = tally;
+        println!("compared {} {} {agree} {known} {unexplained}", kinds.0, kinds.1);
+        good &= unexplained == 0;
+    }
+    good
+}
+
+fn one(geos: &Geos, version: &str, name: &str, bytes: &[u8], tally: &mut Tally) {
+    let (f, g) = read_scene(bytes).expect("the maker writes scenes");
+    let ours = library::cells(bytes).expect("cells are 0 or 1");
+    assert_eq!(ours.number, 0, "{name} is refused");
+    let its = bench_geos_from_bytes(geos, bytes, &[Parts::of(&f), Parts::of(&g)]);
+    let predicted = with_fault(version, &f, &g, &ours.cell);
+    if its != Some(predicted) {
+        tally.unexplained += 1;
+        eprintln!("{version} on {name}: {its:?}, predicted {predicted:?}, ours {:?}", ours.cell);
+    } else if predicted == ours.cell {
+        tally.agree += 1;
+    } else {
+        tally.known += 1;
+    }
+}
+
+/// The cells that a version of GEOS is expected to give for a scene whose right cells are known.
+fn with_fault(version: &str, f: &Object, g: &Object, right: &Matrix) -> Matrix {
+    if version.starts_with("3.13") {
+        let mut cells = *right;
+        cells[1][2] &= !skips_boundary(f, g);
+        cells[2][1] &= !skips_boundary(g, f);
+        return cells;
+    }
+    // with boxes apart it goes another way, by the right rule
+    let odd_ends_count = |object: &&Object| object.kind == LINE && odd_boundary(object) != line_boundary(object);
+    if Box::of(f).is_beside(&Box::of(g)) || [f, g].iter().all(|object| !odd_ends_count(object)) {
+        return *right;
+    }
+    matrix(f, g, &Rules { line_boundary: odd_boundary, ..RIGHT })
+}
+
+/// Before 3.13: an end of 3, 5 .. segments is taken for boundary, as under the rule of odd counts.
+fn odd_boundary(line: &Object) -> Vec<Point> {
+    let segments = line.segments();
+    let ends = line.halves.iter().map(Half::dominating);
+    ends.filter(|p| segments.iter().filter(|s| s.has_end(*p)).count() % 2 == 1).collect()
+}
+
+/// 3.13: once an end of one part is found outside the other object, be it boundary or not, parts beside its box are passed over.
+/// True if no boundary point outside is looked at for that reason.
+fn skips_boundary(line: &Object, other: &Object) -> bool {
+    if line.kind != LINE || other.is_empty() {
+        return false;
+    }
+    let boundary = boundary_outside(line, other);
+    let its_box = Box::of(other);
+    let mut found_outside = false;
+    for s in line.segments() {
+        if found_outside && its_box.is_beside(&Box::round([s.left, s.right].into_iter())) {
+            continue;
+        }
+        if [s.left, s.right].iter().any(|end| boundary.contains(end)) {
+            return false;
+        }
+        found_outside |= [s.left, s.right].iter().any(|end| is_outside(*end, other));
+    }
+    true
+}
+
+/// The boundary points of a line that lie outside the other object; none if it is no line.
+pub fn boundary_outside(line: &Object, other: &Object) -> Vec<Point> {
+    if line.kind != LINE {
+        return Vec::new();
+    }
+    line_boundary(line).into_iter().filter(|p| is_outside(*p, other)).collect()
+}
+
+fn is_outside(p: Point, object: &Object) -> bool {
+    let (at, segments) = (Fraction::whole(p), object.segments());
+    let on = object.points.contains(&p) || segments.iter().any(|s| s.has(&at));
+    !on && (object.kind == LINE || !inside(&segments, &at))
+}
+
+/// The smallest upright box round some points; one round none lies beside every box.
+struct Box {
+    low: Point,
+    high: Point,
+}
+
+impl Box {
+    fn round(points: impl Iterator<Item = Point>) -> Box {
+        let start = Box { low: (i64::MAX, i64::MAX), high: (i64::MIN, i64::MIN) };
+        points.fold(start, |b, p| Box { low: (b.low.0.min(p.0), b.low.1.min(p.1)), high: (b.high.0.max(p.0), b.high.1.max(p.1)) })
+    }
+
+    fn of(object: &Object) -> Box {
+        Box::round(object.points.iter().copied().chain(object.halves.iter().map(Half::dominating)))
+    }
+
+    fn is_beside(&self, other: &Box) -> bool {
+        other.high.0 < self.low.0 || self.high.0 < other.low.0 || other.high.1 < self.low.1 || self.high.1 < other.low.1
+    }
+}

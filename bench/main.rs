@@ -1,0 +1,200 @@
+//! The measurements: scenes of all families, our answers and times beside those of GEOS, and the table and the picture made of them.
+//! The scenes come from here and from the reference's maker; nothing of the crates takes part but the archive's exported functions.
+//!
+//! bench/run builds this once, runs it with each version of GEOS, and writes docs/BENCH.md and docs/bench.svg.
+
+mod clock;
+mod compare;
+mod faults;
+mod geos;
+mod picture;
+mod report;
+mod results;
+mod rows;
+mod shapes;
+
+// the reference's modules, as they stand
+#[allow(dead_code)]
+#[path = "../tests/reference/cells.rs"]
+mod cells;
+#[allow(dead_code)]
+#[path = "../tests/reference/check.rs"]
+mod check;
+#[allow(dead_code)]
+#[path = "../tests/reference/damage.rs"]
+mod damage;
+#[allow(dead_code)]
+#[path = "../tests/reference/flags.rs"]
+mod flags;
+#[allow(dead_code)]
+#[path = "../tests/reference/judge.rs"]
+mod judge;
+#[allow(dead_code)]
+#[path = "../tests/reference/library.rs"]
+mod library;
+#[allow(dead_code)]
+#[path = "../tests/reference/maker.rs"]
+mod maker;
+#[allow(dead_code)]
+#[path = "../tests/reference/mistakes.rs"]
+mod mistakes;
+#[allow(dead_code)]
+#[path = "../tests/reference/pieces.rs"]
+mod pieces;
+#[allow(dead_code)]
+#[path = "../tests/reference/plan.rs"]
+mod plan;
+#[allow(dead_code)]
+#[path = "../tests/reference/plane.rs"]
+mod plane;
+#[allow(dead_code)]
+#[path = "../tests/reference/random.rs"]
+mod random;
+#[allow(dead_code)]
+#[path = "../tests/reference/scene.rs"]
+mod scene;
+
+use compare::boundary_outside;
+use damage::damaged;
+use geos::{bench_geos_from_bytes, Geos, Pair, Parts};
+use maker::{full, PAIRS};
+use random::Random;
+use rows::Row;
+use scene::{read_scene, scene_bytes};
+use std::path::Path;
+use std::process::exit;
+
+const USAGE: &str = "usage: bench compare           GEOS's cells against ours; fails if a difference is unexplained
+       bench time               times of every row, ours and GEOS's
+       bench peer               GEOS's times alone
+       bench slowest            our times for scenes with a fault, and the slowest of many random scenes
+       bench make DIR           writes the scenes of full size, a file each
+       bench count ours FILE..  asks for the cells of each scene once, for callgrind
+       bench count geos FILE..  the same of GEOS
+       bench report DIR         makes docs/BENCH.md and docs/bench.svg from the runs' outputs in DIR";
+
+const PASSES: usize = 3;
+
+/// Random scenes of each pair that are looked through for the slowest, each as it is and damaged.
+const LOOKED_THROUGH: u64 = 100;
+
+fn main() {
+    let arguments: Vec<String> = std::env::args().skip(1).collect();
+    let arguments: Vec<&str> = arguments.iter().map(String::as_str).collect();
+    let good = match arguments[..] {
+        ["compare"] => {
+            println!("version {}", Geos::version());
+            compare::run(&Geos::new())
+        }
+        ["time"] => time(true),
+        ["peer"] => time(false),
+        ["slowest"] => slowest(),
+        ["make", directory] => make(directory),
+        ["count", who, ref files @ ..] => count(who, files),
+        ["report", directory] => report::write(Path::new(directory)).is_ok(),
+        _ => {
+            eprintln!("{USAGE}");
+            exit(2);
+        }
+    };
+    exit(if good { 0 } else { 1 });
+}
+
+/// The scene's objects in parts for GEOS. A line's parts that hold a boundary point outside the other object come first: a set of parts has no
+/// order, and this one keeps the fault of 3.13 from showing.
+fn parts(bytes: &[u8]) -> [Parts; 2] {
+    let (f, g) = read_scene(bytes).expect("the rows are scenes");
+    [(&f, &g), (&g, &f)].map(|(own, other)| Parts::with_first(own, &boundary_outside(own, other)))
+}
+
+/// A row with its best times so far: our cells, our vectors, GEOS from the bytes, GEOS relate alone.
+struct Timed {
+    row: Row,
+    parts: [Parts; 2],
+    verdict: &'static str,
+    best: [f64; 4],
+}
+
+impl Timed {
+    fn new(geos: &Geos, row: Row) -> Timed {
+        let parts = parts(&row.bytes);
+        let right = library::cells(&row.bytes).expect("cells are 0 or 1");
+        assert_eq!(right.number, 0, "{} is refused", row.name());
+        let verdict = if bench_geos_from_bytes(geos, &row.bytes, &parts) == Some(right.cell) { "right" } else { "wrong" };
+        Timed { row, parts, verdict, best: [f64::MAX; 4] }
+    }
+
+    fn take(&mut self, which: usize, time: f64) {
+        self.best[which] = self.best[which].min(time);
+    }
+
+    fn pass(&mut self, geos: &Geos, with_ours: bool) {
+        if with_ours {
+            self.take(0, clock::best(|| library::cells(&self.row.bytes)));
+            self.take(1, clock::best(|| library::vectors(&self.row.bytes, 0, 0)));
+        }
+        self.take(2, clock::best(|| bench_geos_from_bytes(geos, &self.row.bytes, &self.parts)));
+        let built = Pair::build(geos, &self.row.bytes, &self.parts);
+        self.take(3, clock::best(|| built.relate()));
+    }
+}
+
+/// Passes over all rows, so that a row's batches lie some time apart.
+fn time(with_ours: bool) -> bool {
+    let geos = Geos::new();
+    println!("version {}", Geos::version());
+    let mut rows: Vec<Timed> = rows::all().into_iter().map(|row| Timed::new(&geos, row)).collect();
+    for _ in 0..PASSES {
+        rows.iter_mut().for_each(|timed| timed.pass(&geos, with_ours));
+    }
+    for Timed { row, verdict, best: [cells, vectors, whole, relate], .. } in &rows {
+        println!("row {} {cells:.3} {vectors:.3} {whole:.3} {relate:.3} {verdict}", row.name());
+    }
+    true
+}
+
+/// Scenes with a fault, then random scenes of full size, each as it is and damaged: the word that the outputs have for it, name and bytes.
+fn other_scenes() -> Vec<(&'static str, String, Vec<u8>)> {
+    let mut scenes: Vec<_> = faults::all().into_iter().map(|fault| ("fault", fault.name, fault.bytes)).collect();
+    for kinds in PAIRS {
+        for seed in 0..LOOKED_THROUGH {
+            let mut random = Random::new(seed);
+            let (f, g) = full(&mut random, kinds);
+            scenes.push(("any", format!("seed-{seed}-{}{}", kinds.0, kinds.1), scene_bytes(&f, &g)));
+            scenes.push(("any", format!("seed-{seed}-{}{}-damaged", kinds.0, kinds.1), damaged(&mut random, &f, &g)));
+        }
+    }
+    scenes
+}
+
+fn slowest() -> bool {
+    let scenes = other_scenes();
+    let mut times = vec![f64::MAX; scenes.len()];
+    for _ in 0..PASSES {
+        times.iter_mut().zip(&scenes).for_each(|(time, (_, _, bytes))| *time = time.min(clock::roughly(|| library::cells(bytes))));
+    }
+    for ((word, name, bytes), time) in scenes.iter().zip(times) {
+        let number = library::cells(bytes).expect("cells are 0 or 1").number;
+        assert!(*word != "fault" || number != 0, "{name} has no fault");
+        println!("{word} {name} {number} {time:.3}");
+    }
+    true
+}
+
+fn make(directory: &str) -> bool {
+    let full_size = rows::all().into_iter().filter(|row| row.size == rows::FULL);
+    full_size.map(|row| std::fs::write(Path::new(directory).join(row.name()), &row.bytes)).all(|written| written.is_ok())
+}
+
+fn count(who: &str, files: &[&str]) -> bool {
+    let geos = Geos::new();
+    for file in files {
+        let bytes = std::fs::read(file).expect("the scene can be read");
+        let right = match who {
+            "ours" => library::cells(&bytes).map(|answer| answer.number == 0),
+            _ => Ok(bench_geos_from_bytes(&geos, &bytes, &parts(&bytes)).is_some()),
+        };
+        assert_eq!(right, Ok(true), "{file} is not answered");
+    }
+    true
+}

@@ -1,0 +1,182 @@
+//! The measured part of docs/BENCH.md, everything after its marker, written from the runs' outputs.
+
+use crate::maker::PAIRS;
+use crate::picture;
+use crate::results::{read, Compared, Other, Results, Times};
+use crate::rows::{kind_name, name, FULL, RANDOM, SIZES};
+use crate::shapes::{Family, FAMILIES};
+use std::fmt::Write as _;
+use std::io;
+use std::path::Path;
+
+const DOCUMENT: &str = "docs/BENCH.md";
+const PICTURE: &str = "docs/bench.svg";
+const MARKER: &str = "<!-- What follows is written by make bench. -->";
+
+/// Writes the document's measured part and the picture.
+pub fn write(directory: &Path) -> io::Result<()> {
+    let results = read(directory);
+    let document = std::fs::read_to_string(DOCUMENT)?;
+    let by_hand = document.split(MARKER).next().unwrap_or_default();
+    std::fs::write(DOCUMENT, format!("{by_hand}{MARKER}\n\n{}", measured(&results)))?;
+    std::fs::write(PICTURE, picture::svg(&results))
+}
+
+pub fn families() -> Vec<&'static str> {
+    FAMILIES.iter().map(|family| family.name).chain([RANDOM]).collect()
+}
+
+/// The rows of one size, by family and pair.
+pub fn rows(results: &Results, size: usize) -> Vec<(&'static str, (u8, u8), Times)> {
+    let mut rows = Vec::new();
+    for family in families() {
+        rows.extend(PAIRS.iter().filter_map(|kinds| results.times.get(&name(family, *kinds, size)).map(|times| (family, *kinds, *times))));
+    }
+    rows
+}
+
+fn measured(results: &Results) -> String {
+    let [new, old] = &results.versions;
+    [
+        format!("Last run: one core of {}, GEOS {new} and {old}, times in microseconds.\n", results.processor),
+        summary(results),
+        growth(results),
+        table(results),
+        faults(results),
+        comparison(results),
+    ]
+    .join("\n")
+}
+
+fn median(values: &[f64]) -> f64 {
+    let mut sorted = values.to_vec();
+    sorted.sort_by(f64::total_cmp);
+    (sorted[(sorted.len() - 1) / 2] + sorted[sorted.len() / 2]) / 2.0
+}
+
+/// The largest, with its name.
+fn worst(values: &[(String, f64)]) -> &(String, f64) {
+    values.iter().max_by(|a, b| a.1.total_cmp(&b.1)).expect("there are rows")
+}
+
+fn pair_name((f, g): (u8, u8)) -> String {
+    format!("{}, {}", kind_name(f), kind_name(g))
+}
+
+/// What a row is called in a sentence.
+fn title(family: &str, kinds: (u8, u8)) -> String {
+    format!("{family} ({})", pair_name(kinds))
+}
+
+/// A row's ratio, if it has one.
+type Ratio<'a> = &'a dyn Fn(&str, &Times) -> Option<f64>;
+
+fn summary(results: &Results) -> String {
+    let rows = rows(results, FULL);
+    let line = |what: &str, ratio: Ratio| {
+        let all = rows.iter().filter_map(|(family, kinds, times)| Some((title(family, *kinds), ratio(&name(family, *kinds, FULL), times)?)));
+        let all: Vec<(String, f64)> = all.collect();
+        let ratios: Vec<f64> = all.iter().map(|(_, ratio)| *ratio).collect();
+        let slower = ratios.iter().filter(|ratio| **ratio > 1.0).count();
+        let (name, most) = worst(&all);
+        format!("| {what} | {} | {:.3} | {most:.2}, {name} | {slower} |\n", all.len(), median(&ratios))
+    };
+    let [new, old] = &results.versions;
+    let mut text = String::from(
+        "### Ratios at 512 segments\n\n| our cells against | rows | median | worst | rows where we are slower |\n|---|---|---|---|---|\n",
+    );
+    let counted = |row: &str, times: &Times| {
+        let [ours, its] = [0, 1].map(|which| results.counts[which].get(row));
+        times.new.right.then_some(*ours? as f64 / *its? as f64)
+    };
+    text += &line(&format!("GEOS {new}: build, validity, relate"), &|_, times| times.ratio());
+    text += &line("the same, counted in instructions", &counted);
+    text += &line(&format!("GEOS {old}: build, validity, relate"), &|_, times| times.old.right.then_some(times.cells / times.old.whole));
+    text += &line("the faster of the two: build, validity, relate", &|_, times| times.ratio_to_faster());
+    text += &line(&format!("GEOS {new}: relate alone"), &|_, times| times.new.right.then_some(times.cells / times.new.relate));
+    let wrong: Vec<String> = rows.iter().filter(|(_, _, times)| !times.new.right).map(|(family, kinds, _)| title(family, *kinds)).collect();
+    let excluded = if wrong.is_empty() { "none".to_string() } else { wrong.join("; ") };
+    let _ = write!(text, "\nLeft out, since GEOS {new} gives other cells: {excluded}.\n\n");
+    text + "![Our time against GEOS, by family and pair of types](bench.svg)\n"
+}
+
+fn growth(results: &Results) -> String {
+    let mut text = String::from(
+        "### Sizes\n\nOur cells by the number of segments an object: the slowest pair of types of each family, and the largest growth of a pair.\n\n\
+         | family | what it is | 16 | 128 | 512 | 128 to 512 |\n|---|---|---|---|---|---|\n",
+    );
+    let time = |family: &str, kinds: (u8, u8), size: usize| results.times[&name(family, kinds, size)].cells;
+    let most = |values: [f64; 6]| values.into_iter().fold(0.0, f64::max);
+    for Family { name: family, says, .. } in &FAMILIES {
+        let [small, middle, large] = SIZES.map(|size| most(PAIRS.map(|kinds| time(family, kinds, size))));
+        let growth = most(PAIRS.map(|kinds| time(family, kinds, 512) / time(family, kinds, 128)));
+        let _ = writeln!(text, "| {family} | {says} | {small:.2} | {middle:.1} | {large:.0} | {growth:.1} |");
+    }
+    text
+}
+
+fn short(time: f64) -> String {
+    if time < 100.0 {
+        format!("{time:.1}")
+    } else {
+        format!("{time:.0}")
+    }
+}
+
+fn table(results: &Results) -> String {
+    let [new, old] = &results.versions;
+    let mut text = format!(
+        "### Every row at 512 segments\n\n(a) our cells from bytes; (v) our vectors; (b) GEOS from the same bytes; (c) GEOS relate alone. \
+         A time in brackets belongs to other cells than ours.\n\n\
+         | family | types | (a) | (v) | (b) {new} | (c) {new} | (b) {old} | (c) {old} | (a)/(b) {new} | instructions (a) | (b) {new} |\n\
+         |---|---|---|---|---|---|---|---|---|---|---|\n"
+    );
+    for (family, kinds, times) in rows(results, FULL) {
+        let peer = |time: f64, right: bool| if right { short(time) } else { format!("({})", short(time)) };
+        let peers = [times.new, times.old].map(|p| format!("{} | {}", peer(p.whole, p.right), peer(p.relate, p.right)));
+        let ratio = times.ratio().map_or("-".to_string(), |ratio| format!("{ratio:.3}"));
+        let counted = |which: usize| results.counts[which].get(&name(family, kinds, FULL)).map_or("-".to_string(), |count| millions(*count));
+        let ours = format!("{} | {}", short(times.cells), short(times.vectors));
+        let _ =
+            writeln!(text, "| {family} | {} | {ours} | {} | {} | {ratio} | {} | {} |", pair_name(kinds), peers[0], peers[1], counted(0), counted(1));
+    }
+    text
+}
+
+fn millions(count: u64) -> String {
+    format!("{:.2} M", count as f64 / 1e6)
+}
+
+fn faults(results: &Results) -> String {
+    let mut text = String::from(
+        "### Scenes that are turned away, and the slowest input\n\nScenes of full size with a fault near the end, in every family and pair of types: \
+         our slowest answer by the refusal's number.\n\n| number | scenes | slowest | scene |\n|---|---|---|---|\n",
+    );
+    for number in 10..=15 {
+        let of_number: Vec<&Other> = results.faults.iter().filter(|fault| fault.number == number).collect();
+        if let Some(slowest) = of_number.iter().max_by(|a, b| a.time.total_cmp(&b.time)) {
+            let _ = writeln!(text, "| {number} | {} | {} | {} |", of_number.len(), short(slowest.time), slowest.name);
+        }
+    }
+    let rows = results.times.iter().map(|(name, times)| (name.clone(), times.cells));
+    let others = results.faults.iter().chain(&results.random).map(|other| (format!("{}, number {}", other.name, other.number), other.time));
+    let all: Vec<(String, f64)> = rows.chain(others).collect();
+    let (name, time) = worst(&all);
+    let _ = write!(text, "\nThe slowest of these, of all rows, and of {} random scenes of full size, half of them damaged: ", results.random.len());
+    let _ = writeln!(text, "{name}, {} microseconds.", short(*time));
+    text
+}
+
+fn comparison(results: &Results) -> String {
+    let mut text = String::from(
+        "### The comparison of cells\n\nThe rows above in all sizes, and random scenes: those with our cells, those where the version's known fault shows, just \
+         as predicted, and those where GEOS gives something else.\n\n\
+         | GEOS | types | same cells | known fault | unexplained |\n|---|---|---|---|---|\n",
+    );
+    for (version, all) in results.versions.iter().zip(&results.compared) {
+        for Compared { kinds, agree, known, unexplained } in all {
+            let _ = writeln!(text, "| {version} | {} | {agree} | {known} | {unexplained} |", pair_name(*kinds));
+        }
+    }
+    text
+}
