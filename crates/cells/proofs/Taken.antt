@@ -34,7 +34,7 @@ use Rattle.features.proofs.Wanted.{vector-all-F, vector-all-G}
 use Rattle.cells.specs.declared.Explored.{Explored}
 use Rattle.matrix.specs.Matrix.{Part, interior, boundary, exterior, Meet, matrixOf, cellAt}
 use Rattle.cells.specs.Explored as E
-use Rattle.cells.specs.Explored.{sceneMatrix, wholeVectorF, wholeVectorG, allOfF, allOfG, row, takenAs, exploredOf, answered, cellOf, NoCellWrong}
+use Rattle.cells.specs.Explored.{sceneMatrix, wholeVectorF, wholeVectorG, allOfF, allOfG, row, takenAs, exploredOf, answered, cellsOf, NoCellWrong}
 use Rattle.matrix.proofs.Common.{filled, filled-of}
 use Rattle.matrix.proofs.RegionRegion.{Sound}
 use Rattle.matrix.proofs.Theorem.{Accepted, Good, shapeOf, isEmpty, no-cell-wrong}
@@ -198,17 +198,17 @@ cell-of-rows m boundary c = refl
 cell-of-rows m exterior c = refl
 
 -- Demand 3, of every byte string
-pub scene-cells : (s : List ℕ) → NoCellWrong s (exploredOf s)
+pub scene-cells : (s : List ℕ) → NoCellWrong s (cellsOf (exploredOf s))
 unfolding exploredOf checkScene
 scene-cells s sc e r c =
-    subst (λ (x : CheckedScene). T (cellOf (answered s x) r c) ↔ Meet r (C.object s (sc .f)) c (C.object s (sc .g))) (sym e)
+    subst (λ (x : CheckedScene). T (cellAt (cellsOf (answered s x)) r c) ↔ Meet r (C.object s (sc .f)) c (C.object s (sc .g))) (sym e)
     (subst (λ (b : Bool). T b ↔ Meet r (C.object s (sc .f)) c (C.object s (sc .g))) (sym (cell-of-rows (sceneMatrix s sc) r c)) (cells-right s sc (sound-scene [] [] s sc e) r c))
 
-pub as-explored : (s : List ℕ) (k : CheckedScene) → checkScene s ≡ k → {x : Explored} → x ≡ answered s k → (x ≡ exploredOf s) × NoCellWrong s x
+pub as-explored : (s : List ℕ) (k : CheckedScene) → checkScene s ≡ k → {x : Explored} → x ≡ answered s k → (x ≡ exploredOf s) × NoCellWrong s (cellsOf x)
 unfolding exploredOf
 as-explored s k e {x} q =
     let p : x ≡ exploredOf s = q ∙ ap (answered s) (sym e) in
-    (p, subst (NoCellWrong s) (sym p) (scene-cells s))
+    (p, subst (λ (x : Explored). NoCellWrong s (cellsOf x)) (sym p) (scene-cells s))
 
 -- what is handed back of a scene that is taken, from its parts
 abbrev shown : ℕ → ℕ → Vectors → List (List Bool) → Explored

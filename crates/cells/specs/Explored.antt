@@ -79,11 +79,11 @@ answered s (CheckedScene.Refused r) = refusedAs r
 unfoldable pub exploredOf : List ℕ → Explored
 exploredOf s = answered s (checkScene s)
 
--- a cell of what is handed back
-abbrev pub cellOf : Explored → Part → Part → Bool
-cellOf e r c = cellAt (e .interior .c ∷ e .boundary .c ∷ e .exterior .c ∷ []) r c
+-- the matrix that is handed back
+abbrev pub cellsOf : Explored → List (List Bool)
+cellsOf e = e .interior .c ∷ e .boundary .c ∷ e .exterior .c ∷ []
 
 -- Demand 3, of the bytes: for a scene that is taken, each cell is yes if and only if some point with fraction coordinates lies in the row's part of F and in
 -- the column's part of G
-abbrev pub NoCellWrong : List ℕ → Explored → Type 0
-NoCellWrong s e = (sc : Scene) → checkScene s ≡ CheckedScene.Taken sc → (r c : Part) → T (cellOf e r c) ↔ Meet r (object s (sc .f)) c (object s (sc .g))
+abbrev pub NoCellWrong : List ℕ → List (List Bool) → Type 0
+NoCellWrong s m = (sc : Scene) → checkScene s ≡ CheckedScene.Taken sc → (r c : Part) → T (cellAt m r c) ↔ Meet r (object s (sc .f)) c (object s (sc .g))

@@ -10,7 +10,7 @@ use scene::records;
 ghost use mathlib.Core.Path.{_≡_};
 ghost use Rattle.scene.specs.declared.CheckedScene.{CheckedScene as Checked};
 ghost use Rattle.scene.specs.Conditions.{checkScene};
-ghost use Rattle.cells.specs.Explored.{takenAs, refusedAs, exploredOf, NoCellWrong};
+ghost use Rattle.cells.specs.Explored.{takenAs, refusedAs, exploredOf, cellsOf, NoCellWrong};
 
 fn refused(refusal: Refusal) -> Explored
     ensures { λ r. ⌜ r ≡ refusedAs refusal ⌝ }
@@ -54,7 +54,7 @@ fn taken(s: &[u8], scene: Scene) -> Explored
 
 // What a scene's bytes say: for a scene that is taken, no cell is wrong.
 pub fn explore(s: &[u8]) -> Explored
-    ensures { λ r. ⌜ (r ≡ exploredOf (now (s .entry))) × NoCellWrong (now (s .entry)) r ⌝ }
+    ensures { λ r. ⌜ (r ≡ exploredOf (now (s .entry))) × NoCellWrong (now (s .entry)) (cellsOf r) ⌝ }
 {
     match checks::check_scene(s) {
         CheckedScene::Refused(r) => refused(r),

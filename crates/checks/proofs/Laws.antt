@@ -10,7 +10,7 @@ use mathlib.Core.List.{List, [], _∷_, _++_, map}
 use lib.Dec.{T, leb, ltb, leb→le}
 use borrow.Author.Tests.{lt-ltb, not-false}
 use Rattle.whole.specs.Count.{odd, some, _∈_, here, there}
-use Rattle.whole.proofs.Logic.{and-left, and-right, is-true, true-is, in-nil, in-cons, some-find, none-of, in-map, map-in, Sorted, sorted-nil, sorted-cons, sorted-map, rising}
+use Rattle.whole.proofs.Logic.{beq-same, and-left, and-right, is-true, true-is, in-nil, in-cons, some-find, none-of, in-map, map-in, Sorted, sorted-nil, sorted-cons, sorted-map, rising}
 use Rattle.plane.specs.declared.Point.{Point}
 use Rattle.plane.specs.declared.Segment.{Segment}
 use Rattle.plane.specs.declared.Halfsegment.{Halfsegment}
@@ -64,12 +64,6 @@ beq-not true false t = refl
 beq-not false true t = refl
 beq-not false false t = absurd t
 
-beq-same : (a b : Bool) → T (Bool·beq a b) → a ≡ b
-beq-same true true t = refl
-beq-same true false t = absurd t
-beq-same false true t = absurd t
-beq-same false false t = refl
-
 as-partner : (s : List ℕ) (l : Layout) (i j : ℕ) → j < l .count → T (partner s l i j) → Partner s l i
 unfolding partner
 as-partner s l i j h t = record {
@@ -77,7 +71,7 @@ as-partner s l i j h t = record {
   there = h;
   other-side = beq-not (half s l i .«is_left») (half s l j .«is_left») (and-left sides segments′ both);
   same-segment = sym (sameSegment-read (half s l i .segment) (half s l j .segment) (and-right sides segments′ both));
-  same-ia = sym (beq-same (ia s l i) (ia s l j) (and-right (sides && segments′) (Bool·beq (ia s l i) (ia s l j)) t));
+  same-ia = sym (beq-same (ia s l i) (ia s l j) (true-is _ (and-right (sides && segments′) (Bool·beq (ia s l i) (ia s l j)) t)));
 }
   where
     sides : Bool
@@ -213,7 +207,7 @@ module _ {s : List ℕ} {l : Layout} (o : SoundObject s l) where
     unfolding wrongIa
     ia-is i h =
         beq-same (ia s l i) (interiorAbove (segments s l) (half s l i .segment))
-        (is-true (Bool·beq (ia s l i) (interiorAbove (segments s l) (half s l i .segment))) (not-false (Bool·beq (ia s l i) (interiorAbove (segments s l) (half s l i .segment))) right))
+        (not-false (Bool·beq (ia s l i) (interiorAbove (segments s l) (half s l i .segment))) right)
       where
         right : not (Bool·beq (ia s l i) (interiorAbove (segments s l) (half s l i .segment))) ≡ false
         right = rw region (rw region at (none-wrong l (hasWrongIa s l) (o .right-ia) i h))

@@ -3,9 +3,9 @@ use features::Explored;
 use features::question;
 ghost use mathlib.Core.Path.{_≡_};
 ghost use Rattle.features.specs.Vectors.{vectorsOf};
-ghost use Rattle.cells.specs.Explored.{exploredOf};
+ghost use Rattle.cells.specs.Explored.{exploredOf, NoCellWrong};
 ghost use Rattle.overlap.specs.Overlap.{overlapOf, bufferAfter};
-ghost use Rattle.karvoiss.specs.Answer.{vectorsAnswer, cellsAnswer, CellsRight, overlapAnswer};
+ghost use Rattle.karvoiss.specs.Answer.{vectorsAnswer, cellsAnswer, cellsOf, overlapAnswer};
 
 #[repr(C)]
 pub struct KarvoissVectors {
@@ -49,7 +49,7 @@ pub struct KarvoissCells {
 // The cells question.
 #[no_mangle]
 pub extern "C" fn karvoiss_cells(scene: &[u8]) -> KarvoissCells
-    ensures { λ r. ⌜ (r ≡ cellsAnswer (exploredOf (now (scene .entry)))) × CellsRight (now (scene .entry)) r ⌝ }
+    ensures { λ r. ⌜ (r ≡ cellsAnswer (exploredOf (now (scene .entry)))) × NoCellWrong (now (scene .entry)) (cellsOf r) ⌝ }
 {
     let answer = cells::question::explore(scene);
     let interior = answer.interior.c;

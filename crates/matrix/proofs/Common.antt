@@ -12,6 +12,7 @@ use Rattle.whole.specs.Count.{_∈_, here, there, some, count, bit, odd}
 use Rattle.whole.proofs.Solver.{var, con, opp, _:+_, _:-_, _:*_, solve}
 use Rattle.whole.proofs.Sign.{Pos, NonNeg, Neg, Sign, minus, nought, plus, sign, pos-nonneg, zero-nonneg, neg-pos, pos-neg, neg-of-pos, pos-clash, zero-pos, zero-neg, pos-mul, pos-add-nonneg, nonneg-add, nonneg-add-pos, nonneg-mul, cancel-zero, cancel-zero-right, one-pos, lit-nonneg, sub-zero-eq}
 use Rattle.whole.proofs.Logic.{and-left, and-right, and-make, or-cases, or-left, or-right, decide, is-true, is-false, true-is, false-is, refute, same-test, and-never, some-find, some-make}
+use Rattle.whole.proofs.Counted.{count-none}
 use Rattle.whole.proofs.Parity.{_⊻_, parity, parity-same, parity-none, odd-count}
 use Rattle.plane.specs.declared.Point.{Point}
 use Rattle.plane.specs.declared.Segment.{Segment}
@@ -131,10 +132,6 @@ end-along s p h end = go end
 rule-zero : isBoundary 0 ≡ false
 unfolding isBoundary
 rule-zero = refl
-
-count-none : {A : Type 0} (f : A → Bool) (l : List A) → ((a : A) → a ∈ l → f a ≡ false) → count f l ≡ 0
-count-none f [] h = refl
-count-none f (a ∷ l) h = ap₂ (λ b n. bit b + n) (h a here) (count-none f l (λ b m. h b (there m)))
 
 module _ (l : List Segment) (p : HPoint) where
   pub no-bound : ((t : Segment) → t ∈ l → isEnd t p ≡ false) → isBoundary (endsAt l p) ≡ false

@@ -9,12 +9,12 @@ use mathlib.Core.Bool.{Bool, true, false, not, cond, Bool·beq}
 use mathlib.Core.List.{List, [], _∷_, _++_}
 use lib.Dec.{T}
 use Rattle.whole.specs.Count.{_∈_, here, there, bit, odd, count}
-use Rattle.whole.proofs.Logic.{in-nil, in-cons, in-append, in-left, in-right}
+use Rattle.whole.proofs.Logic.{beq-same, beq-refl, in-nil, in-cons, in-append, in-left, in-right}
 use Rattle.scene.specs.declared.Scene.{Scene}
 use Rattle.scene.specs.Read.{place}
 use Rattle.sweep.specs.Kept.{Strand, ownUnder, ownEqual, Kept}
 use Rattle.sweep.specs.Swept.{objectOf, strandOf, isBeginning, strandsBy}
-use Rattle.sweep.proofs.Counted.{count-between, in-between, at-between, or-between}
+use Rattle.whole.proofs.Counted.{count-between, in-between, at-between, or-between}
 
 -- ---- lists with the same elements, each as often
 
@@ -66,15 +66,8 @@ module _ (s : List ℕ) (sc : Scene) where
   by-later : {begins first : Bool} {n : ℕ} {a : Strand} → By begins first n a → By begins first (suc n) a
   by-later w = record { index = w .index; earlier = omega (arith, w .earlier); is-such = w .is-such; is = w .is }
 
-  beq-same : (a b : Bool) → Bool·beq a b ≡ true → a ≡ b
-  beq-same true true e = refl
-  beq-same true false e = sym e
-  beq-same false true e = e
-  beq-same false false e = refl
-
-  beq-refl : (a b : Bool) → a ≡ b → Bool·beq a b ≡ true
-  beq-refl true b e = ap (Bool·beq true) (sym e)
-  beq-refl false b e = ap (Bool·beq false) (sym e)
+  such : (a b : Bool) → a ≡ b → Bool·beq a b ≡ true
+  such a b e = ap (Bool·beq a) (sym e) ∙ beq-refl a
 
   pub find-by : (begins first : Bool) (n : ℕ) (a : Strand) → a ∈ strandsBy s sc begins first n → By begins first n a
   find-by begins first zero a h = absurd (in-nil h)
@@ -93,7 +86,7 @@ module _ (s : List ℕ) (sc : Scene) where
       (λ l. later (Bool·beq (isBeginning s sc first n) begins) (make-by begins first n k l e)) (eq-or-lt-of-le (le-of-suc-le-suc h))
     where
       own : strandBy first k ∈ strandsBy s sc begins first (suc k)
-      own = subst (λ b. strandBy first k ∈ cond b (strandBy first k ∷ strandsBy s sc begins first k) (strandsBy s sc begins first k)) (sym (beq-refl (isBeginning s sc first k) begins e)) here
+      own = subst (λ b. strandBy first k ∈ cond b (strandBy first k ∷ strandsBy s sc begins first k) (strandsBy s sc begins first k)) (sym (such (isBeginning s sc first k) begins e)) here
 
       later : (b : Bool) → strandBy first k ∈ strandsBy s sc begins first n → strandBy first k ∈ cond b (strandBy first n ∷ strandsBy s sc begins first n) (strandsBy s sc begins first n)
       later true m = there m
@@ -124,20 +117,20 @@ module _ (s : List ℕ) (sc : Scene) where
 
   module _ (i j : ℕ) where
     pub further-first : (begins : Bool) → isBeginning s sc true i ≡ begins → Same (strandBy true i ∷ strands begins i j) (strands begins (suc i) j)
-    further-first begins e = same-is (sym (rw (beq-refl (isBeginning s sc true i) begins e)))
+    further-first begins e = same-is (sym (rw (such (isBeginning s sc true i) begins e)))
 
     pub further-second : (begins : Bool) → isBeginning s sc false j ≡ begins → Same (strandBy false j ∷ strands begins i j) (strands begins i (suc j))
     further-second begins e =
         subst (λ b. Same (strandBy false j ∷ strands begins i j) (strandsBy s sc begins true i ++ cond b (strandBy false j ∷ strandsBy s sc begins false j) (strandsBy s sc begins false j)))
-        (sym (beq-refl (isBeginning s sc false j) begins e)) (same-between (strandsBy s sc begins true i) (strandBy false j) (strandsBy s sc begins false j))
+        (sym (such (isBeginning s sc false j) begins e)) (same-between (strandsBy s sc begins true i) (strandBy false j) (strandsBy s sc begins false j))
 
     -- an element of the other kind adds nothing
-    beq-other : (a b : Bool) → a ≡ b → Bool·beq a (not b) ≡ false
-    beq-other true b e = ap (λ x. Bool·beq true (not x)) (sym e)
-    beq-other false b e = ap (λ x. Bool·beq false (not x)) (sym e)
+    unlike : (a b : Bool) → a ≡ b → Bool·beq a (not b) ≡ false
+    unlike true b e = ap (λ x. Bool·beq true (not x)) (sym e)
+    unlike false b e = ap (λ x. Bool·beq false (not x)) (sym e)
 
     pub still-first : (begins : Bool) → isBeginning s sc true i ≡ begins → Same (strands (not begins) i j) (strands (not begins) (suc i) j)
-    still-first begins e = same-is (sym (rw (beq-other (isBeginning s sc true i) begins e)))
+    still-first begins e = same-is (sym (rw (unlike (isBeginning s sc true i) begins e)))
 
     pub still-second : (begins : Bool) → isBeginning s sc false j ≡ begins → Same (strands (not begins) i j) (strands (not begins) i (suc j))
-    still-second begins e = same-is (sym (rw (beq-other (isBeginning s sc false j) begins e)))
+    still-second begins e = same-is (sym (rw (unlike (isBeginning s sc false j) begins e)))

@@ -16,7 +16,7 @@ use Rattle.scene.specs.Read.{place, segmentAt, halfsegmentAt}
 use Rattle.scene.specs.Conditions.{indices, elements, keep, hasSegments, isLeft, half, segments}
 use Rattle.sweep.specs.Kept.{Strand}
 use Rattle.sweep.specs.Swept.{objectOf, strandOf, isBeginning, strandsBy}
-use Rattle.sweep.proofs.Counted.{count-append, count-none, count-same}
+use Rattle.whole.proofs.Counted.{count-append, count-none, count-same}
 use Rattle.sweep.proofs.Begun.{strandBy, By, find-by, reached, strands}
 
 -- the last index

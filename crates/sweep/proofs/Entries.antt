@@ -23,7 +23,7 @@ use Rattle.scene.proofs.Flags.{upheld}
 use Rattle.scene.proofs.Given.{GoodHalfsegment, good-halfsegment, ia-there}
 use Rattle.sweep.specs.declared.event.Step.the-variants.{On, Stop}
 use Rattle.sweep.specs.Swept.{objectOf, isFirst, strandOf, strandAt, Entry}
-use Rattle.sweep.specs.Ready.{Readable, AllReadable, Ready}
+use Rattle.sweep.specs.Ready.{AllReadable, Ready}
 
 -- ---- an entry's record
 
@@ -37,11 +37,8 @@ module _ (s : List ℕ) (sc : Scene) where
   with-ia t false i h e = ia-there (t .g-taken .object) i h e
 
   module _ (is : IsScene s sc) where
-    pub entry-readable : {at : ℕ} → Entry s sc at → Readable s at
-    entry-readable {at} e = subst (Readable s) (sym (e .is-place)) (record { there = g .there; in-range = g .in-range })
-      where
-        g : GoodHalfsegment s (place (objectOf s sc (isFirst s sc at)) (e .index))
-        g = good (taken-scene s sc is) (isFirst s sc at) (e .index) (e .within) (e .has-segments)
+    pub entry-readable : {at : ℕ} → Entry s sc at → GoodHalfsegment s at
+    entry-readable {at} e = subst (GoodHalfsegment s) (sym (e .is-place)) (good (taken-scene s sc is) (isFirst s sc at) (e .index) (e .within) (e .has-segments))
 
     pub entry-ia : {at : ℕ} {first : Bool} → isFirst s sc at ≡ first → Entry s sc at → T (isRegion (objectOf s sc first .shape)) → at + 19 ≤ length s
     entry-ia {at} q e r =
@@ -57,7 +54,7 @@ pub same-strand : (s : List ℕ) (sc : Scene) (first : Bool) (at e : ℕ) → is
     → (isRegion (objectOf s sc first .shape) && iaAt s e) ≡ (isRegion (objectOf s sc first .shape) && iaAt s at) → strandAt s sc e ≡ strandOf s sc first at
 same-strand s sc first at e q p r = ap (λ (b : Bool). strandOf s sc b e) q ∙ (λ i. record { first = first; segment = p i; ia = r i })
 
-pub in-range-at : {s : List ℕ} {at : ℕ} {t : Segment} → Readable s at → t ≡ segmentAt s at → T (segmentInRange t)
+pub in-range-at : {s : List ℕ} {at : ℕ} {t : Segment} → GoodHalfsegment s at → t ≡ segmentAt s at → T (segmentInRange t)
 in-range-at r e = subst (λ (t : Segment). T (segmentInRange t)) (sym e) (r .in-range)
 
 -- a test that was not refused, of the segment u of the entry e and the segment t of the event: what it says of the entry m where e was read
@@ -107,18 +104,6 @@ module _ (P : ℕ → Type 0) (l : List ℕ) (n k : ℕ) (room : n ≤ length l)
       subst P (sym (getD-take n l (k + w .0) 0 b) ∙ sym (getD-drop k (take n l) (w .0) 0) ∙ w .2) (p (k + w .0) (omega arith) b)
 
 -- ---- tests of Booleans
-
-pub beq-same : (a b : Bool) → Bool·beq a b ≡ true → a ≡ b
-beq-same true true e = refl
-beq-same true false e = sym e
-beq-same false true e = e
-beq-same false false e = refl
-
-pub beq-other : (a b : Bool) → T (not (Bool·beq a b)) → a ≡ not b
-beq-other true true t = absurd t
-beq-other true false t = refl
-beq-other false true t = refl
-beq-other false false t = absurd t
 
 pub and-none : (b x y : Bool) → b ≡ false → (b && x) ≡ (b && y)
 and-none b x y e = ap (λ (c : Bool). c && x) e ∙ sym (ap (λ (c : Bool). c && y) e)

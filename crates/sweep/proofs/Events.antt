@@ -20,7 +20,7 @@ use Rattle.plane.proofs.Equal.{samePoint-refl, sameSegment-refl, sameSegment-re
 use Rattle.sweep.specs.Lower.{passesUnder, passesOver, lowerAtLeft, lowerAtRight, under}
 use Rattle.sweep.specs.Kept.{Strand, sameObject, ownUnder, ownEqual, Lower, Kept}
 use Rattle.sweep.proofs.Pair.{ordered-clear, after-clear}
-use Rattle.sweep.proofs.Counted.{count-append, count-between, count-none, count-same, in-between, at-between, or-between}
+use Rattle.whole.proofs.Counted.{count-append, count-between, count-none, count-same, in-between, at-between, or-between}
 use Rattle.sweep.proofs.Under.{NotBefore, side-left, side-right, side-turned, under-lower, under-over, under-ended, under-later, under-itself}
 
 -- what has gone before an event at p, and what is active there

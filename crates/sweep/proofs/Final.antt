@@ -7,7 +7,7 @@ use mathlib.Core.Bool.{Bool, true, false, not, _&&_, cond, Bool·beq, true≢fal
 use mathlib.Core.List.{List, [], _∷_, map}
 use lib.Dec.{T}
 use Rattle.whole.specs.Count.{_∈_, odd, some, count}
-use Rattle.whole.proofs.Logic.{in-nil, map-in, some-find, some-make, refute, true-is, is-true, and-make}
+use Rattle.whole.proofs.Logic.{in-nil, map-in, some-find, some-make, refute, true-is, is-true, and-make, beq-refl}
 use Rattle.whole.proofs.Parity.{_⊻_, parity, parity-same, parity-xor, xor-false, odd-count}
 use Rattle.plane.specs.declared.Point.{Point}
 use Rattle.plane.specs.declared.Segment.{Segment}
@@ -68,10 +68,6 @@ module _ (s : List ℕ) (sc : Scene) (o : Orderly s sc) (run : Run s sc (total s
 
     -- ---- 11
 
-    beq-itself : (a : Bool) → T (Bool·beq a a)
-    beq-itself true = tt
-    beq-itself false = tt
-
     other-side : (a b c : Bool) → a ≡ c → b ≡ not c → T (not (Bool·beq a b))
     other-side a b true e f = subst (λ x. T (not (Bool·beq x b))) (sym e) (subst (λ x. T (not (Bool·beq true x))) (sym f) tt)
     other-side a b false e f = subst (λ x. T (not (Bool·beq x b))) (sym e) (subst (λ x. T (not (Bool·beq false x))) (sym f) tt)
@@ -84,7 +80,7 @@ module _ (s : List ℕ) (sc : Scene) (o : Orderly s sc) (run : Run s sc (total s
         some-make (partner s (objectOf s sc first) k) (element-in (objectOf s sc first) index there)
         (and-make (not (Bool·beq (isBeginning s sc first k) (isBeginning s sc first index)) && sameSegment (strandBy s sc first k .segment) (strandBy s sc first index .segment)) (Bool·beq (strandBy s sc first k .ia) (strandBy s sc first index .ia))
         (and-make (not (Bool·beq (isBeginning s sc first k) (isBeginning s sc first index))) (sameSegment (strandBy s sc first k .segment) (strandBy s sc first index .segment)) (other-side (isBeginning s sc first k) (isBeginning s sc first index) begins e such) (subst (λ (a : Strand). T (sameSegment (strandBy s sc first k .segment) (a .segment))) same (sameSegment-refl (strandBy s sc first k .segment))))
-        (subst (λ (a : Strand). T (Bool·beq (strandBy s sc first k .ia) (a .ia))) same (beq-itself (strandBy s sc first k .ia))))
+        (subst (λ (a : Strand). T (Bool·beq (strandBy s sc first k .ia) (a .ia))) same (is-true _ (beq-refl (strandBy s sc first k .ia)))))
       where
         w : Of s sc (not begins) (total s sc true) (total s sc false) (strandBy s sc first k)
         w = find-of s sc (not begins) (total s sc true) (total s sc false) (strandBy s sc first k) m

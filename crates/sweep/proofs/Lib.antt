@@ -3,7 +3,6 @@
 pub mod Pair
 pub mod Start
 pub mod Under
-pub mod Counted
 pub mod Events
 pub mod Begun
 pub mod Run

@@ -26,7 +26,7 @@ use Rattle.sweep.specs.Status.{inserted, removed}
 use Rattle.sweep.specs.Swept.{underBeginning, underEnd, overEnd, objectOf, strandOf, isFirst, strandAt, isBeginning, Began, Ended, Taken, it-began, it-ended, total}
 use Rattle.sweep.proofs.Under.{NotBefore}
 use Rattle.sweep.proofs.Events.{Reached, UnderBeginning, passing, turning, equal, UnderEnd, passing-end, ending, OverEnd, passing-over, equal-over, begins, ends}
-use Rattle.sweep.proofs.Counted.{in-between, or-between}
+use Rattle.whole.proofs.Counted.{in-between, or-between}
 use Rattle.sweep.proofs.Begun.{Same, same-is, kept-same, strandBy, By, reached, strands, Of, find-of, further-first, further-second, still-first, still-second}
 
 -- ---- the tests of an event, read

@@ -1,26 +1,20 @@
 -- What the code of one event asks of the status: its entries, and the event's own record, can be read.
-use Prim.Native.Nat.{ℕ, _+_, _<_, _≤_}
+use Prim.Native.Nat.{ℕ, _<_, _≤_}
 use mathlib.Core.Path.{_≡_}
 use mathlib.Core.Bool.{Bool}
 use mathlib.Core.List.{List}
-use lib.Dec.{T}
 use lib.ListN.{length, getD, take}
 use Rattle.whole.specs.Count.{_∈_}
-use Rattle.plane.specs.Plane.{segmentInRange}
 use Rattle.scene.specs.declared.Scene.{Scene}
-use Rattle.scene.specs.Read.{segmentAt, IsScene}
+use Rattle.scene.specs.Read.{IsScene}
+use Rattle.scene.proofs.Given.{GoodHalfsegment}
 use Rattle.sweep.specs.Swept.{isFirst, Entry}
 
--- the record of a halfsegment whose ends are in range
-pub record Readable (s : List ℕ) (at : ℕ) : Type 0 where
-  pub there : at + 18 ≤ length s
-  pub in-range : T (segmentInRange (segmentAt s at))
-
--- the event's record and those of the first n entries are such
+-- the event's record and those of the first n entries are halfsegments, whole and in range
 pub record AllReadable (s : List ℕ) (at : ℕ) (status : List ℕ) (n : ℕ) : Type 0 where
-  pub event : Readable s at
+  pub event : GoodHalfsegment s at
   pub room : n ≤ length status
-  pub entries : (i : ℕ) → i < n → Readable s (getD status i 0)
+  pub entries : (i : ℕ) → i < n → GoodHalfsegment s (getD status i 0)
 
 -- they are records of a scene, the event's of F or not
 pub record Ready (s : List ℕ) (sc : Scene) (first : Bool) (at : ℕ) (status : List ℕ) (n : ℕ) : Type 0 where

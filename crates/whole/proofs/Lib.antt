@@ -4,4 +4,5 @@ pub mod Solver
 pub mod Balance
 pub mod Sign
 pub mod Logic
+pub mod Counted
 pub mod Parity

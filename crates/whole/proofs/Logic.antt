@@ -5,7 +5,7 @@ use native.Mathlib.Nat.{not-suc-le-zero, le-of-suc-le-suc, eq-or-lt-of-le}
 use native.Mathlib.Omega.{arith}
 use mathlib.Core.Path.{_≡_, refl, sym, ap, _∙_, subst}
 use mathlib.Core.Logic.{_⊎_, inl, inr, ⊎-elim}
-use mathlib.Core.Bool.{Bool, true, false, not, _&&_, _||_}
+use mathlib.Core.Bool.{Bool, true, false, not, _&&_, _||_, Bool·beq}
 use mathlib.Core.List.{List, [], _∷_, _++_, map}
 use lib.Dec.{T, T-not, not-T}
 use lib.ListN.{length, getD}
@@ -74,6 +74,23 @@ and-follows false b f = refl
 pub and-never : (a b : Bool) → (T a → T b → ⊥) → a && b ≡ false
 and-never true b f = refute b (f tt)
 and-never false b f = refl
+
+-- equal tests
+pub beq-same : (a b : Bool) → Bool·beq a b ≡ true → a ≡ b
+beq-same true true e = refl
+beq-same true false e = sym e
+beq-same false true e = e
+beq-same false false e = refl
+
+pub beq-other : (a b : Bool) → Bool·beq a b ≡ false → a ≡ not b
+beq-other true true e = e
+beq-other true false e = refl
+beq-other false true e = refl
+beq-other false false e = sym e
+
+pub beq-refl : (a : Bool) → Bool·beq a a ≡ true
+beq-refl true = refl
+beq-refl false = refl
 
 -- ---- lists
 

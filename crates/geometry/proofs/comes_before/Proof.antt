@@ -8,6 +8,7 @@ use lib.Dec.{T}
 use lib.IntN.{pos}
 use lib.Signed.{ltZ}
 use Rattle.whole.specs.Count.{eqZ}
+use Rattle.whole.proofs.Logic.{beq-same, beq-other}
 use Rattle.plane.specs.declared.Point.{Point}
 use Rattle.plane.specs.declared.Halfsegment.{Halfsegment}
 use Rattle.plane.specs.Plane.{limit, within, segmentInRange, before, samePoint, side, choose, dominating, farEnd, comesBefore}
@@ -20,18 +21,6 @@ unfolding samePoint before
 same-not-before p q e =
     let both = and-eq-true-iff (eqZ (p .x) (q .x)) (eqZ (p .y) (q .y)) .0 e in
     rw (ltZ-no (p .x) (q .x) (eqZ-true (p .x) (q .x) (both .0)), both .0) (ltZ-no (p .y) (q .y) (eqZ-true (p .y) (q .y) (both .1)))
-
-beq-true : (t u : Bool) → Bool·beq t u ≡ true → t ≡ u
-beq-true true true e = refl
-beq-true true false e = absurd (false≢true e)
-beq-true false true e = absurd (false≢true e)
-beq-true false false e = refl
-
-beq-false : (t u : Bool) → Bool·beq t u ≡ false → t ≡ not u
-beq-false true true e = absurd (true≢false e)
-beq-false true false e = refl
-beq-false false true e = refl
-beq-false false false e = absurd (true≢false e)
 
 module _ (h k : Halfsegment) where
   other-points : samePoint (dominating h) (dominating k) ≡ false → before (dominating h) (dominating k) ≡ comesBefore h k
@@ -118,7 +107,7 @@ returns-2 c =
     let h = s .args .h in
     let k = s .args .k in
     other-side h k (one-point d) (k .«is_left»)
-    (beq-false (h .«is_left») (k .«is_left») (not-true (Bool·beq (h .«is_left») (k .«is_left»)) (c .if2 .taken))) refl
+    (beq-other (h .«is_left») (k .«is_left») (not-true (Bool·beq (h .«is_left») (k .«is_left»)) (c .if2 .taken))) refl
 
 returns-3 : tie.Need-returns-3
 returns-3 c =
@@ -129,7 +118,7 @@ returns-3 c =
     (rw (d .before .before .before .dominating-point .ensures, c .before .before .far-end .ensures, c .before .far-end2 .ensures)
     at (c .is-left-of .ensures))
     ∙ same-side h k (one-point d) (k .«is_left»)
-    (beq-true (h .«is_left») (k .«is_left») (not-false (Bool·beq (h .«is_left») (k .«is_left»)) (c .before .before .before .if2 .left))) refl
+    (beq-same (h .«is_left») (k .«is_left») (not-false (Bool·beq (h .«is_left») (k .«is_left»)) (c .before .before .before .if2 .left))) refl
 
 pub comes-before-spec : {M : Type 1} → statement M
 comes-before-spec =

@@ -10,7 +10,7 @@ use lib.Dec.{T}
 use Rattle.plane.specs.Plane.{sameSegment}
 use Rattle.scene.specs.Read.{segmentAt}
 use Rattle.plane.specs.declared.Segment.{Segment}
-use Rattle.sweep.specs.Ready.{Readable}
+use Rattle.scene.proofs.Given.{GoodHalfsegment}
 use Rattle.sweep.specs.Lower.{passesOver}
 use Rattle.sweep.proofs.Entries.{in-range-at, passed-at, one-more}
 use Rattle.sweep.proofs.event.are_over_end.Statement.{statement}
@@ -33,8 +33,8 @@ module _ (c : tie.After-wide Inv-loop μ-loop) where
   abbrev z : tie.Start Inv-loop μ-loop
   z = d .before .before .before .before
 
-  here : Readable (z .args .s .now) (c .wide .result)
-  here = subst (Readable (z .args .s .now)) (sym (c .wide .ensures)) (z .pre .entries (d .loop .i) (c .before .before .loop-test .taken))
+  here : GoodHalfsegment (z .args .s .now) (c .wide .result)
+  here = subst (GoodHalfsegment (z .args .s .now)) (sym (c .wide .ensures)) (z .pre .entries (d .loop .i) (c .before .before .loop-test .taken))
 
 segment-requires : tie.Need-segment-requires Inv-loop μ-loop
 segment-requires c κs = c .before .before .pre .event .there

@@ -10,7 +10,7 @@ use lib.Dec.{T, ltb}
 use Rattle.plane.specs.declared.Segment.{Segment}
 use Rattle.plane.specs.Plane.{samePoint, sameSegment}
 use Rattle.scene.specs.Read.{segmentAt}
-use Rattle.sweep.specs.Ready.{Readable}
+use Rattle.scene.proofs.Given.{GoodHalfsegment}
 use Rattle.sweep.specs.Lower.{passesUnder}
 use Rattle.sweep.proofs.Entries.{in-range-at, passed-at, one-more}
 use Rattle.sweep.proofs.event.count_under.Statement.{statement}
@@ -34,8 +34,8 @@ module _ (c : tie.After-wide Inv-loop μ-loop) where
   abbrev z : tie.Start Inv-loop μ-loop
   z = d .before .before .before .before .before
 
-  here : Readable (z .args .s .now) (c .wide .result)
-  here = subst (Readable (z .args .s .now)) (sym (c .wide .ensures)) (z .pre .entries (d .loop .k) (c .before .before .loop-test .taken))
+  here : GoodHalfsegment (z .args .s .now) (c .wide .result)
+  here = subst (GoodHalfsegment (z .args .s .now)) (sym (c .wide .ensures)) (z .pre .entries (d .loop .k) (c .before .before .loop-test .taken))
 
 segment-requires : tie.Need-segment-requires Inv-loop μ-loop
 segment-requires c κs = c .before .before .pre .event .there

@@ -1,11 +1,11 @@
 -- `sweep::event::has_right_ia` meets its contract: the number of own entries below is odd exactly if ia is not set.
 use mathlib.Core.Path.{sym, ap, subst, _∙_}
-use mathlib.Core.Bool.{not}
+use mathlib.Core.Bool.{not, Bool·beq}
 use borrow.Author.Needs.{needs}
 use lib.Dec.{T}
-use Rattle.whole.proofs.Logic.{is-true}
+use Rattle.whole.proofs.Logic.{is-true, false-is, beq-other}
 use Rattle.scene.proofs.Flags.{upheld, refuted}
-use Rattle.sweep.proofs.Entries.{entry-ia, beq-other}
+use Rattle.sweep.proofs.Entries.{entry-ia}
 use Rattle.sweep.proofs.event.has_right_ia.Statement.{statement}
 use Rattle.sweep.proofs.event.has_right_ia.Tie as tie
 
@@ -30,7 +30,7 @@ ia-requires c κs =
 returns-2 : tie.Need-returns-2
 returns-2 c =
     let odd = c .before .has-odd-own in
-    λ yes region. sym (odd .ensures) ∙ beq-other (odd .result) (c .ia .result) yes ∙ ap not (c .ia .ensures)
+    λ yes region. sym (odd .ensures) ∙ beq-other (odd .result) (c .ia .result) (false-is (Bool·beq (odd .result) (c .ia .result)) yes) ∙ ap not (c .ia .ensures)
 
 pub has-right-ia-spec : {M : Type 1} → statement M
 has-right-ia-spec =

@@ -4,13 +4,13 @@ use mathlib.Core.Bool.{Bool, _&&_, Bool·beq}
 use borrow.Author.Needs.{needs}
 use borrow.Author.Tests.{not-false}
 use lib.Dec.{T, ltb}
-use Rattle.whole.proofs.Logic.{is-true, true-is}
+use Rattle.whole.proofs.Logic.{is-true, true-is, beq-same}
 use Rattle.plane.proofs.Equal.{sameSegment-read}
 use Rattle.scene.specs.Read.{segmentAt}
 use Rattle.scene.specs.Conditions.{isRegion}
 use Rattle.scene.proofs.Flags.{upheld, refuted}
 use Rattle.sweep.specs.Swept.{objectOf, isFirst}
-use Rattle.sweep.proofs.Entries.{entry-readable, entry-ia, same-strand, beq-same, and-none}
+use Rattle.sweep.proofs.Entries.{entry-readable, entry-ia, same-strand, and-none}
 use Rattle.sweep.proofs.event.is_own.Statement.{statement}
 use Rattle.sweep.proofs.event.is_own.Tie as tie
 

@@ -13,7 +13,7 @@ use Rattle.plane.specs.Plane.{samePoint}
 use Rattle.scene.specs.Read.{segmentAt}
 use Rattle.sweep.specs.Lower.{passesUnder}
 use Rattle.sweep.specs.Swept.{strandAt, Entry}
-use Rattle.sweep.specs.Ready.{Readable}
+use Rattle.scene.proofs.Given.{GoodHalfsegment}
 use Rattle.sweep.proofs.Entries.{entry-readable, ready-entry, in-range-at, passed-at, one-more}
 use Rattle.sweep.proofs.event.own_place.Statement.{statement}
 use Rattle.sweep.proofs.event.own_place.Tie as tie
@@ -40,7 +40,7 @@ module _ (c : tie.After-wide Inv-loop μ-loop) where
       subst (Entry (z .args .s .now) (z .args .scene)) (sym (c .wide .ensures))
       (ready-entry (z .pre) (d .loop .k) (c .before .before .loop-test .taken))
 
-  can-read : Readable (z .args .s .now) (c .wide .result)
+  can-read : GoodHalfsegment (z .args .s .now) (c .wide .result)
   can-read = entry-readable (z .args .s .now) (z .args .scene) (z .pre .scene) here
 
 segment-requires : tie.Need-segment-requires Inv-loop μ-loop

@@ -1,11 +1,11 @@
--- Counts over lists: of an appended list, and of a strand put in or taken out.
+-- Counts over lists: of an appended list, of tests that agree, and of an element put between two lists.
 use Prim.Native.Nat.{ℕ, _+_}
 use native.Mathlib.Omega.{arith}
 use mathlib.Core.Path.{_≡_, refl, sym, ap, _∙_}
 use mathlib.Core.Bool.{Bool, false}
 use mathlib.Core.List.{List, [], _∷_, _++_}
 use Rattle.whole.specs.Count.{_∈_, here, there, bit, count}
 use Rattle.whole.proofs.Logic.{in-append, in-left, in-right}
 use mathlib.Core.Logic.{_⊎_, inl, inr, ⊎-elim}
 
 module _ {A : Type 0} where
