@@ -134,7 +134,8 @@ karvoiss_cells_t karvoiss_cells(const uint8_t *scene, size_t length);
  * `list` points to `room` bytes that the list is written to; it may be null where
  * `room` is 0, and must not overlap the scene. Taken: the first `count` bytes are
  * the list and later bytes are as they were. Refused: `count` is 0 and all bytes
- * are as they were. 2,048 bytes are enough for any scene.
+ * are as they were. 1,024 bytes are enough for any scene: two regions of 512
+ * segments each.
  */
 typedef struct {
     uint32_t number;
