@@ -2,6 +2,7 @@
 use mathlib.Core.Bool.{Bool}
 use mathlib.Core.List.{List, [], _∷_}
 use Rattle.features.specs.declared.Explored.{Explored}
+use Rattle.features.specs.Vectors.{vectorsValues}
 use Rattle.cells.specs.declared.Explored as C
 use Rattle.karvoiss.specs.declared.KarvoissVectors.{KarvoissVectors}
 use Rattle.overlap.specs.declared.Overlap.{Overlap}
@@ -9,8 +10,9 @@ use Rattle.karvoiss.specs.declared.KarvoissOverlap.{KarvoissOverlap}
 use Rattle.karvoiss.specs.declared.KarvoissCells.{KarvoissCells}
 
 abbrev pub vectorsAnswer : Explored → KarvoissVectors
-vectorsAnswer (Explored.Taken v) = record { number = 0; place = 0; f = v .f; g = v .g }
-vectorsAnswer (Explored.Refused r) = record { number = r .number; place = r .place; f = 0; g = 0 }
+vectorsAnswer e =
+    let values = vectorsValues e in
+    record { number = values .number; place = values .place; f = values .f; g = values .g }
 
 abbrev pub cellsAnswer : C.Explored → KarvoissCells
 cellsAnswer e = record { number = e .number; place = e .place; interior = e .interior .c; boundary = e .boundary .c; exterior = e .exterior .c }
