@@ -5,3 +5,4 @@ pub mod Kept
 pub mod Swept
 pub mod Evenly
 pub mod Ready
+pub mod Noted

@@ -1,0 +1,2 @@
+-- The class of a segment beside the other object.
+pub mod Classed

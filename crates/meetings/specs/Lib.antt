@@ -1,0 +1,2 @@
+-- How elements of two objects meet at points.
+pub mod Met
