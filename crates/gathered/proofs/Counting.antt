@@ -41,7 +41,7 @@ module _ {A : Type 0} where
           none : count f l ≡ 0 + count f l
           none = omega arith
 
--- ---- counts
+  -- ---- counts
 
   pub count-sum : (f g h : A → Bool) (l : List A) → ((a : A) → a ∈ l → bit (f a) ≡ bit (g a) + bit (h a)) → count f l ≡ count g l + count h l
   count-sum f g h [] e = refl

@@ -7,3 +7,5 @@ pub mod Sizes
 pub mod Meeting
 pub mod Classing
 pub mod RegionRegion
+pub mod Shapes
+pub mod LineLine
