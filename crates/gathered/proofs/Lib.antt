@@ -9,3 +9,4 @@ pub mod Classing
 pub mod RegionRegion
 pub mod Shapes
 pub mod LineLine
+pub mod LineRegion
