@@ -4,9 +4,9 @@ use native.Mathlib.Omega.{arith}
 use mathlib.Core.Path.{_≡_, refl, sym, ap, ap₂, subst, _∙_}
 use mathlib.Core.Bool.{Bool, true, false, not, _&&_, _||_, Bool·not-not, true≢false, false≢true}
 use mathlib.Core.List.{List}
-use lib.Dec.{T}
+use lib.Dec.{T, eqb}
 use Rattle.whole.specs.Count.{_∈_, here, bit, some, count}
-use Rattle.whole.proofs.Logic.{and-never, same-test, sorted-nil, sorted-cons}
+use Rattle.whole.proofs.Logic.{and-never, true-is, same-test, some-make, in-map, sorted-nil, sorted-cons}
 use Rattle.whole.proofs.Counted.{count-same}
 use Rattle.plane.specs.declared.Point.{Point}
 use Rattle.plane.specs.declared.Segment.{Segment}
@@ -28,7 +28,7 @@ use Rattle.flags.specs.Flags.{hasPoint}
 use Rattle.flags.specs.Walk.{pointOf, pointsOf}
 use Rattle.flags.proofs.ByElement.{some-same, some-map}
 use Rattle.meetings.specs.Met.{pointAs, elementPoint, degree}
-use Rattle.gathered.proofs.Counting.{count-sum, Distinct, count-one, count-matched}
+use Rattle.gathered.proofs.Counting.{some-on, count-sum, Distinct, count-one, count-matched}
 
 distinct-indices : (n j : ℕ) → Distinct (indices n j)
 distinct-indices zero j = sorted-nil
@@ -127,7 +127,7 @@ module _ {s : List ℕ} {l : Layout} (o : SoundObject s l) (is : l .shape ≡ Po
   pub point-itself : (i : ℕ) → elementPoint s l i ≡ pointOf s l i
   point-itself i = ap (λ k. pointAs s l k i) is
 
-  pub degree-point : (v : Point) → degree s l v ≡ bit (hasPoint (pointsOf s l) v)
+  degree-point : (v : Point) → degree s l v ≡ bit (hasPoint (pointsOf s l) v)
   unfolding degree pointsOf
   degree-point v =
       count-same (λ i. samePoint (elementPoint s l i) v) test (elements l) (λ i m. ap (λ p. samePoint p v) (point-itself i) ∙ turned (pointOf s l i))
@@ -145,3 +145,31 @@ module _ {s : List ℕ} {l : Layout} (o : SoundObject s l) (is : l .shape ≡ Po
       one : (i j : ℕ) → i ∈ elements l → j ∈ elements l → pointOf s l i ≡ pointOf s l j → i ≡ j
       one i j m k e =
           one-index i j (λ h. no-point-twice o none i j h (in-element l j k) e) (λ h. no-point-twice o none j i h (in-element l i m) (sym e))
+
+  -- 1 where the point is one of them, else 0
+  pub point-there : (v : Point) → hasPoint (pointsOf s l) v ≡ eqb (degree s l v) 1
+  point-there v = go (hasPoint (pointsOf s l) v) ∙ ap (λ n. eqb n 1) (sym (degree-point v))
+    where
+      go : (b : Bool) → b ≡ eqb (bit b) 1
+      go true = refl
+      go false = refl
+
+  pub point-absent : (v : Point) → not (hasPoint (pointsOf s l) v) ≡ eqb (degree s l v) 0
+  point-absent v = go (hasPoint (pointsOf s l) v) ∙ ap (λ n. eqb n 0) (sym (degree-point v))
+    where
+      go : (b : Bool) → not b ≡ eqb (bit b) 0
+      go true = refl
+      go false = refl
+
+  -- its own points are
+  pub own-point : (i : ℕ) → i < l .count → eqb (degree s l (elementPoint s l i)) 1 ≡ true
+  unfolding pointsOf
+  own-point i h =
+      sym (point-there (elementPoint s l i))
+      ∙ true-is (hasPoint (pointsOf s l) (elementPoint s l i)) (subst (λ p. T (hasPoint (pointsOf s l) p)) (sym (point-itself i)) (some-make (samePoint (pointOf s l i)) (in-map (pointOf s l) (element-in l i h)) (samePoint-refl (pointOf s l i))))
+
+  -- "some point" by the elements
+  pub some-points : (f : Point → Bool) (d : ℕ → Bool) → ((i : ℕ) → i < l .count → f (elementPoint s l i) ≡ d i) → some f (pointsOf s l) ≡ some d (elements l)
+  unfolding pointsOf
+  some-points f d e =
+      some-map f (pointOf s l) (elements l) ∙ some-on (λ i. f (pointOf s l i)) d (elements l) (λ i m. ap f (sym (point-itself i)) ∙ e i (in-element l i m))

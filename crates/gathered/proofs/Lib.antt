@@ -10,3 +10,6 @@ pub mod RegionRegion
 pub mod Shapes
 pub mod LineLine
 pub mod LineRegion
+pub mod PointsPoints
+pub mod PointsLine
+pub mod PointsRegion
