@@ -120,17 +120,17 @@ module _ {s : List ℕ} {l : Layout} (o : SoundObject s l) (has : hasSegments (l
 
 -- ---- points
 
+pub point-itself : (s : List ℕ) (l : Layout) → l .shape ≡ Points → (i : ℕ) → elementPoint s l i ≡ pointOf s l i
+point-itself s l is i = ap (λ k. pointAs s l k i) is
+
 module _ {s : List ℕ} {l : Layout} (o : SoundObject s l) (is : l .shape ≡ Points) where
   none : hasSegments (l .shape) ≡ false
   none = ap hasSegments is
 
-  pub point-itself : (i : ℕ) → elementPoint s l i ≡ pointOf s l i
-  point-itself i = ap (λ k. pointAs s l k i) is
-
   degree-point : (v : Point) → degree s l v ≡ bit (hasPoint (pointsOf s l) v)
   unfolding degree pointsOf
   degree-point v =
-      count-same (λ i. samePoint (elementPoint s l i) v) test (elements l) (λ i m. ap (λ p. samePoint p v) (point-itself i) ∙ turned (pointOf s l i))
+      count-same (λ i. samePoint (elementPoint s l i) v) test (elements l) (λ i m. ap (λ p. samePoint p v) (point-itself s l is i) ∙ turned (pointOf s l i))
       ∙ count-one test (distinct-indices (l .count) 0) (λ i j m k t u. one i j m k (sym (samePoint-read v (pointOf s l i) t) ∙ samePoint-read v (pointOf s l j) u))
       ∙ ap bit (sym (some-map (samePoint v) (pointOf s l) (elements l)))
     where
@@ -166,10 +166,10 @@ module _ {s : List ℕ} {l : Layout} (o : SoundObject s l) (is : l .shape ≡ Po
   unfolding pointsOf
   own-point i h =
       sym (point-there (elementPoint s l i))
-      ∙ true-is (hasPoint (pointsOf s l) (elementPoint s l i)) (subst (λ p. T (hasPoint (pointsOf s l) p)) (sym (point-itself i)) (some-make (samePoint (pointOf s l i)) (in-map (pointOf s l) (element-in l i h)) (samePoint-refl (pointOf s l i))))
+      ∙ true-is (hasPoint (pointsOf s l) (elementPoint s l i)) (subst (λ p. T (hasPoint (pointsOf s l) p)) (sym (point-itself s l is i)) (some-make (samePoint (pointOf s l i)) (in-map (pointOf s l) (element-in l i h)) (samePoint-refl (pointOf s l i))))
 
   -- "some point" by the elements
   pub some-points : (f : Point → Bool) (d : ℕ → Bool) → ((i : ℕ) → i < l .count → f (elementPoint s l i) ≡ d i) → some f (pointsOf s l) ≡ some d (elements l)
   unfolding pointsOf
   some-points f d e =
-      some-map f (pointOf s l) (elements l) ∙ some-on (λ i. f (pointOf s l i)) d (elements l) (λ i m. ap f (sym (point-itself i)) ∙ e i (in-element l i m))
+      some-map f (pointOf s l) (elements l) ∙ some-on (λ i. f (pointOf s l i)) d (elements l) (λ i m. ap f (sym (point-itself s l is i)) ∙ e i (in-element l i m))

@@ -36,7 +36,7 @@ use Rattle.flags.specs.Walk.{pointOf}
 use Rattle.flags.proofs.Clear.{clear-of}
 use Rattle.matrix.proofs.Common.{end-along, is-in, in-has, moving}
 use Rattle.meetings.specs.Met.{elementPoint, degree}
-use Rattle.gathered.proofs.Degrees.{degree-ends}
+use Rattle.gathered.proofs.Degrees.{degree-ends, point-itself}
 use Rattle.gathered.proofs.Ends.{end-degree, own-degree, end-on, end-of-half, on-degree}
 
 -- the note of each segment of own that is none of the other's
@@ -139,38 +139,43 @@ module _ {s : List ℕ} {own other : Layout} (is : SoundObject s own) (are : Sou
 -- ---- a point beside segments
 
 module _ {s : List ℕ} {sc : Scene} {notes : List ℕ} (n : Noted s sc notes) (points : sc .f .shape ≡ Points) (are : SoundObject s (sc .g)) (has : hasSegments (sc .g .shape) ≡ true) (i : ℕ) (h : i < sc .f .count) where
-  point-note : ltb 0 (degree s (sc .g) (pointOf s (sc .f) i)) ≡ false → getD notes i 0 ≡ pointNote (segments s (sc .g)) (pointOf s (sc .f) i)
-  point-note e = n .of-points points (is-true (hasSegments (sc .g .shape)) has) i h (sym (degree-ends are has (pointOf s (sc .f) i)) ∙ none)
+  point-note : ltb 0 (degree s (sc .g) (elementPoint s (sc .f) i)) ≡ false → getD notes i 0 ≡ pointNote (segments s (sc .g)) (elementPoint s (sc .f) i)
+  point-note e =
+      n .of-points points (is-true (hasSegments (sc .g .shape)) has) i h (ap (λ v. endsAt (segments s (sc .g)) (grid v)) (sym itself) ∙ sym (degree-ends are has (elementPoint s (sc .f) i)) ∙ none)
+      ∙ ap (pointNote (segments s (sc .g))) (sym itself)
     where
-      none : degree s (sc .g) (pointOf s (sc .f) i) ≡ 0
-      none = omega (arith, ltb-false 0 (degree s (sc .g) (pointOf s (sc .f) i)) e)
+      itself : elementPoint s (sc .f) i ≡ pointOf s (sc .f) i
+      itself = point-itself s (sc .f) points i
 
-  on-end : T (ltb 0 (degree s (sc .g) (pointOf s (sc .f) i))) → T (onObject (segments s (sc .g)) (pointOf s (sc .f) i))
-  on-end t = end-on are has (pointOf s (sc .f) i) (subst T (sym (end-degree are has (pointOf s (sc .f) i))) t)
+      none : degree s (sc .g) (elementPoint s (sc .f) i) ≡ 0
+      none = omega (arith, ltb-false 0 (degree s (sc .g) (elementPoint s (sc .f) i)) e)
 
-  pub point-on : onObject (segments s (sc .g)) (pointOf s (sc .f) i) ≡ ltb 0 (degree s (sc .g) (pointOf s (sc .f) i)) || ltb 1 (getD notes i 0)
-  point-on = go (ltb 0 (degree s (sc .g) (pointOf s (sc .f) i))) refl on-end
+  on-end : T (ltb 0 (degree s (sc .g) (elementPoint s (sc .f) i))) → T (onObject (segments s (sc .g)) (elementPoint s (sc .f) i))
+  on-end t = end-on are has (elementPoint s (sc .f) i) (subst T (sym (end-degree are has (elementPoint s (sc .f) i))) t)
+
+  pub point-on : onObject (segments s (sc .g)) (elementPoint s (sc .f) i) ≡ ltb 0 (degree s (sc .g) (elementPoint s (sc .f) i)) || ltb 1 (getD notes i 0)
+  point-on = go (ltb 0 (degree s (sc .g) (elementPoint s (sc .f) i))) refl on-end
     where
       two : (a b : Bool) → a ≡ ltb 1 (cond a 2 (bit b))
       two true b = refl
       two false true = refl
       two false false = refl
 
-      go : (b : Bool) → ltb 0 (degree s (sc .g) (pointOf s (sc .f) i)) ≡ b → (T b → T (onObject (segments s (sc .g)) (pointOf s (sc .f) i)))
-          → onObject (segments s (sc .g)) (pointOf s (sc .f) i) ≡ b || ltb 1 (getD notes i 0)
-      go true e on = true-is (onObject (segments s (sc .g)) (pointOf s (sc .f) i)) (on tt)
-      go false e on = two (onObject (segments s (sc .g)) (pointOf s (sc .f) i)) (odd (count (countsBelow (grid (pointOf s (sc .f) i))) (segments s (sc .g)))) ∙ ap (ltb 1) (sym (point-note e))
+      go : (b : Bool) → ltb 0 (degree s (sc .g) (elementPoint s (sc .f) i)) ≡ b → (T b → T (onObject (segments s (sc .g)) (elementPoint s (sc .f) i)))
+          → onObject (segments s (sc .g)) (elementPoint s (sc .f) i) ≡ b || ltb 1 (getD notes i 0)
+      go true e on = true-is (onObject (segments s (sc .g)) (elementPoint s (sc .f) i)) (on tt)
+      go false e on = two (onObject (segments s (sc .g)) (elementPoint s (sc .f) i)) (odd (count (countsBelow (grid (elementPoint s (sc .f) i))) (segments s (sc .g)))) ∙ ap (ltb 1) (sym (point-note e))
 
-  pub point-inside : inside (segments s (sc .g)) (grid (pointOf s (sc .f) i)) ≡ not (ltb 0 (degree s (sc .g) (pointOf s (sc .f) i))) && eqb (getD notes i 0) 1
+  pub point-inside : inside (segments s (sc .g)) (grid (elementPoint s (sc .f) i)) ≡ not (ltb 0 (degree s (sc .g) (elementPoint s (sc .f) i))) && eqb (getD notes i 0) 1
   unfolding inside
-  point-inside = go (ltb 0 (degree s (sc .g) (pointOf s (sc .f) i))) refl on-end
+  point-inside = go (ltb 0 (degree s (sc .g) (elementPoint s (sc .f) i))) refl on-end
     where
       one : (a b : Bool) → not a && b ≡ eqb (cond a 2 (bit b)) 1
       one true b = refl
       one false true = refl
       one false false = refl
 
-      go : (b : Bool) → ltb 0 (degree s (sc .g) (pointOf s (sc .f) i)) ≡ b → (T b → T (onObject (segments s (sc .g)) (pointOf s (sc .f) i)))
-          → inside (segments s (sc .g)) (grid (pointOf s (sc .f) i)) ≡ not b && eqb (getD notes i 0) 1
-      go true e on = ap (λ b. not b && odd (count (countsBelow (grid (pointOf s (sc .f) i))) (segments s (sc .g)))) (true-is (onObject (segments s (sc .g)) (pointOf s (sc .f) i)) (on tt))
-      go false e on = one (onObject (segments s (sc .g)) (pointOf s (sc .f) i)) (odd (count (countsBelow (grid (pointOf s (sc .f) i))) (segments s (sc .g)))) ∙ ap (λ n. eqb n 1) (sym (point-note e))
+      go : (b : Bool) → ltb 0 (degree s (sc .g) (elementPoint s (sc .f) i)) ≡ b → (T b → T (onObject (segments s (sc .g)) (elementPoint s (sc .f) i)))
+          → inside (segments s (sc .g)) (grid (elementPoint s (sc .f) i)) ≡ not b && eqb (getD notes i 0) 1
+      go true e on = ap (λ b. not b && odd (count (countsBelow (grid (elementPoint s (sc .f) i))) (segments s (sc .g)))) (true-is (onObject (segments s (sc .g)) (elementPoint s (sc .f) i)) (on tt))
+      go false e on = one (onObject (segments s (sc .g)) (elementPoint s (sc .f) i)) (odd (count (countsBelow (grid (elementPoint s (sc .f) i))) (segments s (sc .g)))) ∙ ap (λ n. eqb n 1) (sym (point-note e))

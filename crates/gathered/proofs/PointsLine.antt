@@ -1,6 +1,6 @@
 -- 1, 2: the flags of points and a line by the degrees in the line, and by the notes of points that are none of its ends.
 use Prim.Native.Nat.{ℕ, _<_}
-use mathlib.Core.Path.{_≡_, refl, sym, ap, ap₂, subst, _∙_}
+use mathlib.Core.Path.{_≡_, refl, sym, ap, ap₂, _∙_}
 use mathlib.Core.Bool.{Bool, true, false, not, _&&_, _||_, and-comm}
 use mathlib.Core.List.{List, [], _∷_}
 use lib.Dec.{eqb, ltb}
@@ -17,7 +17,7 @@ use Rattle.flags.specs.Walk.{pointsOf, found, allFlags}
 use Rattle.meetings.specs.Met.{elementPoint, degree, meetings}
 use Rattle.classes.specs.Classed.{classesOfF, classesOfG}
 use Rattle.gathered.specs.Table.{flagsOfFBy, flagsOfGBy}
-use Rattle.gathered.proofs.Degrees.{point-itself, point-absent, own-point, some-points}
+use Rattle.gathered.proofs.Degrees.{point-absent, own-point, some-points}
 use Rattle.gathered.proofs.Ends.{bound-degree, end-elements}
 use Rattle.gathered.proofs.Noting.{point-on}
 use Rattle.gathered.proofs.Sizes.{Size, none, one, many, size-of}
@@ -48,7 +48,7 @@ module _ {s : List ℕ} {sc : Scene} {notes : List ℕ} (o : SoundScene s sc) (n
   single i h = own-point (o .f-sound) f i h
 
   on-line : (i : ℕ) → i < sc .f .count → onObject G (p i) ≡ ltb 0 (b i) || ltb 1 (note i)
-  on-line i h = subst (λ q. onObject G q ≡ ltb 0 (degree s (sc .g) q) || ltb 1 (note i)) (sym (point-itself (o .f-sound) f i)) (point-on n f (o .g-sound) has-g i h)
+  on-line i h = point-on n f (o .g-sound) has-g i h
 
   bound : (v : Point) → isBound G v ≡ eqb (degree s (sc .g) v) 1
   bound v = bound-degree (o .g-sound) has-g v

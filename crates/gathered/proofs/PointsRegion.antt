@@ -1,6 +1,6 @@
 -- 1, 3: the flags of points and a region by the degrees in the region, and by the notes of points that are none of its ends.
 use Prim.Native.Nat.{ℕ, _<_}
-use mathlib.Core.Path.{_≡_, refl, sym, ap, ap₂, subst, _∙_}
+use mathlib.Core.Path.{_≡_, refl, sym, ap, ap₂, _∙_}
 use mathlib.Core.Bool.{Bool, true, false, not, _&&_, _||_}
 use mathlib.Core.List.{List, [], _∷_}
 use lib.Dec.{eqb, ltb}
@@ -19,7 +19,7 @@ use Rattle.flags.proofs.ByElement.{outline-edges}
 use Rattle.meetings.specs.Met.{elementPoint, degree, meetings}
 use Rattle.classes.specs.Classed.{classesOfF, classesOfG}
 use Rattle.gathered.specs.Table.{flagsOfFBy, flagsOfGBy}
-use Rattle.gathered.proofs.Degrees.{point-itself, own-point, some-points}
+use Rattle.gathered.proofs.Degrees.{own-point, some-points}
 use Rattle.gathered.proofs.Noting.{point-on, point-inside}
 use Rattle.gathered.proofs.Sizes.{Size, none, one, many, size-of}
 use Rattle.gathered.proofs.Meeting.{met-0, met-1, met-234}
@@ -49,10 +49,10 @@ module _ {s : List ℕ} {sc : Scene} {notes : List ℕ} (o : SoundScene s sc) (n
   single i h = own-point (o .f-sound) f i h
 
   on-outline : (i : ℕ) → i < sc .f .count → onObject G (p i) ≡ ltb 0 (b i) || ltb 1 (note i)
-  on-outline i h = subst (λ q. onObject G q ≡ ltb 0 (degree s (sc .g) q) || ltb 1 (note i)) (sym (point-itself (o .f-sound) f i)) (point-on n f (o .g-sound) has-g i h)
+  on-outline i h = point-on n f (o .g-sound) has-g i h
 
   in-region : (i : ℕ) → i < sc .f .count → inside G (grid (p i)) ≡ not (ltb 0 (b i)) && eqb (note i) 1
-  in-region i h = subst (λ q. inside G (grid q) ≡ not (ltb 0 (degree s (sc .g) q)) && eqb (note i) 1) (sym (point-itself (o .f-sound) f i)) (point-inside n f (o .g-sound) has-g i h)
+  in-region i h = point-inside n f (o .g-sound) has-g i h
 
   inner : poiInside (pointsOf s (sc .f)) G ≡ meetings s sc notes .b1
   inner =
