@@ -1,27 +1,23 @@
--- The classes of an object's segments, bit by bit: some segment that is one of the other object's, or is none; and beside a region, some that lies inside
--- or outside it.
+-- The classes of an object's segments, bit by bit: some left halfsegment whose segment is one of the other object's, or is none, with such a note.
 use Prim.Native.Nat.{ℕ, _<_}
 use mathlib.Core.Path.{_≡_, refl, sym, ap, ap₂, _∙_}
 use mathlib.Core.Bool.{Bool, true, false, not, _&&_, _||_, and-false, or-assoc, or-false}
 use mathlib.Core.List.{List}
-use lib.Dec.{T, eqb}
-use Rattle.whole.specs.Count.{_∈_, some}
+use lib.Dec.{eqb}
+use Rattle.whole.specs.Count.{some}
 use Rattle.plane.specs.declared.Segment.{Segment}
-use Rattle.plane.specs.Plane.{midpoint, sameSegment, onSome, inside}
-use Rattle.plane.proofs.Accepted.{Across}
+use Rattle.plane.specs.Plane.{sameSegment}
 use Rattle.scene.specs.declared.Layout.{Layout}
-use Rattle.scene.specs.Conditions.{elements, hasSegments, isRegion, half, ia, isLeft, segments}
+use Rattle.scene.specs.Conditions.{elements, half, ia, isLeft, segments}
 use Rattle.segments.proofs.Indices.{in-element}
 use Rattle.segments.proofs.Walk.{all-between, leftPasses, some-segments}
-use Rattle.checks.proofs.Laws.{SoundObject}
 use Rattle.flags.specs.declared.Found.{Found}
-use Rattle.flags.specs.Flags.{Edge, outline, hasSegment}
+use Rattle.flags.specs.Flags.{Edge, hasSegment}
 use Rattle.flags.specs.Walk.{edges, sameEdge, hasEdge, gather}
 use Rattle.flags.proofs.ByElement.{some-same, some-never, some-map, outline-edges}
 use Rattle.classes.specs.Classed.{classOf}
 use Rattle.gathered.specs.Table.{unshared, shared}
 use Rattle.gathered.proofs.Counting.{some-on, some-or}
-use Rattle.gathered.proofs.Noting.{Knows, middle-on, middle-inside}
 
 -- a segment is one of the object's with the interior above it, or with the interior below it
 has-either : (s : List ℕ) (l : Layout) (t : Segment) → hasEdge (edges s l) t true || hasEdge (edges s l) t false ≡ hasSegment (segments s l) t
@@ -113,24 +109,3 @@ module _ (s : List ℕ) (own other : Layout) where
       go false true false = refl
       go false false true = refl
       go false false false = refl
-
--- ---- beside a region
-
-module _ {s : List ℕ} {own other : Layout} (is : SoundObject s own) (are : SoundObject s other) (has : hasSegments (own .shape) ≡ true) (region : isRegion (other .shape) ≡ true)
-    (across : Across (segments s own) (segments s other)) {note : ℕ → ℕ} (knows : Knows s own other note) where
-  -- the midpoint is inside, and outside
-  pub inside-class : (i : ℕ) → i < own .count
-      → inside (outline (edges s other)) (midpoint (half s own i .segment)) ≡ not (isShared s own other i) && not (eqb (note i) 0)
-  inside-class i h = ap (λ l. inside l (midpoint (half s own i .segment))) (outline-edges s other) ∙ middle-inside is are has region across knows i h
-
-  pub outside-class : (i : ℕ) → i < own .count
-      → not (onSome (outline (edges s other)) (midpoint (half s own i .segment))) && not (inside (outline (edges s other)) (midpoint (half s own i .segment)))
-      ≡ not (isShared s own other i) && eqb (note i) 0
-  outside-class i h =
-      ap₂ (λ a b. not a && not b) (ap (λ l. onSome l (midpoint (half s own i .segment))) (outline-edges s other) ∙ middle-on is are has region across knows i h) (inside-class i h)
-      ∙ go (isShared s own other i) (eqb (note i) 0)
-    where
-      go : (x z : Bool) → not x && not (not x && not z) ≡ not x && z
-      go true z = refl
-      go false true = refl
-      go false false = refl

@@ -1,15 +1,15 @@
 -- Tests and counts over lists: of tests that agree on the list, of two tests together, of a test that one element passes at most, and of elements that
 -- are matched one to one.
-use Prim.Native.Nat.{ℕ, zero, suc, _+_, _≤_, _<_}
+use Prim.Native.Nat.{_+_, _≤_}
 use native.Mathlib.Omega.{arith}
 use mathlib.Core.Path.{_≡_, refl, sym, ap, ap₂, subst, _∙_}
-use mathlib.Core.Logic.{_⊎_, inl, inr, ⊎-elim}
-use mathlib.Core.Bool.{Bool, true, false, _||_, or-false}
+use mathlib.Core.Logic.{⊎-elim}
+use mathlib.Core.Bool.{Bool, true, false, _||_}
 use mathlib.Core.List.{List, [], _∷_, _++_}
 use lib.Dec.{T, ltb}
-use borrow.Author.Tests.{lt-ltb, le-ltb}
+use borrow.Author.Tests.{lt-ltb}
 use Rattle.whole.specs.Count.{_∈_, here, there, bit, some, count}
-use Rattle.whole.proofs.Logic.{true-is, refute, decide, false-is, in-cons, in-nil, none-of, some-find, some-make, Sorted, sorted-nil, sorted-cons}
+use Rattle.whole.proofs.Logic.{refute, Sorted, sorted-nil, sorted-cons}
 use Rattle.whole.proofs.Counted.{count-between, count-none, or-between}
 
 -- ---- "some"

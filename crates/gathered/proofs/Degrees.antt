@@ -5,28 +5,26 @@ use mathlib.Core.Path.{_≡_, refl, sym, ap, ap₂, subst, _∙_}
 use mathlib.Core.Bool.{Bool, true, false, not, _&&_, _||_, Bool·not-not, true≢false, false≢true}
 use mathlib.Core.List.{List}
 use lib.Dec.{T, eqb}
-use Rattle.whole.specs.Count.{_∈_, here, bit, some, count}
+use Rattle.whole.specs.Count.{_∈_, bit, some, count}
 use Rattle.whole.proofs.Logic.{and-never, true-is, same-test, some-make, in-map, sorted-nil, sorted-cons}
 use Rattle.whole.proofs.Counted.{count-same}
 use Rattle.plane.specs.declared.Point.{Point}
 use Rattle.plane.specs.declared.Segment.{Segment}
-use Rattle.plane.specs.declared.Halfsegment.{Halfsegment}
 use Rattle.plane.specs.Plane.{grid, samePoint, dominating, isEnd, endsAt}
 use Rattle.plane.proofs.Equal.{samePoint-read, samePoint-refl}
-use Rattle.plane.proofs.OnSegment.{Ordered, ordered-read}
+use Rattle.plane.proofs.OnSegment.{ordered-read}
 use Rattle.plane.proofs.Order.{ends-differ}
 use Rattle.plane.proofs.Accepted.{isAt-grid}
 use Rattle.scene.specs.declared.Shape.{Shape}
 use Rattle.scene.specs.declared.Shape.the-variants.{Points, Line, Region}
 use Rattle.scene.specs.declared.Layout.{Layout}
-use Rattle.scene.specs.Read.{pointAt, place}
-use Rattle.scene.specs.Conditions.{indices, elements, hasSegments, half, isLeft, segments}
+use Rattle.scene.specs.Conditions.{indices, elements, hasSegments, half, segments}
 use Rattle.segments.proofs.Indices.{indices-in, element-in, in-element}
 use Rattle.segments.proofs.Walk.{all-between, leftPasses, count-segments}
 use Rattle.checks.proofs.Laws.{SoundObject, no-half-twice, no-point-twice, partner-of, all-ordered}
 use Rattle.flags.specs.Flags.{hasPoint}
 use Rattle.flags.specs.Walk.{pointOf, pointsOf}
-use Rattle.flags.proofs.ByElement.{some-same, some-map}
+use Rattle.flags.proofs.ByElement.{some-map}
 use Rattle.meetings.specs.Met.{pointAs, elementPoint, degree}
 use Rattle.gathered.proofs.Counting.{some-on, count-sum, Distinct, count-one, count-matched}
 

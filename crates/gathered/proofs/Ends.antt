@@ -1,7 +1,7 @@
 -- An object beside another that its segments share only common ends with: what is asked of an end of one of its segments, by the degrees of the point
 -- in both objects; and "some end of some segment" as "some element, by its point".
 use Prim.Native.Nat.{ℕ, _<_}
-use mathlib.Core.Path.{_≡_, refl, sym, ap, subst, _∙_}
+use mathlib.Core.Path.{_≡_, sym, ap, subst, _∙_}
 use mathlib.Core.Logic.{_⊎_, inl, inr, ⊎-elim}
 use mathlib.Core.Bool.{Bool, true, false, not, _&&_, _||_}
 use mathlib.Core.List.{List}
@@ -12,13 +12,13 @@ use Rattle.whole.proofs.Logic.{and-right, and-make, or-cases, or-left, or-right
 use Rattle.plane.specs.declared.Point.{Point}
 use Rattle.plane.specs.declared.Segment.{Segment}
 use Rattle.plane.specs.declared.Halfsegment.{Halfsegment}
-use Rattle.plane.specs.Plane.{grid, samePoint, sameSegment, dominating, isAt, isEnd, onSome, isBoundary, endsAt}
-use Rattle.plane.proofs.OnSegment.{Ordered, Along, ordered-read}
-use Rattle.plane.proofs.Equal.{samePoint-read, sameSegment-read}
-use Rattle.plane.proofs.Means.{EndOf, end-read, end-make}
+use Rattle.plane.specs.Plane.{grid, sameSegment, dominating, isAt, isEnd, isBoundary, endsAt}
+use Rattle.plane.proofs.OnSegment.{Along, ordered-read}
+use Rattle.plane.proofs.Equal.{sameSegment-read}
+use Rattle.plane.proofs.Means.{end-read, end-make}
 use Rattle.plane.proofs.AlongSegment.{Apart}
 use Rattle.plane.proofs.Order.{halfOf}
-use Rattle.plane.proofs.Accepted.{Across, AllOrdered}
+use Rattle.plane.proofs.Accepted.{Across}
 use Rattle.scene.specs.declared.Layout.{Layout}
 use Rattle.scene.specs.Conditions.{elements, hasSegments, isRegion, half, segments}
 use Rattle.segments.proofs.Elements.{region-segments}

@@ -1,14 +1,11 @@
 -- 2, 2: the flags of two lines by their shared and unshared segments, and by the degrees at their ends.
-use Prim.Native.Nat.{ℕ, _+_, _<_}
-use mathlib.Core.Path.{_≡_, refl, sym, ap, ap₂, subst, _∙_}
-use mathlib.Core.Bool.{Bool, true, false, not, _&&_, _||_, and-comm, false≢true}
+use Prim.Native.Nat.{ℕ, _+_}
+use mathlib.Core.Path.{_≡_, refl, sym, ap, ap₂, _∙_}
+use mathlib.Core.Bool.{Bool, true, false, not, _&&_, and-comm, false≢true}
 use mathlib.Core.List.{List, [], _∷_}
 use lib.Dec.{T, eqb, ltb}
 use lib.ListN.{getD}
-use Rattle.whole.specs.Count.{_∈_, some}
-use Rattle.plane.specs.declared.Point.{Point}
-use Rattle.plane.specs.declared.Segment.{Segment}
-use Rattle.plane.specs.Plane.{grid, isEnd}
+use Rattle.whole.specs.Count.{some}
 use Rattle.plane.proofs.Accepted.{Across}
 use Rattle.scene.specs.declared.Shape.the-variants.{Line}
 use Rattle.scene.specs.declared.Layout.{Layout}
@@ -21,9 +18,9 @@ use Rattle.flags.proofs.ByElement.{some-same}
 use Rattle.matrix.proofs.Common.{across-swap}
 use Rattle.meetings.specs.Met.{elementPoint, degree, meetings}
 use Rattle.classes.specs.Classed.{classesOfF, classesOfG}
-use Rattle.gathered.specs.Table.{alone, flagsOfFBy, flagsOfGBy}
+use Rattle.gathered.specs.Table.{flagsOfFBy, flagsOfGBy}
 use Rattle.gathered.proofs.Ends.{bound-degree, end-degree, own-degree, end-elements, on-degree}
-use Rattle.gathered.proofs.Sizes.{Size, none, one, many, size-of}
+use Rattle.gathered.proofs.Sizes.{Size, none, one, many, size-of, not-above}
 use Rattle.gathered.proofs.Meeting.{at-either, met-3, met-4, met-5, met-6, met-7, met-alone}
 use Rattle.gathered.proofs.Classing.{unshared-some, shared-some}
 use Rattle.gathered.proofs.Shapes.{by-shapes}
@@ -46,12 +43,7 @@ module _ {s : List ℕ} {own other : Layout} (is : SoundObject s own) (are : Sou
   disjoint : boundDisjoint (segments s own) (segments s other) ≡ some (λ i. eqb (degree s own (elementPoint s own i)) 1 && eqb (degree s other (elementPoint s own i)) 0) (elements own)
   disjoint =
       end-elements is has (λ t v. isBound (segments s own) v && not (onObject (segments s other) v)) (λ i. eqb (degree s own (elementPoint s own i)) 1 && eqb (degree s other (elementPoint s own i)) 0)
-      (λ i h t m e. rw (bound-degree is has (elementPoint s own i), on-degree is are have apart (elementPoint s own i) t m e) (ap (λ b. eqb (degree s own (elementPoint s own i)) 1 && b) (go (size-of (degree s other (elementPoint s own i))))))
-    where
-      go : {p z e m : Bool} → Size p z e m → not p ≡ z
-      go none = refl
-      go one = refl
-      go many = refl
+      (λ i h t m e. rw (bound-degree is has (elementPoint s own i), on-degree is are have apart (elementPoint s own i) t m e) (ap (λ b. eqb (degree s own (elementPoint s own i)) 1 && b) (not-above (size-of (degree s other (elementPoint s own i))))))
 
 -- ---- the flags
 

@@ -3,26 +3,24 @@ use Prim.Native.Nat.{ℕ, _+_, _<_}
 use mathlib.Core.Path.{_≡_, refl, sym, ap, ap₂, _∙_}
 use mathlib.Core.Bool.{Bool, true, false, not, _&&_, _||_, and-true, and-false, and-comm, and-self-left, false≢true}
 use mathlib.Core.List.{List, [], _∷_}
-use lib.Dec.{T, eqb, ltb}
+use lib.Dec.{eqb, ltb}
 use lib.ListN.{getD}
-use Rattle.whole.specs.Count.{_∈_, some}
 use Rattle.plane.specs.declared.Point.{Point}
 use Rattle.plane.specs.declared.Segment.{Segment}
-use Rattle.plane.specs.Plane.{grid, midpoint, isEnd, inside}
+use Rattle.plane.specs.Plane.{grid, midpoint, inside}
 use Rattle.scene.specs.declared.Shape.the-variants.{Line, Region}
-use Rattle.scene.specs.declared.Layout.{Layout}
 use Rattle.scene.specs.declared.Scene.{Scene}
-use Rattle.scene.specs.Conditions.{elements, hasSegments, isRegion, half, segments}
+use Rattle.scene.specs.Conditions.{hasSegments, isRegion, segments}
 use Rattle.sweep.specs.Noted.{Noted}
-use Rattle.checks.proofs.Laws.{SoundObject, SoundScene, across}
-use Rattle.flags.specs.Flags.{outline, hasSegment, onObject, isBound, joins, segShared, segUnshared, segInside, segOutside, poiJoins, boundJoins, boundInside, boundOutside}
-use Rattle.flags.specs.Walk.{edges, found, allFlags}
+use Rattle.checks.proofs.Laws.{SoundScene, across}
+use Rattle.flags.specs.Flags.{hasSegment, onObject, isBound, joins, segShared, segUnshared, segInside, segOutside, poiJoins, boundJoins, boundInside, boundOutside}
+use Rattle.flags.specs.Walk.{found, allFlags}
 use Rattle.flags.proofs.ByElement.{outline-edges}
 use Rattle.meetings.specs.Met.{elementPoint, degree, meetings}
 use Rattle.classes.specs.Classed.{classesOfF, classesOfG}
 use Rattle.gathered.specs.Table.{flagsOfFBy, flagsOfGBy}
 use Rattle.gathered.proofs.Ends.{bound-degree, own-degree, end-elements, on-degree, joins-degree}
-use Rattle.gathered.proofs.Noting.{knows-f, middle-inside, end-noted}
+use Rattle.gathered.proofs.Noting.{knows-f, middle-inside, middle-outside, end-noted}
 use Rattle.gathered.proofs.Sizes.{Size, none, one, many, size-of}
 use Rattle.gathered.proofs.Meeting.{met-0, met-12, met-34, met-56}
 use Rattle.gathered.proofs.Classing.{some-lefts, lefts-on, isShared, with-note, unshared-some, shared-some}
@@ -59,27 +57,18 @@ module _ {s : List ℕ} {sc : Scene} {notes : List ℕ} (o : SoundScene s sc) (n
 
   -- ---- segments
 
-  middle : (i : ℕ) → i < sc .f .count → inside G (midpoint (half s (sc .f) i .segment)) ≡ not (isShared s (sc .f) (sc .g) i) && not (eqb (note i) 0)
-  middle i h = middle-inside (o .f-sound) (o .g-sound) has-f is-g (across o) (knows-f n has-f) i h
-
   inner : segInside F G ≡ classesOfF s sc notes .b2 || classesOfF s sc notes .b3
   inner =
       some-lefts s (sc .f) (λ t. not (hasSegment G t) && inside G (midpoint t))
       ∙ lefts-on s (sc .f) _ (λ i. not (isShared s (sc .f) (sc .g) i) && not (eqb (note i) 0))
-      (λ i h. ap (λ b. not (isShared s (sc .f) (sc .g) i) && b) (middle i h) ∙ and-self-left (not (isShared s (sc .f) (sc .g) i)) (not (eqb (note i) 0)))
+      (λ i h. ap (λ b. not (isShared s (sc .f) (sc .g) i) && b) (middle-inside (o .f-sound) (o .g-sound) has-f is-g (across o) (knows-f n has-f) i h) ∙ and-self-left (not (isShared s (sc .f) (sc .g) i)) (not (eqb (note i) 0)))
       ∙ sym (with-note s (sc .f) (sc .g) (λ i. not (eqb (note i) 0)))
 
   outer : segOutside F G ≡ classesOfF s sc notes .b0 || classesOfF s sc notes .b1
   outer =
       some-lefts s (sc .f) (λ t. not (hasSegment G t) && not (inside G (midpoint t)))
-      ∙ lefts-on s (sc .f) _ (λ i. not (isShared s (sc .f) (sc .g) i) && eqb (note i) 0)
-      (λ i h. ap (λ b. not (isShared s (sc .f) (sc .g) i) && not b) (middle i h) ∙ go (isShared s (sc .f) (sc .g) i) (eqb (note i) 0))
+      ∙ lefts-on s (sc .f) _ (λ i. not (isShared s (sc .f) (sc .g) i) && eqb (note i) 0) (λ i h. middle-outside (o .f-sound) (o .g-sound) has-f is-g (across o) (knows-f n has-f) i h)
       ∙ sym (with-note s (sc .f) (sc .g) (λ i. eqb (note i) 0))
-    where
-      go : (h z : Bool) → not h && not (not h && not z) ≡ not h && z
-      go true z = refl
-      go false true = refl
-      go false false = refl
 
   -- ---- ends
 

@@ -1,12 +1,11 @@
 -- The meetings of two objects, bit by bit: some element of F whose point has such degrees, and such a note.
 use Prim.Native.Nat.{ℕ}
 use mathlib.Core.Path.{_≡_, refl, sym, ap, ap₂, subst, _∙_}
-use mathlib.Core.Logic.{⊎-elim}
 use mathlib.Core.Bool.{Bool, true, false, not, _&&_, _||_, or-assoc, or-false}
 use mathlib.Core.List.{List}
 use lib.Dec.{T, eqb, ltb}
 use lib.ListN.{getD}
-use Rattle.whole.specs.Count.{_∈_, some, count}
+use Rattle.whole.specs.Count.{_∈_, some}
 use Rattle.whole.proofs.Logic.{same-test, some-find, some-make}
 use Rattle.plane.specs.declared.Point.{Point}
 use Rattle.plane.specs.Plane.{samePoint}

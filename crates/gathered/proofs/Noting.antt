@@ -2,20 +2,19 @@
 -- of a point that is no end of the other object's segments, whether it lies on them, or inside.
 use Prim.Native.Nat.{ℕ, _+_, _<_}
 use native.Mathlib.Omega.{arith}
-use mathlib.Core.Path.{_≡_, refl, sym, ap, ap₂, subst, _∙_}
-use mathlib.Core.Logic.{_⊎_, inl, inr, ⊎-elim}
+use mathlib.Core.Path.{_≡_, refl, sym, ap, subst, _∙_}
+use mathlib.Core.Logic.{⊎-elim}
 use mathlib.Core.Bool.{Bool, true, false, not, _&&_, _||_, cond, true≢false}
 use mathlib.Core.List.{List}
 use lib.Dec.{T, T-not, eqb, ltb}
 use lib.ListN.{getD}
 use borrow.Author.Tests.{ltb-false}
-use Rattle.whole.specs.Count.{_∈_, bit, odd, some, count}
+use Rattle.whole.specs.Count.{_∈_, bit, odd, count}
 use Rattle.whole.proofs.Sign.{one-pos}
 use Rattle.whole.proofs.Logic.{and-make, is-true, true-is, is-false, refute}
 use Rattle.whole.proofs.Parity.{odd-count}
-use Rattle.plane.specs.declared.Point.{Point}
 use Rattle.plane.specs.declared.Segment.{Segment}
-use Rattle.plane.specs.Plane.{HPoint, grid, fractions, midpoint, ordered, sameSegment, isEnd, onSome, inside, endsAt, countsBelow, SharePoint, touch}
+use Rattle.plane.specs.Plane.{HPoint, grid, fractions, midpoint, ordered, isEnd, onSome, inside, endsAt, countsBelow, SharePoint, touch}
 use Rattle.plane.proofs.OnSegment.{Ordered, ordered-read, on-along}
 use Rattle.plane.proofs.Scale.{fractions-pos}
 use Rattle.plane.proofs.Touch.{touch-sound}
@@ -90,7 +89,7 @@ module _ {s : List ℕ} {own other : Layout} (is : SoundObject s own) (are : Sou
       T-not (hasSegment (segments s other) (half s own i .segment)) (is-false (hasSegment (segments s other) (half s own i .segment)) none)
       (in-has (segments s other) (half s own i .segment) (subst (λ r. r ∈ segments s other) (sym e) m))
 
-  -- its midpoint is inside where it is none of the region's and its note is not 0
+  -- the midpoint of a segment that is none of the region's is inside where its note is not 0
   middle-noted : hasSegment (segments s other) (half s own i .segment) ≡ false → inside (segments s other) (midpoint (half s own i .segment)) ≡ not (eqb (note i) 0)
   middle-noted none =
       start-inside (half s own i .segment) (ordered-read (half s own i .segment) (all-ordered is (half s own i .segment) own-in)) (segments s other) (regular are region .even) ord clear (differs none)
@@ -103,7 +102,7 @@ module _ {s : List ℕ} {own other : Layout} (is : SoundObject s own) (are : Sou
           untouched (half s own i .segment) u (all-ordered is (half s own i .segment) own-in) (all-ordered are u m)
           (⊎-elim (λ e. absurd (differs none u m e)) (λ a. a) (across (half s own i .segment) u own-in m))
 
-  -- on the region it lies where the segment is one of the region's
+  -- the midpoint lies on the region where the segment is one of the region's
   pub middle-on : onSome (segments s other) (midpoint (half s own i .segment)) ≡ hasSegment (segments s other) (half s own i .segment)
   middle-on =
       clear-of (segments s other) (all-ordered are) (half s own i .segment) (ordered-read (half s own i .segment) (all-ordered is (half s own i .segment) own-in)) (λ u m. across (half s own i .segment) u own-in m)
@@ -111,7 +110,18 @@ module _ {s : List ℕ} {own other : Layout} (is : SoundObject s own) (are : Sou
   pub middle-inside : inside (segments s other) (midpoint (half s own i .segment)) ≡ not (hasSegment (segments s other) (half s own i .segment)) && not (eqb (note i) 0)
   middle-inside = off-or-on (segments s other) (midpoint (half s own i .segment)) (hasSegment (segments s other) (half s own i .segment)) middle-on middle-noted
 
-  -- its point is inside where it is off the region and the note is not 0
+  pub middle-outside : not (hasSegment (segments s other) (half s own i .segment)) && not (inside (segments s other) (midpoint (half s own i .segment)))
+      ≡ not (hasSegment (segments s other) (half s own i .segment)) && eqb (note i) 0
+  middle-outside =
+      ap (λ b. not (hasSegment (segments s other) (half s own i .segment)) && not b) middle-inside
+      ∙ go (hasSegment (segments s other) (half s own i .segment)) (eqb (note i) 0)
+    where
+      go : (x z : Bool) → not x && not (not x && not z) ≡ not x && z
+      go true z = refl
+      go false true = refl
+      go false false = refl
+
+  -- an element's point is inside where it is off the region and the note is not 0
   pub end-noted : inside (segments s other) (grid (elementPoint s own i)) ≡ not (ltb 0 (degree s other (elementPoint s own i))) && not (eqb (note i) 0)
   end-noted = off-or-on (segments s other) (grid (elementPoint s own i)) (ltb 0 (degree s other (elementPoint s own i))) on-end beside
     where

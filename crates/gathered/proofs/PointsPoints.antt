@@ -1,15 +1,14 @@
 -- 1, 1: the flags of two sets of points by the degrees, which are 0 and 1.
 use Prim.Native.Nat.{ℕ}
 use mathlib.Core.Path.{_≡_, sym, ap₂, _∙_}
-use mathlib.Core.Bool.{Bool, true, false, not, _&&_, and-true}
+use mathlib.Core.Bool.{true, false, not, _&&_, and-true}
 use mathlib.Core.List.{List, [], _∷_}
-use lib.Dec.{eqb}
 use Rattle.scene.specs.declared.Shape.the-variants.{Points}
 use Rattle.scene.specs.declared.Scene.{Scene}
 use Rattle.checks.proofs.Laws.{SoundScene}
 use Rattle.flags.specs.Flags.{hasPoint, poiDisjoint, poiShared}
 use Rattle.flags.specs.Walk.{pointsOf, found, allFlags}
-use Rattle.meetings.specs.Met.{elementPoint, degree, meetings}
+use Rattle.meetings.specs.Met.{elementPoint, meetings}
 use Rattle.classes.specs.Classed.{classesOfF, classesOfG}
 use Rattle.gathered.specs.Table.{alone, flagsOfFBy, flagsOfGBy}
 use Rattle.gathered.proofs.Degrees.{point-there, point-absent, own-point, some-points}

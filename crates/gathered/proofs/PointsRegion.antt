@@ -1,7 +1,7 @@
 -- 1, 3: the flags of points and a region by the degrees in the region, and by the notes of points that are none of its ends.
 use Prim.Native.Nat.{ℕ, _<_}
 use mathlib.Core.Path.{_≡_, refl, sym, ap, ap₂, _∙_}
-use mathlib.Core.Bool.{Bool, true, false, not, _&&_, _||_}
+use mathlib.Core.Bool.{Bool, true, not, _&&_, _||_}
 use mathlib.Core.List.{List, [], _∷_}
 use lib.Dec.{eqb, ltb}
 use lib.ListN.{getD}
@@ -13,15 +13,15 @@ use Rattle.scene.specs.declared.Scene.{Scene}
 use Rattle.scene.specs.Conditions.{hasSegments, segments}
 use Rattle.sweep.specs.Noted.{Noted}
 use Rattle.checks.proofs.Laws.{SoundScene}
-use Rattle.flags.specs.Flags.{outline, onObject, poiInside, poiOnOutline, poiOutside}
+use Rattle.flags.specs.Flags.{onObject, poiInside, poiOnOutline, poiOutside}
 use Rattle.flags.specs.Walk.{pointsOf, found, allFlags}
 use Rattle.flags.proofs.ByElement.{outline-edges}
 use Rattle.meetings.specs.Met.{elementPoint, degree, meetings}
-use Rattle.classes.specs.Classed.{classesOfF, classesOfG}
-use Rattle.gathered.specs.Table.{flagsOfFBy, flagsOfGBy}
+use Rattle.classes.specs.Classed.{classesOfF}
+use Rattle.gathered.specs.Table.{flagsOfFBy}
 use Rattle.gathered.proofs.Degrees.{own-point, some-points}
 use Rattle.gathered.proofs.Noting.{point-on, point-inside}
-use Rattle.gathered.proofs.Sizes.{Size, none, one, many, size-of}
+use Rattle.gathered.proofs.Sizes.{Size, none, one, many, size-of, not-above}
 use Rattle.gathered.proofs.Meeting.{met-0, met-1, met-234}
 use Rattle.gathered.proofs.Shapes.{by-shapes}
 
@@ -56,13 +56,8 @@ module _ {s : List ℕ} {sc : Scene} {notes : List ℕ} (o : SoundScene s sc) (n
 
   inner : poiInside (pointsOf s (sc .f)) G ≡ meetings s sc notes .b1
   inner =
-      some-points (o .f-sound) f (λ v. inside G (grid v)) _ (λ i h. in-region i h ∙ ap₂ _&&_ (sym (single i h)) (ap (λ b. b && eqb (note i) 1) (go (size-of (b i)))))
+      some-points (o .f-sound) f (λ v. inside G (grid v)) _ (λ i h. in-region i h ∙ ap₂ _&&_ (sym (single i h)) (ap (λ b. b && eqb (note i) 1) (not-above (size-of (b i)))))
       ∙ sym (met-1 s sc notes)
-    where
-      go : {p z e m : Bool} → Size p z e m → not p ≡ z
-      go none = refl
-      go one = refl
-      go many = refl
 
   on-it : poiOnOutline (pointsOf s (sc .f)) G ≡ meetings s sc notes .b2 || meetings s sc notes .b3 || meetings s sc notes .b4
   on-it =

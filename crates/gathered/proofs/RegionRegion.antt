@@ -1,23 +1,18 @@
 -- 3, 3: the flags of two regions by their classes, and (of F) by the points where both have ends.
-use Prim.Native.Nat.{ℕ, _+_, _<_}
-use mathlib.Core.Path.{_≡_, refl, sym, ap, ap₂, _∙_}
+use Prim.Native.Nat.{ℕ}
+use mathlib.Core.Path.{_≡_, refl, sym, ap, _∙_}
 use mathlib.Core.Bool.{Bool, true, false, not, _&&_, _||_, or-false}
 use mathlib.Core.List.{List, [], _∷_}
-use lib.Dec.{T, eqb, ltb}
-use lib.ListN.{getD}
-use Rattle.whole.specs.Count.{_∈_, some}
-use Rattle.plane.specs.declared.Point.{Point}
+use lib.Dec.{eqb, ltb}
 use Rattle.plane.specs.declared.Segment.{Segment}
-use Rattle.plane.specs.Plane.{grid, midpoint, isEnd, onSome, inside}
+use Rattle.plane.specs.Plane.{midpoint, onSome, inside}
 use Rattle.plane.proofs.Accepted.{Across}
-use Rattle.scene.specs.declared.Shape.{Shape}
 use Rattle.scene.specs.declared.Shape.the-variants.{Region}
 use Rattle.scene.specs.declared.Layout.{Layout}
 use Rattle.scene.specs.declared.Scene.{Scene}
 use Rattle.scene.specs.Conditions.{elements, hasSegments, isRegion, half, ia, isLeft, segments}
 use Rattle.sweep.specs.Noted.{Noted}
 use Rattle.checks.proofs.Laws.{SoundObject, SoundScene, across}
-use Rattle.flags.specs.declared.Found.{Found}
 use Rattle.flags.specs.Flags.{outline, joins, someEnd}
 use Rattle.flags.specs.Walk.{edgeOf, edges, elementsAs, hasEdge, found, given, gather, atEnd, edgeTests, tested, flagsAs, allFlags}
 use Rattle.flags.proofs.ByElement.{outline-edges}
@@ -26,9 +21,9 @@ use Rattle.meetings.specs.Met.{elementPoint, degree, meetings}
 use Rattle.classes.specs.Classed.{classesOfF, classesOfG}
 use Rattle.gathered.specs.Table.{flagsOfFBy, flagsOfGBy}
 use Rattle.gathered.proofs.Ends.{own-degree, end-elements, joins-degree}
-use Rattle.gathered.proofs.Noting.{Knows, knows-f, knows-g}
+use Rattle.gathered.proofs.Noting.{Knows, knows-f, knows-g, middle-on, middle-inside, middle-outside}
 use Rattle.gathered.proofs.Meeting.{met-3456}
-use Rattle.gathered.proofs.Classing.{some-lefts, lefts, lefts-on, lefts-never, isShared, inside-class, outside-class}
+use Rattle.gathered.proofs.Classing.{some-lefts, lefts, lefts-on, lefts-never, isShared}
 
 -- the flags of a region beside another, by its edges
 region-flags : (isF : Bool) (s : List ℕ) (own other : Layout) → own .shape ≡ Region → other .shape ≡ Region
@@ -43,12 +38,18 @@ module _ {s : List ℕ} {own other : Layout} (is : SoundObject s own) (are : Sou
   outer : (side : ℕ → Bool)
       → lefts s own (λ i. side i && (not (onSome (outline (edges s other)) (midpoint (half s own i .segment))) && not (inside (outline (edges s other)) (midpoint (half s own i .segment)))))
       ≡ lefts s own (λ i. side i && (not (isShared s own other i) && eqb (note i) 0))
-  outer side = lefts-on s own _ (λ i. side i && (not (isShared s own other i) && eqb (note i) 0)) (λ i h. ap (λ b. side i && b) (outside-class is are has region apart knows i h))
+  outer side =
+      lefts-on s own _ (λ i. side i && (not (isShared s own other i) && eqb (note i) 0))
+      (λ i h. ap (λ b. side i && b)
+      (ap (λ l. not (onSome l (midpoint (half s own i .segment))) && not (inside l (midpoint (half s own i .segment)))) (outline-edges s other)
+      ∙ ap (λ b. not b && not (inside (segments s other) (midpoint (half s own i .segment)))) (middle-on is are has region apart knows i h) ∙ middle-outside is are has region apart knows i h))
 
   inner : (side : ℕ → Bool)
       → lefts s own (λ i. side i && inside (outline (edges s other)) (midpoint (half s own i .segment)))
       ≡ lefts s own (λ i. side i && (not (isShared s own other i) && not (eqb (note i) 0)))
-  inner side = lefts-on s own _ (λ i. side i && (not (isShared s own other i) && not (eqb (note i) 0))) (λ i h. ap (λ b. side i && b) (inside-class is are has region apart knows i h))
+  inner side =
+      lefts-on s own _ (λ i. side i && (not (isShared s own other i) && not (eqb (note i) 0)))
+      (λ i h. ap (λ b. side i && b) (ap (λ l. inside l (midpoint (half s own i .segment))) (outline-edges s other) ∙ middle-inside is are has region apart knows i h))
 
 module _ {s : List ℕ} {sc : Scene} {notes : List ℕ} (o : SoundScene s sc) (n : Noted s sc notes) (f : sc .f .shape ≡ Region) (g : sc .g .shape ≡ Region) where
   has-f : hasSegments (sc .f .shape) ≡ true
