@@ -1,0 +1,110 @@
+-- 2, 2: the flags of two lines by their shared and unshared segments, and by the degrees at their ends.
+use Prim.Native.Nat.{ℕ, _+_}
+use mathlib.Core.Path.{_≡_, refl, sym, ap, ap₂, _∙_}
+use mathlib.Core.Bool.{Bool, true, false, not, _&&_, and-comm, false≢true}
+use mathlib.Core.List.{List, [], _∷_}
+use lib.Dec.{T, eqb, ltb}
+use lib.ListN.{getD}
+use Rattle.whole.specs.Count.{some}
+use Rattle.plane.proofs.Accepted.{Across}
+use Rattle.scene.specs.declared.Shape.the-variants.{Line}
+use Rattle.scene.specs.declared.Layout.{Layout}
+use Rattle.scene.specs.declared.Scene.{Scene}
+use Rattle.scene.specs.Conditions.{elements, hasSegments, segments}
+use Rattle.checks.proofs.Laws.{SoundObject, SoundScene, across}
+use Rattle.flags.specs.Flags.{onObject, hasEnd, isBound, interiorPoiShared, boundOnInterior, boundShared, boundDisjoint}
+use Rattle.flags.specs.Walk.{found, allFlags}
+use Rattle.flags.proofs.ByElement.{some-same}
+use Rattle.matrix.proofs.Common.{across-swap}
+use Rattle.meetings.specs.Met.{elementPoint, degree, meetings}
+use Rattle.classes.specs.Classed.{classesOfF, classesOfG}
+use Rattle.gathered.specs.Table.{flagsOfFBy, flagsOfGBy}
+use Rattle.gathered.proofs.Ends.{bound-degree, end-degree, own-degree, end-elements, on-degree}
+use Rattle.gathered.proofs.Sizes.{Size, none, one, many, size-of, not-above}
+use Rattle.gathered.proofs.Meeting.{at-either, met-3, met-4, met-5, met-6, met-7, met-alone}
+use Rattle.gathered.proofs.Classing.{unshared-some, shared-some}
+use Rattle.gathered.proofs.Shapes.{by-shapes}
+
+-- ---- a line beside another, by the ends of its own
+
+module _ {s : List ℕ} {own other : Layout} (is : SoundObject s own) (are : SoundObject s other) (has : hasSegments (own .shape) ≡ true) (have : hasSegments (other .shape) ≡ true)
+    (apart : Across (segments s own) (segments s other)) where
+  on-interior : boundOnInterior (segments s own) (segments s other) ≡ some (λ i. eqb (degree s own (elementPoint s own i)) 1 && ltb 1 (degree s other (elementPoint s own i))) (elements own)
+  on-interior =
+      end-elements is has (λ t v. isBound (segments s own) v && onObject (segments s other) v && not (isBound (segments s other) v)) (λ i. eqb (degree s own (elementPoint s own i)) 1 && ltb 1 (degree s other (elementPoint s own i)))
+      (λ i h t m e. rw (bound-degree is has (elementPoint s own i), on-degree is are have apart (elementPoint s own i) t m e, bound-degree are have (elementPoint s own i)) (go (eqb (degree s own (elementPoint s own i)) 1) (size-of (degree s other (elementPoint s own i)))))
+    where
+      go : (x : Bool) {p z e m : Bool} → Size p z e m → x && p && not e ≡ x && m
+      go true none = refl
+      go true one = refl
+      go true many = refl
+      go false n = refl
+
+  disjoint : boundDisjoint (segments s own) (segments s other) ≡ some (λ i. eqb (degree s own (elementPoint s own i)) 1 && eqb (degree s other (elementPoint s own i)) 0) (elements own)
+  disjoint =
+      end-elements is has (λ t v. isBound (segments s own) v && not (onObject (segments s other) v)) (λ i. eqb (degree s own (elementPoint s own i)) 1 && eqb (degree s other (elementPoint s own i)) 0)
+      (λ i h t m e. rw (bound-degree is has (elementPoint s own i), on-degree is are have apart (elementPoint s own i) t m e) (ap (λ b. eqb (degree s own (elementPoint s own i)) 1 && b) (not-above (size-of (degree s other (elementPoint s own i))))))
+
+-- ---- the flags
+
+module _ {s : List ℕ} {sc : Scene} (notes : List ℕ) (o : SoundScene s sc) (f : sc .f .shape ≡ Line) (g : sc .g .shape ≡ Line) where
+  has-f : hasSegments (sc .f .shape) ≡ true
+  has-f = ap hasSegments f
+
+  has-g : hasSegments (sc .g .shape) ≡ true
+  has-g = ap hasSegments g
+
+  interior : interiorPoiShared (segments s (sc .f)) (segments s (sc .g)) ≡ meetings s sc notes .b6
+  interior =
+      end-elements (o .f-sound) has-f (λ t v. hasEnd (segments s (sc .g)) v && not (isBound (segments s (sc .f)) v) && not (isBound (segments s (sc .g)) v)) (λ i. ltb 1 (degree s (sc .f) (elementPoint s (sc .f) i)) && ltb 1 (degree s (sc .g) (elementPoint s (sc .f) i)))
+      (λ i h t m e. rw (end-degree (o .g-sound) has-g (elementPoint s (sc .f) i), bound-degree (o .f-sound) has-f (elementPoint s (sc .f) i), bound-degree (o .g-sound) has-g (elementPoint s (sc .f) i)) (go (size-of (degree s (sc .f) (elementPoint s (sc .f) i))) (size-of (degree s (sc .g) (elementPoint s (sc .f) i))) (own-degree (o .f-sound) has-f (elementPoint s (sc .f) i) t m e)))
+      ∙ sym (met-6 s sc notes)
+    where
+      go : {p z e m q y d n : Bool} → Size p z e m → Size q y d n → p ≡ true → q && not e && not d ≡ m && n
+      go none b h = absurd (false≢true h)
+      go one none h = refl
+      go one one h = refl
+      go one many h = refl
+      go many none h = refl
+      go many one h = refl
+      go many many h = refl
+
+  both-bound : boundShared (segments s (sc .f)) (segments s (sc .g)) ≡ meetings s sc notes .b3
+  both-bound =
+      end-elements (o .f-sound) has-f (λ t v. isBound (segments s (sc .f)) v && isBound (segments s (sc .g)) v) (λ i. eqb (degree s (sc .f) (elementPoint s (sc .f) i)) 1 && eqb (degree s (sc .g) (elementPoint s (sc .f) i)) 1)
+      (λ i h t m e. ap₂ _&&_ (bound-degree (o .f-sound) has-f (elementPoint s (sc .f) i)) (bound-degree (o .g-sound) has-g (elementPoint s (sc .f) i)))
+      ∙ sym (met-3 s sc notes)
+
+  pub line-line-f : allFlags true s (sc .f) (sc .g) ≡ flagsOfFBy Line Line (meetings s sc notes) (classesOfF s sc notes)
+  line-line-f =
+      let on = on-interior (o .f-sound) (o .g-sound) has-f has-g (across o) ∙ sym (met-4 s sc notes) in
+      let off = disjoint (o .f-sound) (o .g-sound) has-f has-g (across o) ∙ sym (met-alone s sc notes) in
+      let shared = shared-some s (sc .f) (sc .g) (λ i. getD notes i 0) in
+      let unshared = unshared-some s (sc .f) (sc .g) (λ i. getD notes i 0) in
+      by-shapes true s (sc .f) (sc .g) f g ∙ (λ j. found (sym shared j ∷ interior j ∷ sym unshared j ∷ on j ∷ both-bound j ∷ off j ∷ []))
+
+  -- an end of G's boundary in F's interior is the point of an element of F, too
+  pub line-line-g : allFlags false s (sc .g) (sc .f) ≡ flagsOfGBy Line Line (meetings s sc notes) (classesOfG s sc notes)
+  line-line-g =
+      let unshared = unshared-some s (sc .g) (sc .f) (λ j. getD notes (1024 + j) 0) in
+      by-shapes false s (sc .g) (sc .f) g f ∙ (λ j. found (sym unshared j ∷ on j ∷ off j ∷ []))
+    where
+      go : {p z e m q y d n : Bool} → Size p z e m → Size q y d n → T (m && d) → T p × T q
+      go none b t = absurd t
+      go one b t = absurd t
+      go many none t = absurd t
+      go many one t = (tt, tt)
+      go many many t = absurd t
+
+      on : boundOnInterior (segments s (sc .g)) (segments s (sc .f)) ≡ meetings s sc notes .b5
+      on =
+          on-interior (o .g-sound) (o .f-sound) has-g has-f (across-swap (across o))
+          ∙ some-same _ _ (λ j. and-comm (eqb (degree s (sc .g) (elementPoint s (sc .g) j)) 1) (ltb 1 (degree s (sc .f) (elementPoint s (sc .g) j)))) (elements (sc .g))
+          ∙ sym (at-either s (sc .f) (sc .g) (λ v. ltb 1 (degree s (sc .f) v) && eqb (degree s (sc .g) v) 1) (λ v t. go (size-of (degree s (sc .f) v)) (size-of (degree s (sc .g) v)) t))
+          ∙ sym (met-5 s sc notes)
+
+      off : boundDisjoint (segments s (sc .g)) (segments s (sc .f)) ≡ meetings s sc notes .b7
+      off =
+          disjoint (o .g-sound) (o .f-sound) has-g has-f (across-swap (across o))
+          ∙ some-same _ _ (λ j. and-comm (eqb (degree s (sc .g) (elementPoint s (sc .g) j)) 1) (eqb (degree s (sc .f) (elementPoint s (sc .g) j)) 0)) (elements (sc .g))
+          ∙ sym (met-7 s sc notes)

@@ -1,0 +1,92 @@
+-- 1, 2: the flags of points and a line by the degrees in the line, and by the notes of points that are none of its ends.
+use Prim.Native.Nat.{ℕ, _<_}
+use mathlib.Core.Path.{_≡_, refl, sym, ap, ap₂, _∙_}
+use mathlib.Core.Bool.{Bool, true, false, not, _&&_, _||_, and-comm}
+use mathlib.Core.List.{List, [], _∷_}
+use lib.Dec.{eqb, ltb}
+use lib.ListN.{getD}
+use Rattle.plane.specs.declared.Point.{Point}
+use Rattle.plane.specs.declared.Segment.{Segment}
+use Rattle.scene.specs.declared.Shape.the-variants.{Points, Line}
+use Rattle.scene.specs.declared.Scene.{Scene}
+use Rattle.scene.specs.Conditions.{hasSegments, segments}
+use Rattle.sweep.specs.Noted.{Noted}
+use Rattle.checks.proofs.Laws.{SoundScene}
+use Rattle.flags.specs.Flags.{hasPoint, onObject, isBound, poiOff, poiOnInterior, poiOnBound, boundPoiDisjoint}
+use Rattle.flags.specs.Walk.{pointsOf, found, allFlags}
+use Rattle.meetings.specs.Met.{elementPoint, degree, meetings}
+use Rattle.classes.specs.Classed.{classesOfF, classesOfG}
+use Rattle.gathered.specs.Table.{flagsOfFBy, flagsOfGBy}
+use Rattle.gathered.proofs.Degrees.{point-absent, own-point, some-points}
+use Rattle.gathered.proofs.Ends.{bound-degree, end-elements}
+use Rattle.gathered.proofs.Noting.{point-on}
+use Rattle.gathered.proofs.Sizes.{Size, none, one, many, size-of}
+use Rattle.gathered.proofs.Meeting.{met-01, met-24, met-3, met-7}
+use Rattle.gathered.proofs.Shapes.{by-shapes}
+
+module _ {s : List ℕ} {sc : Scene} {notes : List ℕ} (o : SoundScene s sc) (n : Noted s sc notes) (f : sc .f .shape ≡ Points) (g : sc .g .shape ≡ Line) where
+  abbrev G : List Segment
+  G = segments s (sc .g)
+
+  -- a point of F, its degrees in F and in G, and its note
+  abbrev p : ℕ → Point
+  p i = elementPoint s (sc .f) i
+
+  abbrev a : ℕ → ℕ
+  a i = degree s (sc .f) (p i)
+
+  abbrev b : ℕ → ℕ
+  b i = degree s (sc .g) (p i)
+
+  abbrev note : ℕ → ℕ
+  note i = getD notes i 0
+
+  has-g : hasSegments (sc .g .shape) ≡ true
+  has-g = ap hasSegments g
+
+  single : (i : ℕ) → i < sc .f .count → eqb (a i) 1 ≡ true
+  single i h = own-point (o .f-sound) f i h
+
+  on-line : (i : ℕ) → i < sc .f .count → onObject G (p i) ≡ ltb 0 (b i) || ltb 1 (note i)
+  on-line i h = point-on n f (o .g-sound) has-g i h
+
+  bound : (v : Point) → isBound G v ≡ eqb (degree s (sc .g) v) 1
+  bound v = bound-degree (o .g-sound) has-g v
+
+  off : poiOff (pointsOf s (sc .f)) G ≡ meetings s sc notes .b0 || meetings s sc notes .b1
+  off =
+      some-points (o .f-sound) f (λ v. not (onObject G v)) _ (λ i h. rw (on-line i h, single i h) (go (size-of (b i)) (ltb 1 (note i))))
+      ∙ sym (met-01 s sc notes)
+    where
+      go : {p z e m : Bool} → Size p z e m → (x : Bool) → not (p || x) ≡ z && not x
+      go none x = refl
+      go one x = refl
+      go many x = refl
+
+  on-interior : poiOnInterior (pointsOf s (sc .f)) G ≡ meetings s sc notes .b2 || meetings s sc notes .b4
+  on-interior =
+      some-points (o .f-sound) f (λ v. onObject G v && not (isBound G v)) _ (λ i h. rw (on-line i h, bound (p i), single i h) (go (size-of (b i)) (ltb 1 (note i))))
+      ∙ sym (met-24 s sc notes)
+    where
+      go : {p z e m : Bool} → Size p z e m → (x : Bool) → (p || x) && not e ≡ z && x || m
+      go none true = refl
+      go none false = refl
+      go one x = refl
+      go many x = refl
+
+  on-bound : poiOnBound (pointsOf s (sc .f)) G ≡ meetings s sc notes .b3
+  on-bound =
+      some-points (o .f-sound) f (isBound G) _ (λ i h. ap₂ _&&_ (sym (single i h)) (bound (p i)))
+      ∙ sym (met-3 s sc notes)
+
+  pub points-line-f : allFlags true s (sc .f) (sc .g) ≡ flagsOfFBy Points Line (meetings s sc notes) (classesOfF s sc notes)
+  points-line-f = by-shapes true s (sc .f) (sc .g) f g ∙ (λ j. found (off j ∷ on-interior j ∷ on-bound j ∷ []))
+
+  pub points-line-g : allFlags false s (sc .g) (sc .f) ≡ flagsOfGBy Points Line (meetings s sc notes) (classesOfG s sc notes)
+  points-line-g = by-shapes false s (sc .g) (sc .f) g f ∙ (λ j. found (bare j ∷ []))
+    where
+      bare : boundPoiDisjoint (pointsOf s (sc .f)) G ≡ meetings s sc notes .b7
+      bare =
+          end-elements (o .g-sound) has-g (λ t v. isBound G v && not (hasPoint (pointsOf s (sc .f)) v)) _
+          (λ j h t m e. ap₂ _&&_ (bound (elementPoint s (sc .g) j)) (point-absent (o .f-sound) f (elementPoint s (sc .g) j)) ∙ and-comm (eqb (degree s (sc .g) (elementPoint s (sc .g) j)) 1) (eqb (degree s (sc .f) (elementPoint s (sc .g) j)) 0))
+          ∙ sym (met-7 s sc notes)

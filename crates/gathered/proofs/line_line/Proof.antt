@@ -1,0 +1,19 @@
+-- `gathered::line_line` meets its contract.
+use borrow.Author.Needs.{needs}
+use Rattle.gathered.proofs.line_line.Statement.{statement}
+use Rattle.gathered.proofs.line_line.Tie as tie
+
+shared-requires : tie.Need-shared-requires
+shared-requires c κs = search needs
+
+unshared-requires : tie.Need-unshared-requires
+unshared-requires c κs = search needs
+
+alone-requires : tie.Need-alone-requires
+alone-requires c κs = search needs
+
+returns : tie.Need-returns
+returns c = cc
+
+pub line-line-spec : {M : Type 1} → statement M
+line-line-spec = tie.close (tie.spec shared-requires unshared-requires alone-requires returns)

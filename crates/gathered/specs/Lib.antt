@@ -1,0 +1,2 @@
+-- The flags by meetings and classes.
+pub mod Table
