@@ -9,7 +9,6 @@ use mathlib.Core.List.{List}
 use lib.Dec.{T, T-not, ltb}
 use borrow.Author.Tests.{ltb-true, ltb-false}
 use Rattle.plane.specs.declared.Halfsegment.{Halfsegment}
-use Rattle.plane.specs.declared.Point.{Point}
 use Rattle.plane.specs.Plane.{inRange, segmentInRange, before, choose, dominating}
 use Rattle.plane.proofs.Machine.{left-in-range, right-in-range}
 use Rattle.plane.proofs.Order.{before-irreflexive, before-trans}

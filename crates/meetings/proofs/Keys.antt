@@ -1,8 +1,7 @@
 -- The key of a point: in the order of points, one for each point in range, and below the top.
 use Prim.Native.Nat.{ℕ, suc, _+_, _*_, _-_, _<_, _≤_}
 use native.Mathlib.Omega.{arith}
-use mathlib.Core.Path.{_≡_, refl, sym, ap, ap₂, _∙_}
-use mathlib.Core.Logic.{⊎-elim}
+use mathlib.Core.Path.{_≡_, refl, ap}
 use mathlib.Core.Bool.{Bool, true, false, _&&_, _||_}
 use lib.Dec.{T, ltb, eqb, lt→ltb}
 use lib.IntN.{ℤ, pos, negsuc, natAbs, _+ℤ_}

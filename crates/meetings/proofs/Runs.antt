@@ -117,19 +117,12 @@ gather-parts f i j n h k =
     ∙ same-bits (λ k. some (λ a. flag k (bits (f a))) (between i j ++ between j n)) (λ k. some (λ a. flag k (bits (f a))) (between i j) || some (λ a. flag k (bits (f a))) (between j n))
     (λ k _. some-append (λ a. flag k (bits (f a))) (between i j) (between j n))
 
-pub gather-none : (f : ℕ → Found) (i : ℕ) → gather f (between i i) ≡ nothing
-gather-none f i = ap (gather f) (between-none i i (omega arith))
-
-pub gather-one : (f : ℕ → Found) (i : ℕ) → gather f (between i (i + 1)) ≡ f i
-gather-one f i = ap (gather f) (between-next i (i + 1) (omega arith) ∙ ap (λ l. i ∷ l) (between-none (i + 1) (i + 1) (omega arith))) ∙ either-nothing (f i)
-
 either-itself : (a : Found) → either a a ≡ a
 either-itself a = λ i. bitwise (λ k. or-self (flag k (bits a)) i)
 
--- all alike
-pub gather-alike : (f : ℕ → Found) (x : Found) (i j : ℕ) → i < j → ((m : ℕ) → i ≤ m → m < j → f m ≡ x) → gather f (between i j) ≡ x
-gather-alike f x i j h e =
-    ap (gather f) (between-next i j h) ∙ ap (λ y. either y (gather f (between (i + 1) j))) (e i (omega arith) h) ∙ go (j - (i + 1)) (i + 1) (λ m a b. e m (omega arith) (omega arith))
+-- where all are alike
+pub gather-run : (f : ℕ → Found) (x : Found) (i j : ℕ) → i ≤ j → (i ≡ j → nothing ≡ x) → ((m : ℕ) → i ≤ m → m < j → f m ≡ x) → gather f (between i j) ≡ x
+gather-run f x i j h none e = ⊎-elim (λ q. ap (gather f) (between-none i j (omega arith)) ∙ none q) some-there (eq-or-lt-of-le h)
   where
     go : (n k : ℕ) → ((m : ℕ) → k ≤ m → m < k + n → f m ≡ x) → either x (gather f (indices n k)) ≡ x
     go zero k h = either-nothing x
@@ -138,3 +131,9 @@ gather-alike f x i j h e =
         ∙ sym (either-assoc x x (gather f (indices n (suc k))))
         ∙ ap (λ y. either y (gather f (indices n (suc k)))) (either-itself x)
         ∙ go n (suc k) (λ m a b. h m (omega arith) (omega arith))
+
+    some-there : i < j → gather f (between i j) ≡ x
+    some-there l =
+        ap (gather f) (between-next i j l)
+        ∙ ap (λ y. either y (gather f (between (i + 1) j))) (e i (omega arith) l)
+        ∙ go (j - (i + 1)) (i + 1) (λ m a b. e m (omega arith) (omega arith))

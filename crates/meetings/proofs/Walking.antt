@@ -29,7 +29,7 @@ use Rattle.flags.proofs.Gathered.{either-nothing}
 use Rattle.meetings.specs.Met.{elementPoint, degree, metByF, metByG, meetingOfF, meetingOfG, meetings}
 use Rattle.meetings.specs.Keyed.{key, top, Passed, keys, nextKey, marked, met}
 use Rattle.meetings.proofs.Keys.{same-key}
-use Rattle.meetings.proofs.Runs.{InOrder, next-in, run-same, run-next, run-count, gather-parts, gather-none, gather-alike}
+use Rattle.meetings.proofs.Runs.{InOrder, next-in, run-same, run-next, run-count, gather-parts, gather-run}
 use Rattle.meetings.proofs.Elements.{point-in-range, in-order}
 
 -- ---- flags
@@ -156,39 +156,30 @@ module _ (s : List ℕ) (sc : Scene) (notes : List ℕ) where
       degree-g v h = run-degree s (sc .g) is-g order-g low least-g few-g q (w .g-passed) v (h .0) (h .1)
 
       by-f : gather (meetingOfF s sc notes) (between i i′) ≡ metByF (i′ - i) (j′ - j) (getD notes i 0)
-      by-f = ⊎-elim empty run (eq-or-lt-of-le (p .on))
+      by-f = gather-run (meetingOfF s sc notes) (metByF (i′ - i) (j′ - j) (getD notes i 0)) i i′ (p .on) (λ e. ap (λ a. metByF a (j′ - j) (getD notes i 0)) (none e)) one
         where
-          empty : i ≡ i′ → gather (meetingOfF s sc notes) (between i i′) ≡ metByF (i′ - i) (j′ - j) (getD notes i 0)
-          empty e = ap (λ m. gather (meetingOfF s sc notes) (between i m)) (sym e) ∙ gather-none (meetingOfF s sc notes) i ∙ ap (λ a. metByF a (j′ - j) (getD notes i 0)) none
-            where
-              none : 0 ≡ i′ - i
-              none = omega arith
+          none : i ≡ i′ → 0 ≡ i′ - i
+          none e = omega arith
 
-          run : i < i′ → gather (meetingOfF s sc notes) (between i i′) ≡ metByF (i′ - i) (j′ - j) (getD notes i 0)
-          run h = gather-alike (meetingOfF s sc notes) (metByF (i′ - i) (j′ - j) (getD notes i 0)) i i′ h one
-            where
-              one : (m : ℕ) → i ≤ m → m < i′ → meetingOfF s sc notes m ≡ metByF (i′ - i) (j′ - j) (getD notes i 0)
-              one m a b =
-                  let v = in-run s (sc .f) is-f order-f low least-f few-f p (w .f-passed) m a b in
-                  ap₂ (λ a b. metByF a b (getD notes m 0)) (degree-f (elementPoint s (sc .f) m) v) (degree-g (elementPoint s (sc .f) m) v)
-                  ∙ note-of-one (i′ - i) (j′ - j) (getD notes m 0) (getD notes i 0) (λ e. ap (λ n. getD notes n 0) (first m a b e))
-                where
-                  first : (m : ℕ) → i ≤ m → m < i′ → i′ - i ≡ 1 → m ≡ i
-                  first m a b e = omega arith
+          first : (m : ℕ) → i ≤ m → m < i′ → i′ - i ≡ 1 → m ≡ i
+          first m a b e = omega arith
+
+          one : (m : ℕ) → i ≤ m → m < i′ → meetingOfF s sc notes m ≡ metByF (i′ - i) (j′ - j) (getD notes i 0)
+          one m a b =
+              let v = in-run s (sc .f) is-f order-f low least-f few-f p (w .f-passed) m a b in
+              ap₂ (λ a b. metByF a b (getD notes m 0)) (degree-f (elementPoint s (sc .f) m) v) (degree-g (elementPoint s (sc .f) m) v)
+              ∙ note-of-one (i′ - i) (j′ - j) (getD notes m 0) (getD notes i 0) (λ e. ap (λ n. getD notes n 0) (first m a b e))
 
       by-g : gather (meetingOfG s sc) (between j j′) ≡ metByG (i′ - i) (j′ - j)
-      by-g = ⊎-elim empty run (eq-or-lt-of-le (q .on))
+      by-g = gather-run (meetingOfG s sc) (metByG (i′ - i) (j′ - j)) j j′ (q .on) (λ e. sym (none-by-g (i′ - i)) ∙ ap (metByG (i′ - i)) (none e)) one
         where
-          empty : j ≡ j′ → gather (meetingOfG s sc) (between j j′) ≡ metByG (i′ - i) (j′ - j)
-          empty e = ap (λ m. gather (meetingOfG s sc) (between j m)) (sym e) ∙ gather-none (meetingOfG s sc) j ∙ sym (none-by-g (i′ - i)) ∙ ap (metByG (i′ - i)) none
-            where
-              none : 0 ≡ j′ - j
-              none = omega arith
+          none : j ≡ j′ → 0 ≡ j′ - j
+          none e = omega arith
 
-          run : j < j′ → gather (meetingOfG s sc) (between j j′) ≡ metByG (i′ - i) (j′ - j)
-          run h =
-              gather-alike (meetingOfG s sc) (metByG (i′ - i) (j′ - j)) j j′ h
-              (λ m a b. let v = in-run s (sc .g) is-g order-g low least-g few-g q (w .g-passed) m a b in ap₂ metByG (degree-f (elementPoint s (sc .g) m) v) (degree-g (elementPoint s (sc .g) m) v))
+          one : (m : ℕ) → j ≤ m → m < j′ → meetingOfG s sc m ≡ metByG (i′ - i) (j′ - j)
+          one m a b =
+              let v = in-run s (sc .g) is-g order-g low least-g few-g q (w .g-passed) m a b in
+              ap₂ metByG (degree-f (elementPoint s (sc .g) m) v) (degree-g (elementPoint s (sc .g) m) v)
 
       pub further : i + j < i′ + j′
       further = go (ltb (nextKey s (sc .g) j) (nextKey s (sc .f) i)) refl

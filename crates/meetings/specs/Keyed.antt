@@ -24,10 +24,11 @@ abbrev pub raised : ℤ → ℕ
 raised (pos n) = limit + n
 raised (negsuc n) = limit - suc n
 
+-- x first, then y, which is below 2 ^ 21
 unfoldable pub key : Point → ℕ
 key p = 2097152 * raised (p .x) + raised (p .y)
 
--- above the key of every point in range
+-- 2 ^ 42, above the key of every point in range
 abbrev pub top : ℕ
 top = 4398046511104
 

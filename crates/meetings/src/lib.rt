@@ -1,4 +1,5 @@
-// Where elements of two objects meet: one walk over the points of both, in their order.
+// Where elements of two objects meet: one walk over the points of both, in their order. A point is held as one number, its key, so that a comparison is
+// one test and the end of an object needs none.
 use flags::Found;
 use flags::collected;
 use plane::Point;
@@ -8,7 +9,7 @@ use scene::Shape;
 use scene::bytes;
 use scene::records;
 ghost use mathlib.Core.Path.{_≡_};
-ghost use Prim.Native.Nat.{ℕ, _+_, _*_, _<_, _≤_, min};
+ghost use Prim.Native.Nat.{_+_, _*_, _<_, _≤_, min};
 ghost use lib.Dec.{T};
 ghost use lib.IntN.{natAbs};
 ghost use lib.ListN.{length};
@@ -26,9 +27,10 @@ pub struct Cursor {
     pub key: u64,
 }
 
-// Past the last element: above the key of every point.
+// The key past the last element, above that of every point.
 const TOP: u64 = 4398046511104;
 
+// A coordinate, counted from the least.
 fn raised(v: i32) -> u64
     requires { ⌜ natAbs v ≤ limit ⌝ }
     ensures { λ r. ⌜ (r ≡ raised v) × (r ≤ 2 * limit) ⌝ }
@@ -36,7 +38,7 @@ fn raised(v: i32) -> u64
     (v as i64 + plane::LIMIT as i64) as u64
 }
 
-// A point as one number.
+// The key of a point: by x, then y, as points are ordered.
 fn key(p: Point) -> u64
     requires { ⌜ T (inRange p) ⌝ }
     ensures { λ r. ⌜ r ≡ key p ⌝ }
@@ -78,6 +80,7 @@ fn key_of(s: &[u8], l: Layout, i: usize, at: usize) -> u64
     }
 }
 
+// At the first element.
 fn first(s: &[u8], l: Layout) -> Cursor
     requires { ⌜ IsObject (now s) l ⌝ }
     ensures { λ r. ⌜ Reached (now (s .entry)) l r × (r .index ≡ 0) ⌝ }
@@ -90,7 +93,7 @@ fn first(s: &[u8], l: Layout) -> Cursor
     }
 }
 
-// Past the elements that have a key.
+// From the element of a cursor past those that have the key k; records stand a step apart.
 fn pass(s: &[u8], l: Layout, step: usize, c: Cursor, k: u64) -> Cursor
     requires { ⌜ IsObject (now s) l × (step ≡ size (l .shape)) × Reached (now s) l c × (k < top) ⌝ }
     ensures { λ r. ⌜ Reached (now (s .entry)) l r × Passed (l .count) (keys (now (s .entry)) l) k (c .index) (r .index) ⌝ }

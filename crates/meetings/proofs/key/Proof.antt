@@ -1,6 +1,6 @@
 -- `meetings::key` meets its contract, by the definition.
-use mathlib.Core.Path.{_≡_, ap, ap₂, _∙_}
 use Prim.Native.Nat.{_+_, _*_}
+use mathlib.Core.Path.{ap, ap₂, _∙_}
 use borrow.Author.Needs.{needs}
 use mir.Facts.{toZ-ofZ}
 use Rattle.plane.specs.Plane.{limit}

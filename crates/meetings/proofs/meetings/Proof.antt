@@ -3,7 +3,6 @@
 use Prim.Native.Nat.{ℕ, _+_, _-_, _<_, _≤_, min}
 use native.Mathlib.Omega.{arith}
 use mathlib.Core.Path.{_≡_, sym, ap, ap₂, subst, _∙_}
-use borrow.Author.Needs.{needs}
 use lib.ListN.{getD}
 use Rattle.whole.specs.Count.{odd}
 use Rattle.scene.proofs.Taken.{taken-object}
