@@ -1,13 +1,13 @@
--- The bits of a number: of a packed list, of a number halved, of two numbers' "and", of a number of ones.
-use Prim.Native.Nat.{ℕ, zero, suc, _+_, _-_, _*_, _/_, _%_, _^_, _<_, min}
+-- The bits of a number: of a packed list, of a number halved, of two numbers' "and" and "or", of a number of ones.
+use Prim.Native.Nat.{ℕ, zero, suc, _+_, _-_, _*_, _/_, _%_, _^_, _<_, min, max}
 use native.Mathlib.Nat.{pow-suc, zero-div, div-one, zero-add, suc-add, div-add-mod'}
 use native.Mathlib.Omega.{arith}
 use mathlib.Core.Path.{_≡_, refl, sym, ap, ap₂, _∙_, subst}
 use mathlib.Core.Logic.{⊎-elim}
-use mathlib.Core.Bool.{Bool, true, false, not, _&&_}
+use mathlib.Core.Bool.{Bool, true, false, not, _&&_, _||_}
 use mathlib.Core.List.{List, [], _∷_}
 use lib.Arith.{bin-ind}
-use lib.Bits.{bitAnd, and-step, and-shr}
+use lib.Bits.{bitAnd, bitOr, and-step, or-step, and-shr, or-shr}
 use lib.Dec.{T, T-not, eqb, ltb, leb·zero, leb·suc-zero, leb·suc-suc}
 use lib.ListN.{length, getD}
 use lib.Pow.{pow-pos, shr-shr}
@@ -55,16 +55,31 @@ pack-lt (b ∷ l) = omega (arith, pack-lt l, pow-suc 2 (length l), bit-small b)
     bit-small true = omega arith
     bit-small false = omega arith
 
--- ---- "and"
+-- ---- "and" and "or"
+
+last-digit : (v n d : ℕ) → v ≡ n * 2 + d → d < 2 → v % 2 ≡ d
+last-digit v n d e h = omega arith
 
 odd-and : (x y : ℕ) → odd (bitAnd x y) ≡ odd x && odd y
 unfolding odd
-odd-and x y = ap (λ m. eqb m 1) (last (bitAnd (x / 2) (y / 2)) (and-step x y)) ∙ digit (x % 2) (y % 2) (omega arith) (omega arith)
+odd-and x y =
+    ap (λ m. eqb m 1) (last-digit (bitAnd x y) (bitAnd (x / 2) (y / 2)) (min (x % 2) (y % 2)) (and-step x y) (omega arith)) ∙ digit (x % 2) (y % 2) (omega arith) (omega arith)
   where
-    last : (n : ℕ) → bitAnd x y ≡ n * 2 + min (x % 2) (y % 2) → bitAnd x y % 2 ≡ min (x % 2) (y % 2)
-    last n e = omega arith
-
     digit : (r s : ℕ) → r < 2 → s < 2 → eqb (min r s) 1 ≡ eqb r 1 && eqb s 1
+    digit zero zero h k = refl
+    digit zero (suc zero) h k = refl
+    digit (suc zero) zero h k = refl
+    digit (suc zero) (suc zero) h k = refl
+    digit zero (suc (suc s)) h k = absurd (omega arith)
+    digit (suc zero) (suc (suc s)) h k = absurd (omega arith)
+    digit (suc (suc r)) s h k = absurd (omega arith)
+
+odd-or : (x y : ℕ) → odd (bitOr x y) ≡ odd x || odd y
+unfolding odd
+odd-or x y =
+    ap (λ m. eqb m 1) (last-digit (bitOr x y) (bitOr (x / 2) (y / 2)) (max (x % 2) (y % 2)) (or-step x y) (omega arith)) ∙ digit (x % 2) (y % 2) (omega arith) (omega arith)
+  where
+    digit : (r s : ℕ) → r < 2 → s < 2 → eqb (max r s) 1 ≡ eqb r 1 || eqb s 1
     digit zero zero h k = refl
     digit zero (suc zero) h k = refl
     digit (suc zero) zero h k = refl
@@ -76,6 +91,10 @@ odd-and x y = ap (λ m. eqb m 1) (last (bitAnd (x / 2) (y / 2)) (and-step x y)) 
 pub and-bit : (a b k : ℕ) → hasBit (bitAnd a b) k ≡ hasBit a k && hasBit b k
 unfolding hasBit
 and-bit a b k = ap odd (and-shr a b k) ∙ odd-and (a / 2 ^ k) (b / 2 ^ k)
+
+pub or-bit : (a b k : ℕ) → hasBit (bitOr a b) k ≡ hasBit a k || hasBit b k
+unfolding hasBit
+or-bit a b k = ap odd (or-shr a b k) ∙ odd-or (a / 2 ^ k) (b / 2 ^ k)
 
 -- ---- ones
 

@@ -6,3 +6,4 @@ pub mod ByElement
 pub mod Searching
 pub mod Inside
 pub mod Clear
+pub mod Gathered
