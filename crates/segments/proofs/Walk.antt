@@ -43,7 +43,7 @@ between-none i n h = rw none
     none : n - i ≡ 0
     none = omega arith
 
-byte-bit : (b : Bool) → boolByte b ≡ bit b
+pub byte-bit : (b : Bool) → boolByte b ≡ bit b
 byte-bit true = refl
 byte-bit false = refl
 

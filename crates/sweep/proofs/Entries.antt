@@ -10,7 +10,7 @@ use lib.Dec.{T}
 use lib.ListN.{length, getD, take, drop, length-drop}
 use lib.Seq.{length-take-le, take-suc, take-take, getD-take, getD-drop}
 use native.Mathlib.Numerals.{add-one}
-use Rattle.whole.specs.Count.{_∈_}
+use Rattle.whole.specs.Count.{_∈_, bit, count}
 use Rattle.whole.proofs.Logic.{in-at, in-index, is-true}
 use Rattle.whole.proofs.Parity.{_⊻_, xor-false, parity, parity-nil, parity-cons, parity-append}
 use Rattle.plane.specs.declared.Segment.{Segment}
@@ -23,7 +23,8 @@ use Rattle.scene.proofs.Flags.{upheld}
 use Rattle.scene.proofs.Given.{GoodHalfsegment, good-halfsegment, ia-there}
 use Rattle.sweep.specs.declared.event.Step.the-variants.{On, Stop}
 use Rattle.sweep.specs.Swept.{objectOf, isFirst, strandOf, strandAt, Entry}
-use Rattle.sweep.specs.Ready.{AllReadable, Ready}
+use Rattle.sweep.specs.Ready.{Placed, AllReadable, Ready}
+use Rattle.sweep.proofs.Objects.{few-elements}
 
 -- ---- an entry's record
 
@@ -44,6 +45,18 @@ module _ (s : List ℕ) (sc : Scene) where
     entry-ia {at} q e r =
         subst (λ (m : ℕ). m + 19 ≤ length s) (sym (e .is-place))
         (with-ia (taken-scene s sc is) (isFirst s sc at) (e .index) (e .within) (subst (λ (b : Bool). T (isRegion (objectOf s sc b .shape))) (sym q) r))
+
+    -- it is the record of an element of its object
+    pub entry-placed : {at : ℕ} {first : Bool} → isFirst s sc at ≡ first → Entry s sc at → (s′ : List ℕ) → Placed (objectOf s′ sc first) at
+    entry-placed {at} {first} q e s′ = record {
+      index = e .index;
+      few = omega (arith, e .within, few-elements s sc is (isFirst s sc at));
+      is-place = e .is-place ∙ ap (λ (b : Bool). place (objectOf s sc b) (e .index)) q ∙ same first;
+    }
+      where
+        same : (b : Bool) → place (objectOf s sc b) (e .index) ≡ place (objectOf s′ sc b) (e .index)
+        same true = refl
+        same false = refl
 
     -- 16 bits hold its offset
     pub entry-small : {at : ℕ} → Entry s sc at → at < 65536
@@ -110,13 +123,24 @@ and-none b x y e = ap (λ (c : Bool). c && x) e ∙ sym (ap (λ (c : Bool). c &&
 
 -- ---- the answers
 
-pub not-on : {m : ℕ} → Stop ≡ On m → ⊥
+pub not-on : {m v : ℕ} → Stop ≡ On m v → ⊥
 not-on e = let z : _≡_ {A = ℕ} 0 1 = cc in omega arith
 
-pub same-on : {m n : ℕ} → On m ≡ On n → m ≡ n
-same-on e = cc
+pub same-on : {m n v w : ℕ} → On m v ≡ On n w → (m ≡ n) × (v ≡ w)
+same-on e = (cc, cc)
 
--- ---- the parity of the first entries
+-- ---- how many of the first entries are of each object, and the parity
+
+-- each is of one object or of the other
+pub own-and-other : (object : Bool) (f : ℕ → Bool) (l : List ℕ) → count (λ e. Bool·beq object (f e)) l + count (λ e. Bool·beq (not object) (f e)) l ≡ length l
+own-and-other object f [] = refl
+own-and-other object f (e ∷ l) = omega (arith, own-and-other object f l, one object (f e))
+  where
+    one : (a b : Bool) → bit (Bool·beq a b) + bit (Bool·beq (not a) b) ≡ 1
+    one true true = refl
+    one true false = refl
+    one false true = refl
+    one false false = refl
 
 xor-is : (a b : Bool) → not (Bool·beq a b) ≡ a ⊻ b
 xor-is true true = refl

@@ -6,6 +6,7 @@ pub mod Under
 pub mod Events
 pub mod Begun
 pub mod Run
+pub mod Notes
 pub mod Counts
 pub mod Final
 pub mod Objects

@@ -61,13 +61,13 @@ module _ (s : List ℕ) (sc : Scene) where
         own : isFirst s sc (place (objectOf s sc first) k) ≡ first
         own = owned first k h
 
-    pub few-events : (first : Bool) → total s sc first ≤ 1024
-    few-events first = go (hasSegments (objectOf s sc first .shape)) first
-      where
-        few : (first : Bool) → objectOf s sc first .count ≤ 1024
-        few true = taken-scene s sc is .f-taken .few
-        few false = taken-scene s sc is .g-taken .object .few
+    pub few-elements : (first : Bool) → objectOf s sc first .count ≤ 1024
+    few-elements true = taken-scene s sc is .f-taken .few
+    few-elements false = taken-scene s sc is .g-taken .object .few
 
-        go : (b : Bool) (first : Bool) → cond b (objectOf s sc first .count) 0 ≤ 1024
-        go true first = few first
-        go false first = omega arith
+    pub few-events : (first : Bool) → total s sc first ≤ 1024
+    few-events first = go (hasSegments (objectOf s sc first .shape))
+      where
+        go : (b : Bool) → cond b (objectOf s sc first .count) 0 ≤ 1024
+        go true = few-elements first
+        go false = omega arith

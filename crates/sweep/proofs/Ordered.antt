@@ -16,7 +16,7 @@ use Rattle.scene.specs.Read.{IsScene}
 use Rattle.scene.specs.Conditions.{half, outOfOrder}
 use Rattle.segments.proofs.Indices.{halves-rise}
 use Rattle.sweep.specs.Swept.{objectOf}
-use Rattle.sweep.proofs.Objects.{has, read, good, owned}
+use Rattle.sweep.proofs.Objects.{has, read, good, owned, few-events}
 use Rattle.sweep.proofs.Under.{NotBefore}
 use Rattle.sweep.proofs.Run.{Orderly}
 
@@ -43,5 +43,6 @@ module _ (s : List ℕ) (sc : Scene) (is : IsScene s sc) (order : (first : Bool)
       record {
         sound = λ first k h. good s sc is first k h .in-order;
         owned = owned s sc is;
+        few = few-events s sc is;
         rises = λ first k m h l. not-after (half s (objectOf s sc first) k) (half s (objectOf s sc first) m) (halves-rise s (objectOf s sc first) (read s sc is first) (order first) (has s sc first m l .0) k m h (has s sc first m l .1));
       }

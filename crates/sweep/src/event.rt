@@ -1,5 +1,6 @@
 // One event of the sweep: a segment that begins goes into the status between those under its left end and those over it; one that ends goes out.
 // Where an entry stands in neither place, or an ia is wrong, the sweep stops.
+use crate::note;
 use crate::status;
 use plane::Point;
 use plane::Segment;
@@ -9,9 +10,9 @@ ghost use mathlib.Core.Path.{_≡_};
 ghost use mathlib.Core.Bool.{not, _&&_, _||_, Bool·beq};
 ghost use mathlib.Core.List.{List};
 ghost use Prim.Native.Nat.{ℕ, _+_, _<_, _≤_};
-ghost use lib.Dec.{T, ltb};
+ghost use lib.Dec.{T};
 ghost use lib.ListN.{length, getD, take};
-ghost use Rattle.whole.specs.Count.{odd, count};
+ghost use Rattle.whole.specs.Count.{bit, odd, count};
 ghost use Rattle.plane.specs.Plane.{inRange, segmentInRange, samePoint, sameSegment};
 ghost use Rattle.scene.specs.Read.{segmentAt, iaAt, IsScene};
 ghost use Rattle.scene.specs.Conditions.{isRegion};
@@ -19,10 +20,16 @@ ghost use Rattle.sweep.specs.Lower.{passesUnder, passesOver};
 ghost use Rattle.sweep.specs.Swept.{underBeginning, underEnd, objectOf, strandOf, isFirst, strandAt, Began, Ended, Entry};
 ghost use Rattle.sweep.specs.Ready.{AllReadable, Ready};
 
-// The number of entries that are now in use; or the sweep gives up.
+// The number of entries that are now in use, and the note of the element; or the sweep gives up.
 pub enum Step {
-    On(usize),
+    On(usize, u8),
     Stop,
+}
+
+// How many entries from the bottom belong under a segment, and whether an odd number of them are of its own object.
+struct Below {
+    place: usize,
+    odd: bool,
 }
 
 fn wide(e: u16) -> usize
@@ -87,24 +94,26 @@ fn is_over_end(u: Segment, t: Segment) -> bool
 
 // ---- a segment begins
 
-// How many entries from the bottom belong under the segment at an offset.
-fn count_under(s: &[u8], scene: Scene, first: bool, at: usize, status: &[u16], n: usize) -> usize
+// The entries from the bottom that belong under the segment at an offset.
+fn count_under(s: &[u8], scene: Scene, first: bool, at: usize, status: &[u16], n: usize) -> Below
     requires { ⌜ AllReadable (now s) at (now status) n ⌝ }
-    ensures { λ r. ⌜ (r ≤ n) × ((i : ℕ) → i < r → T (underBeginning (strandOf (now (s .entry)) scene first at) (strandAt (now (s .entry)) scene (getD (now (status .entry)) i 0)))) ⌝ }
+    ensures { λ r. ⌜ (r .place ≤ n) × ((i : ℕ) → i < r .place → T (underBeginning (strandOf (now (s .entry)) scene first at) (strandAt (now (s .entry)) scene (getD (now (status .entry)) i 0)))) × (r .odd ≡ odd (count (λ e. Bool·beq first (isFirst (now (s .entry)) scene e)) (take (r .place) (now (status .entry))))) ⌝ }
 {
     let t = bytes::segment(s, at);
     let g = scene.g;
     let start = g.start;
     let mut k: usize = 0;
+    let mut odd = false;
     while k < n {
         let e = wide(status[k]);
         let own = first == (e < start);
         if !is_under_beginning(bytes::segment(s, e), t, own) {
-            return k;
+            return Below { place: k, odd };
         }
+        odd = odd != own;
         k += 1;
     }
-    k
+    Below { place: k, odd }
 }
 
 // Do the entries from k on pass over its left end?
@@ -123,20 +132,6 @@ fn are_over(s: &[u8], at: usize, status: &[u16], k: usize, n: usize) -> bool
     true
 }
 
-// Are an odd number of the first k entries of F, or not of F? G starts at an offset.
-fn has_odd_own(start: usize, first: bool, status: &[u16], k: usize) -> bool
-    requires { ⌜ k ≤ length (now status) ⌝ }
-    ensures { λ r. ⌜ r ≡ odd (count (λ e. Bool·beq first (ltb e start)) (take k (now (status .entry)))) ⌝ }
-{
-    let mut odd = false;
-    let mut i: usize = 0;
-    while i < k {
-        odd = odd != (first == (wide(status[i]) < start));
-        i += 1;
-    }
-    odd
-}
-
 fn has_region(scene: Scene, first: bool) -> bool
     ensures { λ r. ⌜ ((s : List ℕ) → r ≡ isRegion (objectOf s scene first .shape)) ⌝ }
 {
@@ -152,34 +147,42 @@ fn has_region(scene: Scene, first: bool) -> bool
 }
 
 // A region's interior is above a segment where an even number of its own pass under it.
-fn has_right_ia(s: &[u8], scene: Scene, first: bool, at: usize, status: &[u16], k: usize) -> bool
-    requires { ⌜ IsScene (now s) scene × Entry (now s) scene at × (isFirst (now s) scene at ≡ first) × (k ≤ length (now status)) ⌝ }
-    ensures { λ r. ⌜ (T r → T (isRegion (objectOf (now (s .entry)) scene first .shape)) → odd (count (λ e. Bool·beq first (isFirst (now (s .entry)) scene e)) (take k (now (status .entry)))) ≡ not (iaAt (now (s .entry)) at)) ⌝ }
+fn has_right_ia(s: &[u8], scene: Scene, first: bool, at: usize, own: bool) -> bool
+    requires { ⌜ IsScene (now s) scene × Entry (now s) scene at × (isFirst (now s) scene at ≡ first) ⌝ }
+    ensures { λ r. ⌜ (T r → T (isRegion (objectOf (now (s .entry)) scene first .shape)) → own ≡ not (iaAt (now (s .entry)) at)) ⌝ }
 {
     if !has_region(scene, first) {
         return true;
     }
-    let g = scene.g;
-    has_odd_own(g.start, first, status, k) != bytes::ia(s, at)
+    own != bytes::ia(s, at)
+}
+
+// The note of a segment over k entries, of which an odd number are its own object's, or not: 1 where an odd number are the other's.
+fn other_note(k: usize, own: bool) -> u8
+    ensures { λ r. ⌜ ((a b : ℕ) → a + b ≡ k → own ≡ odd a → r ≡ bit (odd b)) ⌝ }
+{
+    (own != (k % 2 == 1)) as u8
 }
 
 // The left halfsegment at an offset.
 pub fn begin(s: &[u8], scene: Scene, first: bool, at: usize, status: &mut [u16], n: usize) -> Step
     requires { ⌜ Ready (now s) scene first at (now status) n ⌝ }
-    ensures { λ r. ⌜ (length (now (status .exit)) ≡ length (now (status .entry))) × ((m : ℕ) → r ≡ Step.On m → (m ≡ n + 1) × (m ≤ length (now (status .exit))) × Began (now (s .entry)) scene first at (take n (now (status .entry))) (take m (now (status .exit)))) ⌝ }
+    ensures { λ r. ⌜ (length (now (status .exit)) ≡ length (now (status .entry))) × ((m v : ℕ) → r ≡ Step.On m v → (m ≡ n + 1) × (m ≤ length (now (status .exit))) × Began (now (s .entry)) scene first at (take n (now (status .entry))) (take m (now (status .exit))) v) ⌝ }
 {
     if n == status.len() {
         return Step::Stop;
     }
-    let k = count_under(s, scene, first, at, status, n);
+    let below = count_under(s, scene, first, at, status, n);
+    let k = below.place;
+    let own = below.odd;
     if !are_over(s, at, status, k, n) {
         return Step::Stop;
     }
-    if !has_right_ia(s, scene, first, at, status, k) {
+    if !has_right_ia(s, scene, first, at, own) {
         return Step::Stop;
     }
     status::insert(status, n, k, at as u16);
-    Step::On(n + 1)
+    Step::On(n + 1, other_note(k, own))
 }
 
 // ---- a segment ends
@@ -239,10 +242,18 @@ fn are_over_end(s: &[u8], at: usize, status: &[u16], k: usize, n: usize) -> bool
     true
 }
 
-// The right halfsegment at an offset.
-pub fn end(s: &[u8], scene: Scene, first: bool, at: usize, status: &mut [u16], n: usize) -> Step
-    requires { ⌜ Ready (now s) scene first at (now status) n ⌝ }
-    ensures { λ r. ⌜ (length (now (status .exit)) ≡ length (now (status .entry))) × ((m : ℕ) → r ≡ Step.On m → (m + 1 ≡ n) × Ended (now (s .entry)) scene first at (take n (now (status .entry))) (take m (now (status .exit)))) ⌝ }
+// The right halfsegment at an offset. Its note is that of the left one.
+pub fn end(
+    s: &[u8],
+    scene: Scene,
+    first: bool,
+    at: usize,
+    status: &mut [u16],
+    n: usize,
+    notes: &[u8],
+) -> Step
+    requires { ⌜ Ready (now s) scene first at (now status) n × (2048 ≤ length (now notes)) ⌝ }
+    ensures { λ r. ⌜ (length (now (status .exit)) ≡ length (now (status .entry))) × ((m v : ℕ) → r ≡ Step.On m v → (m + 1 ≡ n) × Ended (now (s .entry)) scene first at (now (notes .entry)) (take n (now (status .entry))) (take m (now (status .exit))) v) ⌝ }
 {
     let k = own_place(s, scene, first, at, status, n);
     if k == n {
@@ -251,6 +262,8 @@ pub fn end(s: &[u8], scene: Scene, first: bool, at: usize, status: &mut [u16], n
     if !are_over_end(s, at, status, k + 1, n) {
         return Step::Stop;
     }
+    let e = wide(status[k]);
+    let v = note::note_at(scene, first, notes, e);
     status::remove(status, n, k);
-    Step::On(n - 1)
+    Step::On(n - 1, v)
 }
