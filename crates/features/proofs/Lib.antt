@@ -1,6 +1,5 @@
--- What belongs to no one function: the wanted masks, and the flags collected element by element.
+-- What belongs to no one function: the wanted masks, and the flags of the element of an index.
 pub mod Wanted
 pub mod AtIndex
-pub mod Gathered
 pub mod Packed
 pub mod Answered

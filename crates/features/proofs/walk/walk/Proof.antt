@@ -7,7 +7,7 @@ use borrow.Author.Needs.{needs}
 use Rattle.scene.proofs.Flags.{refuted}
 use Rattle.flags.specs.Walk.{masked, elementFlags}
 use Rattle.flags.specs.declared.Found.{Found}
-use Rattle.features.proofs.Gathered.{Gathering, gathering, gathered-one, gathered-all, gathered-enough}
+use Rattle.flags.proofs.Gathered.{Gathering, gathering, gathered-one, gathered-all, gathered-enough}
 use Rattle.features.proofs.walk.walk.Statement.{statement}
 use Rattle.features.proofs.walk.walk.Tie as tie
 

@@ -25,10 +25,10 @@ same-bits f g e =
       b7 = e 7 (omega arith) i;
     }
 
-either-assoc : (a b c : Found) → either (either a b) c ≡ either a (either b c)
+pub either-assoc : (a b c : Found) → either (either a b) c ≡ either a (either b c)
 either-assoc a b c = λ i. bitwise (λ k. or-assoc (flag k (bits a)) (flag k (bits b)) (flag k (bits c)) i)
 
-either-nothing : (a : Found) → either a nothing ≡ a
+pub either-nothing : (a : Found) → either a nothing ≡ a
 either-nothing a = λ i. bitwise (λ k. or-false (flag k (bits a)) i)
 
 -- where no wanted flag is missing, the rest does not show
