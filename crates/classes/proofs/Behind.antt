@@ -63,6 +63,9 @@ module _ {s : List ℕ} {l : Layout} (o : SoundObject s l) where
       is-left : (i : ℕ) → isLeft s l i ≡ true → half s l i .«is_left» ≡ true
       is-left i e = true-is (half s l i .«is_left») (and-right (hasSegments (l .shape)) (half s l i .«is_left») (is-true (isLeft s l i) e))
 
+  pub left-ordered : (i : ℕ) → i < l .count → isLeft s l i ≡ true → T (ordered (half s l i .segment))
+  left-ordered i h e = all-ordered o (half s l i .segment) (left-in o i h e)
+
   -- the first that is left decides
   module _ (t : Segment) {j : ℕ} where
     pub ahead-none : l .count ≤ j → Ahead s l j t
@@ -72,12 +75,9 @@ module _ {s : List ℕ} {l : Layout} (o : SoundObject s l) where
       pub ahead-first : T (ordered t) → LeftBefore t (half s l j .segment) → Ahead s l j t
       ahead-first p b m k n f = ⊎-elim (λ d. subst (λ (m : ℕ). LeftBefore t (half s l m .segment)) d b) later (eq-or-lt-of-le k)
         where
-          in-order : (i : ℕ) → i < l .count → isLeft s l i ≡ true → T (ordered (half s l i .segment))
-          in-order i h e = all-ordered o (half s l i .segment) (left-in o i h e)
-
           later : j < m → LeftBefore t (half s l m .segment)
           later d =
-              comes-trans (halfOf true t) (halfOf true (half s l j .segment)) (halfOf true (half s l m .segment)) p (in-order j h e) (in-order m n f) b
+              comes-trans (halfOf true t) (halfOf true (half s l j .segment)) (halfOf true (half s l m .segment)) p (left-ordered j h e) (left-ordered m n f) b
               (lefts-rise j m d n e f)
 
       pub ahead-same : t ≡ half s l j .segment → Ahead s l (j + 1) t

@@ -5,15 +5,13 @@ use native.Mathlib.Omega.{arith}
 use mathlib.Core.Path.{_≡_, sym, subst, _∙_}
 use mathlib.Core.Bool.{true, false, not}
 use mathlib.Core.List.{List}
-use lib.Dec.{T}
 use lib.ListN.{getD}
 use Rattle.whole.proofs.Logic.{is-true}
-use Rattle.plane.specs.Plane.{ordered}
 use Rattle.plane.proofs.Equal.{sameSegment-read}
 use Rattle.scene.specs.declared.Layout.{Layout}
 use Rattle.scene.specs.declared.Scene.{Scene}
 use Rattle.scene.specs.Conditions.{half, ia, isLeft}
-use Rattle.checks.proofs.Laws.{SoundObject, SoundScene, left-in, all-ordered, across}
+use Rattle.checks.proofs.Laws.{SoundScene, left-in, all-ordered, across}
 use Rattle.flags.specs.declared.Found.{Found}
 use Rattle.flags.specs.Walk.{nothing, either}
 use Rattle.flags.proofs.Gathered.{either-nothing, Gathering, gathering, gathered-one, gathered-all}
@@ -21,7 +19,7 @@ use Rattle.classes.specs.Classed.{classTests, classOf, classesOfF, class
 use Rattle.classes.specs.Walked.{NextLeft, Nexts, same, earlier, NextOfF, NextOfG, NextOfBoth}
 use Rattle.classes.proofs.Comparable.{compare-across}
 use Rattle.classes.proofs.Merging.{none-yet}
-use Rattle.classes.proofs.Behind.{Ahead, Behind, behind-start, behind-passed, behind-one, ahead-none, ahead-first, ahead-same, class-unshared, class-shared}
+use Rattle.classes.proofs.Behind.{Ahead, Behind, behind-start, behind-passed, behind-one, left-ordered, ahead-none, ahead-first, ahead-same, class-unshared, class-shared}
 
 -- ---- over right halfsegments, which have no class
 
@@ -74,9 +72,7 @@ module _ (s : List ℕ) (f g : Layout) (notes : List ℕ) where
     behind-g = behind-passed s g f (w .behind-g) (n .of-g .passed) (n .of-f .onwards);
   }
 
-in-order : {s : List ℕ} {l : Layout} → SoundObject s l → (k : ℕ) → k < l .count → isLeft s l k ≡ true → T (ordered (half s l k .segment))
-in-order {s} {l} p k h e = all-ordered p (half s l k .segment) (left-in p k h e)
-
+-- one step, by what comes next
 module _ {s : List ℕ} {sc : Scene} (o : SoundScene s sc) (notes : List ℕ) where
   abbrev f : Layout
   f = sc .f
@@ -104,7 +100,7 @@ module _ {s : List ℕ} {sc : Scene} (o : SoundScene s sc) (notes : List ℕ) wh
           where
             go : Dec (b < g .count) → Ahead s g b (half s f a .segment)
             go (yes k) =
-                ahead-first (o .g-sound) (half s f a .segment) k (n .nexts .of-g .there k) (in-order (o .f-sound) a (n .there) left)
+                ahead-first (o .g-sound) (half s f a .segment) k (n .nexts .of-g .there k) (left-ordered (o .f-sound) a (n .there) left)
                 (is-true (earlier s f g a b) (n .compared k .1))
             go (no k) = ahead-none (o .g-sound) (half s f a .segment) (omega arith)
 
@@ -127,7 +123,7 @@ module _ {s : List ℕ} {sc : Scene} (o : SoundScene s sc) (notes : List ℕ) wh
           where
             go : Dec (a < f .count) → Ahead s f a (half s g b .segment)
             go (yes k) =
-                ahead-first (o .f-sound) (half s g b .segment) k left-f (in-order (o .g-sound) b (n .there) left)
+                ahead-first (o .f-sound) (half s g b .segment) k left-f (left-ordered (o .g-sound) b (n .there) left)
                 (compare-across (all-ordered (o .f-sound)) (all-ordered (o .g-sound)) (across o) (half s f a .segment) (half s g b .segment) (left-in (o .f-sound) a k left-f) (left-in (o .g-sound) b (n .there) left)
                 (n .compared k .0) (n .compared k .1))
               where
