@@ -78,7 +78,7 @@ passed-at f s at {m} {e} {u} {t} x p q k n =
 
 -- ---- the status
 
-member : (l : List ℕ) (n i : ℕ) → n ≤ length l → i < n → getD l i 0 ∈ take n l
+pub member : (l : List ℕ) (n i : ℕ) → n ≤ length l → i < n → getD l i 0 ∈ take n l
 member l n i h k =
     subst (λ (e : ℕ). e ∈ take n l) (getD-take n l i 0 k) (in-at (take n l) 0 i (subst (λ (m : ℕ). i < m) (sym (length-take-le n l h)) k))
 

@@ -15,3 +15,5 @@ pub mod Chosen
 pub mod Shifted
 pub mod Entries
 pub mod Pairs
+pub mod Located
+pub mod PointRun

@@ -53,7 +53,7 @@ module _ {A B : Type 0} (f : A → B) where
   map-append [] m = refl
   map-append (a ∷ l) m = ap (λ r. f a ∷ r) (map-append l m)
 
-  count-map : (g : B → Bool) (l : List A) → count g (map f l) ≡ count (λ a. g (f a)) l
+  pub count-map : (g : B → Bool) (l : List A) → count g (map f l) ≡ count (λ a. g (f a)) l
   count-map g [] = refl
   count-map g (a ∷ l) = omega (arith, count-map g l)
 
@@ -96,13 +96,24 @@ module _ (s : List ℕ) (sc : Scene) where
     pub kept : AllEndLater i j entries → Kept isRegionOf (strands s sc true i j) (strands s sc false i j) (map (strandAt s sc) entries)
 
   -- the point of an element is the end of its segment that begins or ends there
-  left-point : (first : Bool) (k : ℕ) → isBeginning s sc first k ≡ true → pointOf first k ≡ segmentAt s (place (objectOf s sc first) k) .left
+  pub left-point : (first : Bool) (k : ℕ) → isBeginning s sc first k ≡ true → pointOf first k ≡ segmentAt s (place (objectOf s sc first) k) .left
   unfolding dominating
   left-point first k e = ap (λ b. choose b (segmentAt s (place (objectOf s sc first) k) .left) (segmentAt s (place (objectOf s sc first) k) .right)) e
 
   right-point : (first : Bool) (k : ℕ) → isBeginning s sc first k ≡ false → pointOf first k ≡ segmentAt s (place (objectOf s sc first) k) .right
   unfolding dominating
   right-point first k e = ap (λ b. choose b (segmentAt s (place (objectOf s sc first) k) .left) (segmentAt s (place (objectOf s sc first) k) .right)) e
+
+  -- a point that no element taken comes after, and none to come before
+  module _ {i j : ℕ} {entries : List ℕ} (p : Point) (taken : (first : Bool) (k : ℕ) → k < reached s sc i j first → NotBefore p (pointOf first k))
+      (to-come : (other : Bool) (m : ℕ) → reached s sc i j other ≤ m → m < total s sc other → NotBefore (pointOf other m) p) where
+    pub reaches : AllEndLater i j entries → Reached p (strands s sc true i j) (strands s sc false i j) (map (strandAt s sc) entries)
+    reaches later =
+        record {
+          begun-before = λ a m. let w = find-of s sc true i j a m in subst (NotBefore p) (left-point (w .first) (w .by .index) (w .by .is-such) ∙ ap (λ (b : Strand). b .segment .left) (sym (w .by .is))) (taken (w .first) (w .by .index) (w .by .earlier));
+          ended-before = λ a m. let w = find-of s sc false i j a m in subst (NotBefore p) (right-point (w .first) (w .by .index) (w .by .is-such) ∙ ap (λ (b : Strand). b .segment .right) (sym (w .by .is))) (taken (w .first) (w .by .index) (w .by .earlier));
+          active-on = λ a m. let w = map-in (strandAt s sc) entries m in let l = later (w .0) (w .1) in subst (λ q. NotBefore q p) (right-point (isFirst s sc (w .0)) (l .index) (l .is-end) ∙ ap (λ (b : Strand). b .segment .right) (l .is ∙ w .2)) (to-come (isFirst s sc (w .0)) (l .index) (l .to-come) (l .within));
+        }
 
   -- the strands below a segment that begins, and above it
   module _ {first : Bool} {at : ℕ} {entries new : List ℕ} {note : ℕ} (b : Began s sc first at entries new note) where
@@ -135,13 +146,8 @@ module _ (s : List ℕ) (sc : Scene) where
 
   module _ (o : Orderly) {i j : ℕ} {entries : List ℕ} (run : Run i j entries) (first : Bool) (more : reached s sc i j first < total s sc first)
       (least : (other : Bool) (m : ℕ) → reached s sc i j other ≤ m → m < total s sc other → NotBefore (pointOf other m) (pointOf first (reached s sc i j first))) where
-    reaches : AllEndLater i j entries → Reached (pointOf first (reached s sc i j first)) (strands s sc true i j) (strands s sc false i j) (map (strandAt s sc) entries)
-    reaches later =
-        record {
-          begun-before = λ a m. let w = find-of s sc true i j a m in subst (NotBefore (pointOf first (reached s sc i j first))) (left-point (w .first) (w .by .index) (w .by .is-such) ∙ ap (λ (b : Strand). b .segment .left) (sym (w .by .is))) (run .in-time (w .first) first (w .by .index) (reached s sc i j first) (w .by .earlier) (le-refl (reached s sc i j first)) more);
-          ended-before = λ a m. let w = find-of s sc false i j a m in subst (NotBefore (pointOf first (reached s sc i j first))) (right-point (w .first) (w .by .index) (w .by .is-such) ∙ ap (λ (b : Strand). b .segment .right) (sym (w .by .is))) (run .in-time (w .first) first (w .by .index) (reached s sc i j first) (w .by .earlier) (le-refl (reached s sc i j first)) more);
-          active-on = λ a m. let w = map-in (strandAt s sc) entries m in let l = later (w .0) (w .1) in subst (λ p. NotBefore p (pointOf first (reached s sc i j first))) (right-point (isFirst s sc (w .0)) (l .index) (l .is-end) ∙ ap (λ (b : Strand). b .segment .right) (l .is ∙ w .2)) (least (isFirst s sc (w .0)) (l .index) (l .to-come) (l .within));
-        }
+    reaching : AllEndLater i j entries → Reached (pointOf first (reached s sc i j first)) (strands s sc true i j) (strands s sc false i j) (map (strandAt s sc) entries)
+    reaching = reaches (pointOf first (reached s sc i j first)) (λ b k h. run .in-time b first k (reached s sc i j first) h (le-refl (reached s sc i j first)) more) least
 
     own-is : strandAt s sc (placeOf i j first) ≡ (ownOf i j first)
     own-is = ap (λ b. strandOf s sc b (placeOf i j first)) (o .owned first (reached s sc i j first) more)
@@ -153,7 +159,7 @@ module _ (s : List ℕ) (sc : Scene) where
           record {
             in-order = o .sound first (reached s sc i j first) more;
             kept = subst (Kept isRegionOf (strands s sc true i j) (strands s sc false i j)) old-active (run .kept later);
-            reached = subst (λ p. Reached p (strands s sc true i j) (strands s sc false i j) (below b ++ above b)) (left-point first (reached s sc i j first) e) (subst (Reached (pointOf first (reached s sc i j first)) (strands s sc true i j) (strands s sc false i j)) old-active (reaches later));
+            reached = subst (λ p. Reached p (strands s sc true i j) (strands s sc false i j) (below b ++ above b)) (left-point first (reached s sc i j first) e) (subst (Reached (pointOf first (reached s sc i j first)) (strands s sc true i j) (strands s sc false i j)) old-active (reaching later));
             under-it = λ a m. let w = map-in (strandAt s sc) (take (b .position) entries) m in subst (UnderBeginning (ownOf i j first)) (w .2) (under-beginning-read (ownOf i j first) (strandAt s sc (w .0)) (b .under-it (w .0) (w .1)));
             over-it = λ a m. let w = map-in (strandAt s sc) (drop (b .position) entries) m in subst (λ (c : Strand). T (passesOver (c .segment) ((ownOf i j first) .segment .left))) (w .2) (b .over-it (w .0) (w .1));
           }
@@ -233,6 +239,10 @@ module _ (s : List ℕ) (sc : Scene) where
             is-end = subst (λ (c : Bool). isBeginning s sc c (reached s sc i j first) ≡ false) (sym (own-first b)) e;
             is = subst (λ (c : Bool). strandBy s sc c (reached s sc i j first) ≡ strandAt s sc (own-entry b)) (sym (own-first b)) (sym (b .own));
           }
+
+      pub later-taken : {notes new : List ℕ} {note : ℕ} → Taken s sc first (reached s sc i j first) notes entries new note → AllEndLater i′ j′ new → AllEndLater i j entries
+      later-taken (it-began e b) = later-begun b
+      later-taken (it-ended e b) = later-ended e b
 
       pub advance : {notes new : List ℕ} {note : ℕ} → Taken s sc first (reached s sc i j first) notes entries new note → Run i′ j′ new
       advance {new = new} (it-began e b) =

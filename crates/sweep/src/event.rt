@@ -32,7 +32,7 @@ struct Below {
     odd: bool,
 }
 
-fn wide(e: u16) -> usize
+pub fn wide(e: u16) -> usize
     ensures { λ r. ⌜ r ≡ e ⌝ }
 {
     e as usize
