@@ -21,6 +21,7 @@ ghost use Rattle.sweep.specs.Noted.{SegmentsNoted};
 pub mod evenly;
 pub mod event;
 pub mod note;
+pub mod place;
 pub mod status;
 
 // How many events an object has.
