@@ -3,7 +3,10 @@
 pub mod Pair
 pub mod Start
 pub mod Under
+pub mod Between
+pub mod Linked
 pub mod Events
+pub mod Neighbours
 pub mod Begun
 pub mod Run
 pub mod Notes

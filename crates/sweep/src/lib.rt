@@ -21,6 +21,7 @@ ghost use Rattle.sweep.specs.Noted.{SegmentsNoted, Noted};
 pub mod evenly;
 pub mod event;
 pub mod note;
+pub mod place;
 pub mod points;
 pub mod status;
 

@@ -1,7 +1,7 @@
 // The points of F where F has points and G segments: the sweep over G's halfsegments takes each before the first halfsegment that does not come
 // before it, and notes it by the segments that are active there.
-use crate::event;
 use crate::event::Step;
+use crate::place;
 use plane::Point;
 use scene::Scene;
 use scene::bytes;
@@ -31,7 +31,7 @@ fn locate(s: &[u8], status: &[u16], n: usize, v: Point) -> u8
     let mut odd = false;
     let mut k: usize = 0;
     while k < n {
-        let u = bytes::segment(s, event::wide(status[k]));
+        let u = bytes::segment(s, place::wide(status[k]));
         let value = plane::side(u.left, u.right, v);
         if value == 0 {
             return 2;

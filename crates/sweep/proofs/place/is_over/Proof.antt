@@ -1,8 +1,8 @@
--- `sweep::event::is_over` meets its contract: both are the sign of one side value.
+-- `sweep::place::is_over` meets its contract: both are the sign of one side value.
 use borrow.Author.Needs.{needs}
 use Rattle.plane.proofs.Machine.{turn-asks}
-use Rattle.sweep.proofs.event.is_over.Statement.{statement}
-use Rattle.sweep.proofs.event.is_over.Tie as tie
+use Rattle.sweep.proofs.place.is_over.Statement.{statement}
+use Rattle.sweep.proofs.place.is_over.Tie as tie
 
 is-right-of-requires : tie.Need-is-right-of-requires
 is-right-of-requires c κs = turn-asks (c .args .u) (c .args .p) (c .pre .0) (c .pre .1)

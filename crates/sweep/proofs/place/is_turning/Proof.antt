@@ -1,9 +1,9 @@
--- `sweep::event::is_turning` meets its contract, by its two tests in turn.
+-- `sweep::place::is_turning` meets its contract, by its two tests in turn.
 use mathlib.Core.Path.{sym, _∙_}
 use borrow.Author.Needs.{needs}
 use Rattle.plane.proofs.Machine.{right-in-range}
-use Rattle.sweep.proofs.event.is_turning.Statement.{statement}
-use Rattle.sweep.proofs.event.is_turning.Tie as tie
+use Rattle.sweep.proofs.place.is_turning.Statement.{statement}
+use Rattle.sweep.proofs.place.is_turning.Tie as tie
 
 is-same-point-requires : tie.Need-is-same-point-requires
 is-same-point-requires c κs = search needs

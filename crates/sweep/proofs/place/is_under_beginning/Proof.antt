@@ -1,9 +1,9 @@
--- `sweep::event::is_under_beginning` meets its contract, by its tests in turn.
+-- `sweep::place::is_under_beginning` meets its contract, by its tests in turn.
 use mathlib.Core.Path.{sym, _∙_}
 use borrow.Author.Needs.{needs}
 use Rattle.plane.proofs.Machine.{left-in-range}
-use Rattle.sweep.proofs.event.is_under_beginning.Statement.{statement}
-use Rattle.sweep.proofs.event.is_under_beginning.Tie as tie
+use Rattle.sweep.proofs.place.is_under_beginning.Statement.{statement}
+use Rattle.sweep.proofs.place.is_under_beginning.Tie as tie
 
 is-under-requires : tie.Need-is-under-requires
 is-under-requires c κs = (c .pre .0, left-in-range (c .args .t) (c .pre .1))

@@ -1,8 +1,8 @@
--- `sweep::event::is_under` meets its contract: both are the sign of one side value.
+-- `sweep::place::is_under` meets its contract: both are the sign of one side value.
 use borrow.Author.Needs.{needs}
 use Rattle.plane.proofs.Machine.{turn-asks}
-use Rattle.sweep.proofs.event.is_under.Statement.{statement}
-use Rattle.sweep.proofs.event.is_under.Tie as tie
+use Rattle.sweep.proofs.place.is_under.Statement.{statement}
+use Rattle.sweep.proofs.place.is_under.Tie as tie
 
 is-left-of-requires : tie.Need-is-left-of-requires
 is-left-of-requires c κs = turn-asks (c .args .u) (c .args .p) (c .pre .0) (c .pre .1)
