@@ -18,11 +18,11 @@ use Rattle.checks.proofs.Laws.{SoundScene, sound-scene}
 use Rattle.checks.proofs.Verdicts.{check-refused, check-read}
 use Rattle.flags.specs.declared.Found.{Found}
 use Rattle.features.specs.declared.Vectors.{Vectors}
-use Rattle.features.specs.declared.Explored.{Explored}
+use Rattle.features.specs.declared.Answer.{Answer}
 use Rattle.flags.specs.Flags.{flagsOfF, flagsOfG, pack, hasBit}
 use Rattle.features.specs.Wanted.{anyStray, strayWanted, only, typeOf, maskOfF, maskOfG, wanted, vectorOfF, vectorOfG}
 use Rattle.flags.specs.Walk.{bits, bitwise, masked, elementsAs, elementsOf, allFlags}
-use Rattle.features.specs.Vectors.{sceneVectors, vectorsRules, vectorsOf}
+use Rattle.features.specs.Vectors.{sceneVectors, vectorsRules, answerOf}
 use Rattle.features.proofs.Packed.{walked}
 
 -- ---- a scene that is taken
@@ -60,8 +60,8 @@ module _ (s : List ℕ) (sc : Scene) (wantF wantG : ℕ) {all mask r : ℕ} {wan
 
 -- ---- the answer
 
-pub unread : (s : List ℕ) (wantF wantG : ℕ) (r : Refusal) → readScene s ≡ CheckedScene.Refused r → Explored.Refused r ≡ vectorsOf s wantF wantG
-unfolding vectorsOf
+pub unread : (s : List ℕ) (wantF wantG : ℕ) (r : Refusal) → readScene s ≡ CheckedScene.Refused r → Answer.Refused r ≡ answerOf s wantF wantG
+unfolding answerOf
 unread s wantF wantG r e = rw (check-refused (vectorsRules wantF wantG) s r e)
 
 module _ (s : List ℕ) (sc : Scene) (is : IsScene s sc) where
@@ -70,20 +70,20 @@ module _ (s : List ℕ) (sc : Scene) (is : IsScene s sc) where
   sound d g = rw (check-read [] [] s sc is, d, g)
 
   module _ (wantF wantG : ℕ) where
-    pub descending : (p : ℕ) → typesDescend s sc ≡ At p → Explored.Refused (record { number = 8; place = p }) ≡ vectorsOf s wantF wantG
-    unfolding vectorsOf
+    pub descending : (p : ℕ) → typesDescend s sc ≡ At p → Answer.Refused (record { number = 8; place = p }) ≡ answerOf s wantF wantG
+    unfolding answerOf
     descending p d = rw (check-read (rule 9 (strayWanted wantF wantG) ∷ []) [] s sc is, d)
 
     module _ (rising : typesDescend s sc ≡ Nothing) where
-      pub stray : anyStray (shapeNumber (sc .f .shape)) (shapeNumber (sc .g .shape)) wantF wantG ≡ true → Explored.Refused (record { number = 9; place = 0 }) ≡ vectorsOf s wantF wantG
-      unfolding vectorsOf
+      pub stray : anyStray (shapeNumber (sc .f .shape)) (shapeNumber (sc .g .shape)) wantF wantG ≡ true → Answer.Refused (record { number = 9; place = 0 }) ≡ answerOf s wantF wantG
+      unfolding answerOf
       stray e = rw (check-read (rule 9 (strayWanted wantF wantG) ∷ []) [] s sc is, rising, e)
 
       module _ (tidy : anyStray (shapeNumber (sc .f .shape)) (shapeNumber (sc .g .shape)) wantF wantG ≡ false) where
-        pub at-fault : (r : Refusal) → geometryVerdict s sc ≡ Refused r → Explored.Refused r ≡ vectorsOf s wantF wantG
-        unfolding vectorsOf
+        pub at-fault : (r : Refusal) → geometryVerdict s sc ≡ Refused r → Answer.Refused r ≡ answerOf s wantF wantG
+        unfolding answerOf
         at-fault r g = rw (check-read (rule 9 (strayWanted wantF wantG) ∷ []) [] s sc is, rising, tidy, g)
 
-        pub taken : geometryVerdict s sc ≡ Sound → {v : Vectors} → v ≡ sceneVectors s sc wantF wantG → Explored.Taken v ≡ vectorsOf s wantF wantG
-        unfolding vectorsOf
-        taken g e = ap Explored.Taken e ∙ rw (check-read (rule 9 (strayWanted wantF wantG) ∷ []) [] s sc is, rising, tidy, g)
+        pub taken : geometryVerdict s sc ≡ Sound → {v : Vectors} → v ≡ sceneVectors s sc wantF wantG → Answer.Taken sc v ≡ answerOf s wantF wantG
+        unfolding answerOf
+        taken g e = ap (Answer.Taken sc) e ∙ rw (check-read (rule 9 (strayWanted wantF wantG) ∷ []) [] s sc is, rising, tidy, g)
