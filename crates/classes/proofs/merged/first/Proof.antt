@@ -1,29 +1,17 @@
--- `overlap::merged::first` meets its contract: the tests pick the case.
+-- `classes::merged::first` meets its contract: the tests pick the case.
 use mathlib.Core.Path.{sym, _∙_}
 use borrow.Author.Needs.{needs}
-use Rattle.overlap.proofs.merged.first.Statement.{statement}
-use Rattle.overlap.proofs.merged.first.Tie as tie
+use Rattle.classes.proofs.merged.first.Statement.{statement}
+use Rattle.classes.proofs.merged.first.Tie as tie
 
 is-same-segment-requires : tie.Need-is-same-segment-requires
 is-same-segment-requires c κs = search needs
-
-add-t6 : tie.Need-add-t6
-add-t6 c = search needs
-
-add-t7 : tie.Need-add-t7
-add-t7 c = search needs
 
 returns : tie.Need-returns
 returns c = rw (sym (c .before .is-same-segment .ensures) ∙ c .if1 .taken)
 
 is-left-before-requires : tie.Need-is-left-before-requires
 is-left-before-requires c κs = search needs
-
-add-t10 : tie.Need-add-t10
-add-t10 c = search needs
-
-add-t11 : tie.Need-add-t11
-add-t11 c = search needs
 
 returns-2 : tie.Need-returns-2
 returns-2 c =
@@ -38,13 +26,4 @@ returns-3 c =
 pub first-spec : {M : Type 1} → statement M
 first-spec =
     tie.close
-    (tie.spec
-    is-same-segment-requires
-    add-t6
-    add-t7
-    returns
-    is-left-before-requires
-    add-t10
-    add-t11
-    returns-2
-    returns-3)
+    (tie.spec is-same-segment-requires returns is-left-before-requires returns-2 returns-3)

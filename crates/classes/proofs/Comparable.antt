@@ -1,17 +1,16 @@
 -- Of two unequal segments that share only common ends, one comes before the other in the order of left halfsegments: where they start at one point
 -- and neither turns left from the other, the shorter would end on the longer.
-use Prim.Native.Nat.{ℕ}
 use mathlib.Core.Path.{_≡_, refl, sym, ap, ap₂, subst, _∙_}
 use mathlib.Core.Logic.{_⊎_, ⊎-elim}
-use mathlib.Core.Bool.{true, false, _&&_, _||_, true≢false}
+use mathlib.Core.Bool.{false, _&&_, _||_, true≢false}
 use mathlib.Core.List.{List, [], _∷_}
 use lib.Dec.{T}
 use lib.IntN.{ℤ, pos, negℤ, _+ℤ_, _-ℤ_, _*ℤ_}
 use lib.Signed.{ltZ}
-use Rattle.whole.specs.Count.{eqZ}
+use Rattle.whole.specs.Count.{eqZ, _∈_}
 use Rattle.whole.proofs.Solver.{var, con, opp, _:+_, _:-_, _:*_, solve}
 use Rattle.whole.proofs.Sign.{Pos, NonNeg, Neg, pos-nonneg, neg-pos, one-pos, lit-nonneg, zero-pos, Sign, minus, nought, plus, sign, Half, at-least, under, half, pos-mul, pos-ltZ, pos-ltZ0, zero-eqZ, sub-zero-eq}
-use Rattle.whole.proofs.Logic.{and-make, or-left, or-right, true-is, Sorted}
+use Rattle.whole.proofs.Logic.{and-make, or-left, or-right, true-is}
 use Rattle.plane.specs.declared.Point.{Point}
 use Rattle.plane.specs.declared.Segment.{Segment}
 use Rattle.plane.specs.Plane.{grid, before, samePoint, sameSegment, ordered, side, dominating, farEnd, comesBefore}
@@ -22,11 +21,7 @@ use Rattle.plane.proofs.Equal.{point-eq, samePoint-refl, sameSegment-refl}
 use Rattle.plane.proofs.AlongSegment.{Apart}
 use Rattle.plane.proofs.Accepted.{Across, AllOrdered}
 use Rattle.plane.proofs.Order.{run, rise, turns, ends-differ, LeftBefore}
-use Rattle.scene.specs.declared.Scene.{Scene}
-use Rattle.scene.specs.Conditions.{segments}
-use Rattle.checks.proofs.Laws.{SoundScene, all-ordered, segments-sorted, across}
-use Rattle.overlap.specs.Overlap.{leftBefore, merge}
-use Rattle.overlap.proofs.Sorted.{Compare, merge-sorted}
+use Rattle.classes.specs.Walked.{leftBefore}
 
 -- ---- one segment that ends on another from the same point
 
@@ -184,11 +179,9 @@ compared t u o p a n b = at (places (t .left) (u .left))
     at (later h) = by-point u t h
     at (same e) = turned e (sign (turns t u))
 
+-- of two unequal segments one comes before the other
+abbrev pub Compare : List Segment → List Segment → Type 0
+Compare F G = (t u : Segment) → t ∈ F → u ∈ G → sameSegment t u ≡ false → leftBefore t u ≡ false → LeftBefore u t
+
 pub compare-across : {F G : List Segment} → AllOrdered F → AllOrdered G → Across F G → Compare F G
 compare-across o p a t u m k n b = compared t u (o t m) (p u k) (a t u m k) n b
-
--- The different segments of a scene that is taken, in the order of left halfsegments
-pub segments-merged-sorted : {s : List ℕ} {sc : Scene} → SoundScene s sc → Sorted LeftBefore (merge (segments s (sc .f)) (segments s (sc .g)))
-segments-merged-sorted {s} {sc} o =
-    merge-sorted (segments s (sc .f)) (segments s (sc .g)) (all-ordered (o .f-sound)) (all-ordered (o .g-sound)) (segments-sorted (o .f-sound)) (segments-sorted (o .g-sound))
-    (compare-across (all-ordered (o .f-sound)) (all-ordered (o .g-sound)) (across o))

@@ -1,4 +1,4 @@
--- `overlap::merged::segment_of` meets its contract: the record of the element can be read, and its ends are in range.
+-- `classes::merged::segment_of` meets its contract: the record of the element can be read, and its ends are in range.
 use native.Mathlib.Omega.{arith}
 use mathlib.Core.Path.{ap, sym, subst, _∙_}
 use lib.Dec.{T}
@@ -6,16 +6,15 @@ use Rattle.whole.proofs.Logic.{true-is}
 use Rattle.plane.specs.declared.Segment.{Segment}
 use Rattle.plane.specs.Plane.{segmentInRange}
 use Rattle.scene.specs.Read.{segmentAt, place}
-use Rattle.scene.specs.Conditions.{isRegion}
+use Rattle.scene.specs.Conditions.{hasSegments}
 use Rattle.scene.proofs.Given.{GoodHalfsegment}
-use Rattle.segments.proofs.Elements.{fits, half-good, region-segments}
-use Rattle.overlap.proofs.merged.segment_of.Statement.{statement}
-use Rattle.overlap.proofs.merged.segment_of.Tie as tie
+use Rattle.segments.proofs.Elements.{fits, half-good}
+use Rattle.classes.proofs.merged.segment_of.Statement.{statement}
+use Rattle.classes.proofs.merged.segment_of.Tie as tie
 
 good : (z : tie.Start) → GoodHalfsegment (z .args .s .now) (place (z .args .l) (z .args .i))
 good z =
-    half-good (z .args .s .now) (z .args .l) (z .pre .0) (z .args .i) (z .pre .2)
-    (region-segments (z .args .l .shape) (true-is (isRegion (z .args .l .shape)) (z .pre .1)))
+    half-good (z .args .s .now) (z .args .l) (z .pre .0) (z .args .i) (z .pre .2) (true-is (hasSegments (z .args .l .shape)) (z .pre .1))
 
 place-requires : tie.Need-place-requires
 place-requires c κs = let z = c .before in omega (arith, fits (z .args .s .now) (z .args .l) (z .pre .0) (z .args .i) (z .pre .2))
