@@ -1,4 +1,4 @@
--- What belongs to no one function: the wanted masks, and the flags of the element of an index.
+-- What belongs to no one function: the wanted masks, and the flags of an element.
 pub mod Wanted
 pub mod AtIndex
 pub mod Packed
