@@ -15,7 +15,7 @@ ghost use lib.Dec.{T};
 ghost use lib.ListN.{length};
 ghost use Rattle.scene.specs.Read.{IsObject, IsScene};
 ghost use Rattle.scene.specs.Conditions.{typesDescend, checkScene, checkObject};
-ghost use Rattle.sweep.specs.Noted.{SegmentsNoted};
+ghost use Rattle.sweep.specs.Noted.{Noted};
 ghost use Rattle.checks.specs.Refusals.{sceneFaultUnder, objectVerdict, geometryVerdict};
 
 // The first refusal under several conditions, if any.
@@ -100,7 +100,7 @@ fn plain_verdict(s: &[u8], scene: Scene) -> Verdict
 // Is a scene in order, and does the sweep accept it? It may say no of a sound scene, but never yes of another.
 fn is_swept(s: &[u8], scene: Scene, notes: &mut [u8]) -> bool
     requires { ⌜ IsScene (now s) scene × (2048 ≤ length (now notes)) ⌝ }
-    ensures { λ r. ⌜ (length (now (notes .exit)) ≡ length (now (notes .entry))) × (T r → (geometryVerdict (now (s .entry)) scene ≡ Verdict.Sound) × SegmentsNoted (now (s .entry)) scene (now (notes .exit))) ⌝ }
+    ensures { λ r. ⌜ (length (now (notes .exit)) ≡ length (now (notes .entry))) × (T r → (geometryVerdict (now (s .entry)) scene ≡ Verdict.Sound) × Noted (now (s .entry)) scene (now (notes .exit))) ⌝ }
 {
     match scene_fault(s, scene, 10) {
         Fault::At(_) => false,
@@ -111,7 +111,7 @@ fn is_swept(s: &[u8], scene: Scene, notes: &mut [u8]) -> bool
 // The same: by the sweep where it accepts, which is fast and leaves its notes, and else condition by condition.
 pub fn noted_verdict(s: &[u8], scene: Scene, notes: &mut [u8]) -> Noting
     requires { ⌜ IsScene (now s) scene × (2048 ≤ length (now notes)) ⌝ }
-    ensures { λ r. ⌜ (length (now (notes .exit)) ≡ length (now (notes .entry))) × (r ≡ Noting.Swept → (geometryVerdict (now (s .entry)) scene ≡ Verdict.Sound) × SegmentsNoted (now (s .entry)) scene (now (notes .exit))) × ((v : Verdict) → r ≡ Noting.Plain v → v ≡ geometryVerdict (now (s .entry)) scene) ⌝ }
+    ensures { λ r. ⌜ (length (now (notes .exit)) ≡ length (now (notes .entry))) × (r ≡ Noting.Swept → (geometryVerdict (now (s .entry)) scene ≡ Verdict.Sound) × Noted (now (s .entry)) scene (now (notes .exit))) × ((v : Verdict) → r ≡ Noting.Plain v → v ≡ geometryVerdict (now (s .entry)) scene) ⌝ }
 {
     if is_swept(s, scene, notes) {
         return Noting::Swept;

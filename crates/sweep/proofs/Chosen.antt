@@ -29,9 +29,24 @@ use Rattle.sweep.proofs.Ordered.{not-after, comes-by-point}
 use Rattle.sweep.proofs.Objects.{entry}
 use Rattle.sweep.proofs.Run.{pointOf, Orderly, Run}
 
+-- ---- which of two comes next: the one, with i of m taken, where of the other's n, with j taken, none is left or the next does not come before
+
+module _ (i m j n : ℕ) (later : Bool) where
+  abbrev isNext : Bool
+  isNext = ltb i m && (not (ltb j n) || not later)
+
+  pub none-left : m ≤ i → isNext ≡ false
+  none-left h = ap (λ (b : Bool). b && (not (ltb j n) || not later)) (le-ltb i m h)
+
+  pub one-left : i < m → n ≤ j → isNext ≡ true
+  one-left h k = ap (λ (b : Bool). b && (not (ltb j n) || not later)) (lt-ltb i m h) ∙ ap (λ (b : Bool). not b || not later) (le-ltb j n k)
+
+  pub both-left : i < m → j < n → isNext ≡ not later
+  both-left h k = ap (λ (b : Bool). b && (not (ltb j n) || not later)) (lt-ltb i m h) ∙ ap (λ (b : Bool). not b || not later) (lt-ltb j n k)
+
 -- ---- the order of points
 
-not-before-trans : (p q r : Point) → NotBefore p q → NotBefore q r → NotBefore p r
+pub not-before-trans : (p q r : Point) → NotBefore p q → NotBefore q r → NotBefore p r
 unfolding before
 not-before-trans p q r h k = not-T (before p r) (λ b. ⊎-elim further level (or-cases (ltZ (p .x) (r .x)) (eqZ (p .x) (r .x) && ltZ (p .y) (r .y)) b))
   where
@@ -70,7 +85,7 @@ not-before-itself p = not-T (before p p) (before-irreflexive p)
 
 module _ (s : List ℕ) (sc : Scene) (o : Orderly s sc) where
   -- the elements of one object from one on
-  from-one : (first : Bool) (k m : ℕ) → k ≤ m → m < total s sc first → NotBefore (pointOf s sc first m) (pointOf s sc first k)
+  pub from-one : (first : Bool) (k m : ℕ) → k ≤ m → m < total s sc first → NotBefore (pointOf s sc first m) (pointOf s sc first k)
   from-one first k m h l =
       ⊎-elim (λ e. subst (λ (n : ℕ). NotBefore (pointOf s sc first n) (pointOf s sc first k)) e (not-before-itself (pointOf s sc first k))) (λ g. o .rises first k m g l) (eq-or-lt-of-le h)
 

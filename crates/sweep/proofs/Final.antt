@@ -34,7 +34,7 @@ use Rattle.sweep.proofs.Begun.{strandBy, reached, strands, Of, find-of,
 use Rattle.sweep.proofs.Objects.{has}
 use Rattle.sweep.proofs.Run.{Orderly, Run}
 use Rattle.sweep.proofs.Notes.{AllNoted}
-use Rattle.sweep.proofs.Counts.{count-by, count-own, count-segments}
+use Rattle.sweep.proofs.Counts.{count-by, count-own, count-segments, in-segments}
 
 module _ (s : List ℕ) (sc : Scene) (o : Orderly s sc) (run : Run s sc (total s sc true) (total s sc false) [])
     (evenly : (first : Bool) → T (isRegion (objectOf s sc first .shape)) → EndsEvenly s (objectOf s sc first)) where
@@ -272,12 +272,6 @@ module _ (s : List ℕ) (sc : Scene) (o : Orderly s sc) (run : Run s sc (total s
 
   -- ---- the notes
 
-  in-segments : (first : Bool) (k : ℕ) → k < total s sc first → isBeginning s sc first k ≡ true → strandBy s sc first k .segment ∈ segments s (objectOf s sc first)
-  unfolding segments
-  in-segments first k h e =
-      in-map (λ i. half s (objectOf s sc first) i .segment)
-      (in-keep (isLeft s (objectOf s sc first)) (element-in (objectOf s sc first) k (has s sc first k h .1)) (ap₂ _&&_ (has s sc first k h .0) e))
-
   -- an object without segments has no strands
   under-strands : (f : Segment → Bool) (first : Bool) → count f (segments s (objectOf s sc first)) ≡ count (λ (a : Strand). Bool·beq first (a .first) && f (a .segment)) (all true)
   under-strands f first = go (hasSegments (objectOf s sc first .shape)) refl
@@ -301,7 +295,7 @@ module _ (s : List ℕ) (sc : Scene) (o : Orderly s sc) (run : Run s sc (total s
       listed-other b m d =
           subst (λ (c : Bool). b .segment ∈ segments s (objectOf s sc c)) (sym (ap (λ (a : Strand). a .first) (w .by .is)) ∙ sym (beq-same (not first) (b .first) d))
           (subst (λ (a : Strand). a .segment ∈ segments s (objectOf s sc (w .first))) (sym (w .by .is))
-          (in-segments (w .first) (w .by .index) (subst (λ (n : ℕ). w .by .index < n) (taken (w .first)) (w .by .earlier)) (w .by .is-such)))
+          (in-segments s sc (w .first) (w .by .index) (subst (λ (n : ℕ). w .by .index < n) (taken (w .first)) (w .by .earlier)) (w .by .is-such)))
         where
           w : Of s sc true (total s sc true) (total s sc false) b
           w = find-of s sc true (total s sc true) (total s sc false) b m

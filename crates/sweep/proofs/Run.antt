@@ -11,20 +11,23 @@ use lib.Dec.{T, ltb}
 use lib.ListN.{length, getD, take, drop, take-append-drop}
 use lib.Seq.{split-at}
 use Rattle.whole.specs.Count.{_∈_, here, there, odd, count}
-use Rattle.whole.proofs.Logic.{sorted-nil, in-nil, in-at, map-in, or-cases, and-left, and-right, false-is, true-is}
+use Rattle.whole.proofs.Logic.{sorted-nil, in-nil, in-at, map-in, or-cases, and-left, and-right, false-is, true-is, beq-same}
 use Rattle.plane.specs.declared.Point.{Point}
 use Rattle.plane.specs.declared.Segment.{Segment}
 use Rattle.plane.specs.Plane.{before, ordered, samePoint, sameSegment, dominating, choose}
+use Rattle.plane.proofs.OnSegment.{ordered-read}
 use Rattle.plane.proofs.Equal.{samePoint-read, sameSegment-read}
 use Rattle.scene.specs.declared.Layout.{Layout}
 use Rattle.scene.specs.declared.Scene.{Scene}
 use Rattle.scene.specs.Read.{segmentAt, halfsegmentAt, iaAt, place}
 use Rattle.scene.specs.Conditions.{hasSegments, isRegion}
-use Rattle.sweep.specs.Lower.{passesUnder, passesOver}
+use Rattle.sweep.specs.Lower.{passesUnder, passesOver, lowerAtRight}
 use Rattle.sweep.specs.Kept.{Strand, isOf, sameObject, Kept}
-use Rattle.sweep.specs.Swept.{underBeginning, underEnd, overEnd, objectOf, strandOf, isFirst, strandAt, isBeginning, Began, Ended, Taken, it-began, it-ended, total}
+use Rattle.sweep.specs.Swept.{underBeginning, objectOf, strandOf, isFirst, strandAt, isBeginning, Began, Ended, Taken, it-began, it-ended, total}
 use Rattle.sweep.proofs.Under.{NotBefore}
-use Rattle.sweep.proofs.Events.{Reached, UnderBeginning, passing, turning, equal, UnderEnd, passing-end, ending, OverEnd, passing-over, equal-over, Beginning, begins, ends}
+use Rattle.sweep.proofs.Events.{Reached, UnderBeginning, passing, turning, equal, UnderEnd, OverEnd, Beginning, begins, ends}
+use Rattle.sweep.proofs.Linked.{Linked, linked-nil, linked-inserted, linked-removed}
+use Rattle.sweep.proofs.Neighbours.{all-over, all-under-beginning, all-under-end, all-over-end}
 use Rattle.sweep.proofs.Begun.{kept-same, strandBy, reached, strands, find-of, Next}
 use Rattle.sweep.proofs.Shifted.{inserted-old, in-inserted, in-removed, removed-rest}
 
@@ -38,14 +41,6 @@ under-beginning-read a b t =
     (λ h. equal (sameSegment-read (b .segment) (a .segment) (and-left (sameSegment (b .segment) (a .segment)) (not (sameObject a b)) h)) (false-is (sameObject a b) (and-right (sameSegment (b .segment) (a .segment)) (not (sameObject a b)) h)))
     (or-cases (passesUnder (b .segment) (a .segment .left) || (samePoint (b .segment .left) (a .segment .left) && passesUnder (b .segment) (a .segment .right))) (sameSegment (b .segment) (a .segment) && not (sameObject a b)) t)
 
-under-end-read : (a b : Strand) → T (underEnd a b) → UnderEnd a b
-under-end-read a b t =
-    ⊎-elim passing-end (λ h. ending (samePoint-read (b .segment .right) (a .segment .right) h)) (or-cases (passesUnder (b .segment) (a .segment .right)) (samePoint (b .segment .right) (a .segment .right)) t)
-
-over-end-read : (a b : Strand) → T (overEnd a b) → OverEnd a b
-over-end-read a b t =
-    ⊎-elim passing-over (λ h. equal-over (sameSegment-read (b .segment) (a .segment) h)) (or-cases (passesOver (b .segment) (a .segment .right)) (sameSegment (b .segment) (a .segment)) t)
-
 -- ---- lists
 
 module _ {A B : Type 0} (f : A → B) where
@@ -53,7 +48,7 @@ module _ {A B : Type 0} (f : A → B) where
   map-append [] m = refl
   map-append (a ∷ l) m = ap (λ r. f a ∷ r) (map-append l m)
 
-  count-map : (g : B → Bool) (l : List A) → count g (map f l) ≡ count (λ a. g (f a)) l
+  pub count-map : (g : B → Bool) (l : List A) → count g (map f l) ≡ count (λ a. g (f a)) l
   count-map g [] = refl
   count-map g (a ∷ l) = omega (arith, count-map g l)
 
@@ -67,6 +62,9 @@ module _ (s : List ℕ) (sc : Scene) where
     pub owned : (first : Bool) (k : ℕ) → k < total s sc first → isFirst s sc (place (objectOf s sc first) k) ≡ first
     pub few : (first : Bool) → total s sc first ≤ 1024
     pub rises : (first : Bool) (k m : ℕ) → k < m → m < total s sc first → NotBefore (pointOf first m) (pointOf first k)
+    -- no segment of an object begins twice
+    pub differ : (first : Bool) (k m : ℕ) → k < m → m < total s sc first → isBeginning s sc first k ≡ true → isBeginning s sc first m ≡ true
+        → segmentAt s (place (objectOf s sc first) k) ≡ segmentAt s (place (objectOf s sc first) m) → ⊥
 
   abbrev pub isRegionOf : Bool → Bool
   isRegionOf first = isRegion (objectOf s sc first .shape)
@@ -88,21 +86,37 @@ module _ (s : List ℕ) (sc : Scene) where
     pub earlier : index < reached s sc i j (isFirst s sc e)
     pub is-place : e ≡ place (objectOf s sc (isFirst s sc e)) index
 
+  -- neighbours were tested when they became neighbours
+  abbrev pub LowerNext : ℕ → ℕ → Type 0
+  LowerNext e f = T (lowerAtRight (segmentAt s e) (segmentAt s f))
+
   -- i elements of F and j of G have been taken
   pub record Run (i j : ℕ) (entries : List ℕ) : Type 0 where
     pub in-time : (first other : Bool) (k m : ℕ) → k < reached s sc i j first → reached s sc i j other ≤ m → m < total s sc other
         → NotBefore (pointOf other m) (pointOf first k)
     pub taken : (e : ℕ) → e ∈ entries → TakenBefore i j e
+    pub linked : Linked LowerNext entries
     pub kept : AllEndLater i j entries → Kept isRegionOf (strands s sc true i j) (strands s sc false i j) (map (strandAt s sc) entries)
 
   -- the point of an element is the end of its segment that begins or ends there
-  left-point : (first : Bool) (k : ℕ) → isBeginning s sc first k ≡ true → pointOf first k ≡ segmentAt s (place (objectOf s sc first) k) .left
+  pub left-point : (first : Bool) (k : ℕ) → isBeginning s sc first k ≡ true → pointOf first k ≡ segmentAt s (place (objectOf s sc first) k) .left
   unfolding dominating
   left-point first k e = ap (λ b. choose b (segmentAt s (place (objectOf s sc first) k) .left) (segmentAt s (place (objectOf s sc first) k) .right)) e
 
   right-point : (first : Bool) (k : ℕ) → isBeginning s sc first k ≡ false → pointOf first k ≡ segmentAt s (place (objectOf s sc first) k) .right
   unfolding dominating
   right-point first k e = ap (λ b. choose b (segmentAt s (place (objectOf s sc first) k) .left) (segmentAt s (place (objectOf s sc first) k) .right)) e
+
+  -- a point that no element taken comes after, and none to come before
+  module _ {i j : ℕ} {entries : List ℕ} (p : Point) (taken : (first : Bool) (k : ℕ) → k < reached s sc i j first → NotBefore p (pointOf first k))
+      (to-come : (other : Bool) (m : ℕ) → reached s sc i j other ≤ m → m < total s sc other → NotBefore (pointOf other m) p) where
+    pub reaches : AllEndLater i j entries → Reached p (strands s sc true i j) (strands s sc false i j) (map (strandAt s sc) entries)
+    reaches later =
+        record {
+          begun-before = λ a m. let w = find-of s sc true i j a m in subst (NotBefore p) (left-point (w .first) (w .by .index) (w .by .is-such) ∙ ap (λ (b : Strand). b .segment .left) (sym (w .by .is))) (taken (w .first) (w .by .index) (w .by .earlier));
+          ended-before = λ a m. let w = find-of s sc false i j a m in subst (NotBefore p) (right-point (w .first) (w .by .index) (w .by .is-such) ∙ ap (λ (b : Strand). b .segment .right) (sym (w .by .is))) (taken (w .first) (w .by .index) (w .by .earlier));
+          active-on = λ a m. let w = map-in (strandAt s sc) entries m in let l = later (w .0) (w .1) in subst (λ q. NotBefore q p) (right-point (isFirst s sc (w .0)) (l .index) (l .is-end) ∙ ap (λ (b : Strand). b .segment .right) (l .is ∙ w .2)) (to-come (isFirst s sc (w .0)) (l .index) (l .to-come) (l .within));
+        }
 
   -- the strands below a segment that begins, and above it
   module _ {first : Bool} {at : ℕ} {entries new : List ℕ} {note : ℕ} (b : Began s sc first at entries new note) where
@@ -135,16 +149,19 @@ module _ (s : List ℕ) (sc : Scene) where
 
   module _ (o : Orderly) {i j : ℕ} {entries : List ℕ} (run : Run i j entries) (first : Bool) (more : reached s sc i j first < total s sc first)
       (least : (other : Bool) (m : ℕ) → reached s sc i j other ≤ m → m < total s sc other → NotBefore (pointOf other m) (pointOf first (reached s sc i j first))) where
-    reaches : AllEndLater i j entries → Reached (pointOf first (reached s sc i j first)) (strands s sc true i j) (strands s sc false i j) (map (strandAt s sc) entries)
-    reaches later =
-        record {
-          begun-before = λ a m. let w = find-of s sc true i j a m in subst (NotBefore (pointOf first (reached s sc i j first))) (left-point (w .first) (w .by .index) (w .by .is-such) ∙ ap (λ (b : Strand). b .segment .left) (sym (w .by .is))) (run .in-time (w .first) first (w .by .index) (reached s sc i j first) (w .by .earlier) (le-refl (reached s sc i j first)) more);
-          ended-before = λ a m. let w = find-of s sc false i j a m in subst (NotBefore (pointOf first (reached s sc i j first))) (right-point (w .first) (w .by .index) (w .by .is-such) ∙ ap (λ (b : Strand). b .segment .right) (sym (w .by .is))) (run .in-time (w .first) first (w .by .index) (reached s sc i j first) (w .by .earlier) (le-refl (reached s sc i j first)) more);
-          active-on = λ a m. let w = map-in (strandAt s sc) entries m in let l = later (w .0) (w .1) in subst (λ p. NotBefore p (pointOf first (reached s sc i j first))) (right-point (isFirst s sc (w .0)) (l .index) (l .is-end) ∙ ap (λ (b : Strand). b .segment .right) (l .is ∙ w .2)) (least (isFirst s sc (w .0)) (l .index) (l .to-come) (l .within));
-        }
+    reaching : AllEndLater i j entries → Reached (pointOf first (reached s sc i j first)) (strands s sc true i j) (strands s sc false i j) (map (strandAt s sc) entries)
+    reaching = reaches (pointOf first (reached s sc i j first)) (λ b k h. run .in-time b first k (reached s sc i j first) h (le-refl (reached s sc i j first)) more) least
 
     own-is : strandAt s sc (placeOf i j first) ≡ (ownOf i j first)
     own-is = ap (λ b. strandOf s sc b (placeOf i j first)) (o .owned first (reached s sc i j first) more)
+
+    new-own : isBeginning s sc first (reached s sc i j first) ≡ true → (b : Strand) → b ∈ strands s sc true i j → sameObject (ownOf i j first) b ≡ true
+        → ownOf i j first .segment ≡ b .segment → ⊥
+    new-own e b m d q =
+        let w = find-of s sc true i j b m in
+        let f : w .first ≡ first = sym (beq-same first (b .first) d ∙ ap (λ (a : Strand). a .first) (w .by .is)) in
+        o .differ first (w .by .index) (reached s sc i j first) (subst (λ (c : Bool). w .by .index < reached s sc i j c) f (w .by .earlier)) more (subst (λ (c : Bool). isBeginning s sc c (w .by .index) ≡ true) f (w .by .is-such)) e
+        (ap (λ (c : Bool). segmentAt s (place (objectOf s sc c) (w .by .index))) (sym f) ∙ ap (λ (a : Strand). a .segment) (sym (w .by .is)) ∙ sym q)
 
     module _ {new : List ℕ} {note : ℕ} (b : Began s sc first (placeOf i j first) entries new note) where
       pub beginning : isBeginning s sc first (reached s sc i j first) ≡ true → AllEndLater i j entries
@@ -153,11 +170,14 @@ module _ (s : List ℕ) (sc : Scene) where
           record {
             in-order = o .sound first (reached s sc i j first) more;
             kept = subst (Kept isRegionOf (strands s sc true i j) (strands s sc false i j)) old-active (run .kept later);
-            reached = subst (λ p. Reached p (strands s sc true i j) (strands s sc false i j) (below b ++ above b)) (left-point first (reached s sc i j first) e) (subst (Reached (pointOf first (reached s sc i j first)) (strands s sc true i j) (strands s sc false i j)) old-active (reaches later));
-            under-it = λ a m. let w = map-in (strandAt s sc) (take (b .position) entries) m in subst (UnderBeginning (ownOf i j first)) (w .2) (under-beginning-read (ownOf i j first) (strandAt s sc (w .0)) (b .under-it (w .0) (w .1)));
-            over-it = λ a m. let w = map-in (strandAt s sc) (drop (b .position) entries) m in subst (λ (c : Strand). T (passesOver (c .segment) ((ownOf i j first) .segment .left))) (w .2) (b .over-it (w .0) (w .1));
+            reached = subst (Reached (ownOf i j first .segment .left) (strands s sc true i j) (strands s sc false i j)) old-active at-left;
+            under-it = λ a m. let w = map-in (strandAt s sc) (take (b .position) entries) m in subst (UnderBeginning (ownOf i j first)) (w .2) (all-under-beginning isRegionOf (strandAt s sc) 0 entries (run .kept later) (run .linked) (ownOf i j first) (ordered-read (ownOf i j first .segment) (o .sound first (reached s sc i j first) more)) (new-own e) at-left (b .position) (b .within) (λ k q. under-beginning-read (ownOf i j first) (strandAt s sc (getD entries k 0)) (b .under-it k q)) (w .0) (w .1));
+            over-it = λ a m. let w = map-in (strandAt s sc) (drop (b .position) entries) m in subst (λ (c : Strand). T (passesOver (c .segment) (ownOf i j first .segment .left))) (w .2) (all-over isRegionOf (strandAt s sc) 0 entries (run .kept later) (run .linked) at-left (b .position) (b .over-it) (w .0) (w .1));
           }
         where
+          at-left : Reached (ownOf i j first .segment .left) (strands s sc true i j) (strands s sc false i j) (map (strandAt s sc) entries)
+          at-left = subst (λ p. Reached p (strands s sc true i j) (strands s sc false i j) (map (strandAt s sc) entries)) (left-point first (reached s sc i j first) e) (reaching later)
+
           old-active : map (strandAt s sc) entries ≡ below b ++ above b
           old-active = ap (map (strandAt s sc)) (sym (take-append-drop (b .position) entries)) ∙ map-append (strandAt s sc) (take (b .position) entries) (drop (b .position) entries)
 
@@ -177,14 +197,17 @@ module _ (s : List ℕ) (sc : Scene) where
           own-ia r = rw (true-is (isRegionOf first) r)
 
     module _ {notes new : List ℕ} {note : ℕ} (b : Ended s sc first (placeOf i j first) notes entries new note) where
-      has-ended : AllEndLater i j entries → Kept isRegionOf (strands s sc true i j) ((ownOf i j first) ∷ strands s sc false i j) (map (strandAt s sc) new)
-      has-ended later =
+      has-ended : isBeginning s sc first (reached s sc i j first) ≡ false → AllEndLater i j entries → Kept isRegionOf (strands s sc true i j) ((ownOf i j first) ∷ strands s sc false i j) (map (strandAt s sc) new)
+      has-ended e later =
           subst (Kept isRegionOf (strands s sc true i j) ((ownOf i j first) ∷ strands s sc false i j)) (sym new-active)
           (ends isRegionOf (ownOf i j first) (o .sound first (reached s sc i j first) more) low high
           (subst (Kept isRegionOf (strands s sc true i j) (strands s sc false i j)) old-active (run .kept later))
-          (λ a m. let w = map-in (strandAt s sc) (take (b .position) entries) m in subst (UnderEnd (ownOf i j first)) (w .2) (under-end-read (ownOf i j first) (strandAt s sc (w .0)) (b .under-it (w .0) (w .1))))
-          (λ a m. let w = map-in (strandAt s sc) (drop (suc (b .position)) entries) m in subst (OverEnd (ownOf i j first)) (w .2) (over-end-read (ownOf i j first) (strandAt s sc (w .0)) (b .over-it (w .0) (w .1)))))
+          (λ a m. let w = map-in (strandAt s sc) (take (b .position) entries) m in subst (UnderEnd (ownOf i j first)) (w .2) (all-under-end isRegionOf (strandAt s sc) 0 entries (run .kept later) (run .linked) (ownOf i j first) at-right (b .position) (b .there) (b .own) (w .0) (w .1)))
+          (λ a m. let w = map-in (strandAt s sc) (drop (suc (b .position)) entries) m in subst (OverEnd (ownOf i j first)) (w .2) (all-over-end isRegionOf (strandAt s sc) 0 entries (run .kept later) (run .linked) (ownOf i j first) at-right (b .position) (b .top) (b .equals) (b .over-it) (w .0) (w .1))))
         where
+          at-right : Reached (ownOf i j first .segment .right) (strands s sc true i j) (strands s sc false i j) (map (strandAt s sc) entries)
+          at-right = subst (λ p. Reached p (strands s sc true i j) (strands s sc false i j) (map (strandAt s sc) entries)) (right-point first (reached s sc i j first) e) (reaching later)
+
           low : List Strand
           low = map (strandAt s sc) (take (b .position) entries)
 
@@ -234,11 +257,16 @@ module _ (s : List ℕ) (sc : Scene) where
             is = subst (λ (c : Bool). strandBy s sc c (reached s sc i j first) ≡ strandAt s sc (own-entry b)) (sym (own-first b)) (sym (b .own));
           }
 
+      pub later-taken : {notes new : List ℕ} {note : ℕ} → Taken s sc first (reached s sc i j first) notes entries new note → AllEndLater i′ j′ new → AllEndLater i j entries
+      later-taken (it-began e b) = later-begun b
+      later-taken (it-ended e b) = later-ended e b
+
       pub advance : {notes new : List ℕ} {note : ℕ} → Taken s sc first (reached s sc i j first) notes entries new note → Run i′ j′ new
       advance {new = new} (it-began e b) =
           record {
             in-time = in-time-on;
             taken = λ x m. ⊎-elim (λ q. subst (TakenBefore i′ j′) (sym q) own-taken) (λ n. taken-still (run .taken x n)) (in-inserted (b .position) entries (subst (λ l. x ∈ l) (b .new-is) m));
+            linked = subst (Linked LowerNext) (sym (b .new-is)) (linked-inserted 0 (b .position) (placeOf i j first) entries (b .within) (run .linked) (b .lower-next) (b .upper-next));
             kept = λ later. kept-same isRegionOf (next .more true e) (next .same true e) (has-begun b e (later-begun b later));
           }
         where
@@ -252,7 +280,8 @@ module _ (s : List ℕ) (sc : Scene) where
           record {
             in-time = in-time-on;
             taken = λ x m. taken-still (run .taken x (in-removed 0 (b .position) entries (b .there) (subst (λ l. x ∈ l) (b .new-is) m)));
-            kept = λ later. kept-same isRegionOf (next .same false e) (next .more false e) (has-ended b (later-ended e b later));
+            linked = subst (Linked LowerNext) (sym (b .new-is)) (linked-removed 0 (b .position) entries (b .there) (run .linked) (b .meeting));
+            kept = λ later. kept-same isRegionOf (next .same false e) (next .more false e) (has-ended b e (later-ended e b later));
           }
 
   -- ---- the start
@@ -262,6 +291,7 @@ module _ (s : List ℕ) (sc : Scene) where
       record {
         in-time = λ b other k m h l w. absurd (no-element b k h);
         taken = λ e m. absurd (in-nil m);
+        linked = linked-nil;
         kept = λ later.
             record {
               counts = λ f. refl;

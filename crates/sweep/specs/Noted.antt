@@ -32,8 +32,13 @@ SegmentsNoted s sc notes =
     → some (sameSegment (segmentAt s (place (objectOf s sc first) k))) (segments s (objectOf s sc (not first))) ≡ false
     → getD notes (slot first k) 0 ≡ segmentNote (segments s (objectOf s sc (not first))) (segmentAt s (place (objectOf s sc first) k))
 
+-- each point of a points object beside an object with segments
+abbrev pub PointsNoted : List ℕ → Scene → List ℕ → Type 0
+PointsNoted s sc notes =
+    sc .f .shape ≡ Points → T (hasSegments (sc .g .shape)) → (k : ℕ) → k < sc .f .count
+    → endsAt (segments s (sc .g)) (grid (pointAt s (place (sc .f) k))) ≡ 0
+    → getD notes k 0 ≡ pointNote (segments s (sc .g)) (pointAt s (place (sc .f) k))
+
 pub record Noted (s : List ℕ) (sc : Scene) (notes : List ℕ) : Type 0 where
   pub of-segments : SegmentsNoted s sc notes
-  pub of-points : sc .f .shape ≡ Points → T (hasSegments (sc .g .shape)) → (k : ℕ) → k < sc .f .count
-      → endsAt (segments s (sc .g)) (grid (pointAt s (place (sc .f) k))) ≡ 0
-      → getD notes k 0 ≡ pointNote (segments s (sc .g)) (pointAt s (place (sc .f) k))
+  pub of-points : PointsNoted s sc notes

@@ -6,7 +6,7 @@ use scene::Scene;
 use scene::bytes;
 use scene::records;
 ghost use mathlib.Core.Path.{_≡_};
-ghost use mathlib.Core.Bool.{Bool, true, false, cond};
+ghost use mathlib.Core.Bool.{Bool, true, false, not, _&&_, cond};
 ghost use Prim.Native.Nat.{ℕ, _<_, _≤_};
 ghost use lib.Dec.{T};
 ghost use lib.ListN.{length, take};
@@ -16,11 +16,13 @@ ghost use Rattle.scene.specs.Read.{IsScene};
 ghost use Rattle.scene.specs.Conditions.{hasSegments, outOfOrder};
 ghost use Rattle.sweep.specs.Evenly.{RegionsEndEvenly};
 ghost use Rattle.sweep.specs.Swept.{objectOf, total, takesFirst, Taken, Entry, Passes};
-ghost use Rattle.sweep.specs.Noted.{SegmentsNoted};
+ghost use Rattle.sweep.specs.Noted.{SegmentsNoted, Noted};
 
 pub mod evenly;
 pub mod event;
 pub mod note;
+pub mod place;
+pub mod points;
 pub mod status;
 
 // How many events an object has.
@@ -106,13 +108,28 @@ fn run_events(s: &[u8], scene: Scene, status: &mut [u16], notes: &mut [u8]) -> b
     n == 0
 }
 
+// Does F have points, and G segments?
+fn has_points(scene: Scene) -> bool
+    ensures { λ r. ⌜ r ≡ (not (hasSegments (scene .f .shape)) && hasSegments (scene .g .shape)) ⌝ }
+{
+    let f = scene.f;
+    let g = scene.g;
+    let k = f.shape;
+    let l = g.shape;
+    !segments::has_segments(k) && segments::has_segments(l)
+}
+
 pub fn accepts(s: &[u8], scene: Scene, notes: &mut [u8]) -> bool
     requires { ⌜ IsScene (now s) scene × ((first : Bool) → outOfOrder (now s) (objectOf (now s) scene first) ≡ Nothing) × (2048 ≤ length (now notes)) ⌝ }
-    ensures { λ r. ⌜ (length (now (notes .exit)) ≡ length (now (notes .entry))) × (T r → Passes (now (s .entry)) scene × SegmentsNoted (now (s .entry)) scene (now (notes .exit))) ⌝ }
+    ensures { λ r. ⌜ (length (now (notes .exit)) ≡ length (now (notes .entry))) × (T r → Passes (now (s .entry)) scene × Noted (now (s .entry)) scene (now (notes .exit))) ⌝ }
 {
     if !evenly::regions_end_evenly(s, scene) {
         return false;
     }
     let mut status = [0u16; 1024];
-    run_events(s, scene, &mut status, notes)
+    if has_points(scene) {
+        points::run_points(s, scene, &mut status, notes)
+    } else {
+        run_events(s, scene, &mut status, notes)
+    }
 }
