@@ -1,9 +1,16 @@
 -- `features::question::vectors` meets its contract: the answer without the scene.
+use Prim.Native.Nat.{ℕ}
 use mathlib.Core.Path.{_≡_, sym, ap, _∙_}
+use mathlib.Core.List.{List}
 use borrow.Author.Needs.{needs}
+use Rattle.features.specs.declared.Answer.{Answer}
 use Rattle.features.specs.Vectors.{explored, answerOf, vectorsOf}
 use Rattle.features.proofs.question.vectors.Statement.{statement}
 use Rattle.features.proofs.question.vectors.Tie as tie
+
+shown-as : (s : List ℕ) (f g : ℕ) {a b : Answer} → a ≡ answerOf s f g → a ≡ b → explored b ≡ vectorsOf s f g
+unfolding vectorsOf
+shown-as s f g e q = ap explored (sym q ∙ e)
 
 answer-requires : tie.Need-answer-requires
 answer-requires c κs = search needs
@@ -15,10 +22,14 @@ enum-known-vectors : tie.Need-enum-known-vectors
 enum-known-vectors c = search needs
 
 returns : tie.Need-returns
-returns c = ?
+returns c =
+    let z = c .before .before .before .before .before .args in
+    shown-as (z .s .now) (z .want-f) (z .want-g) (c .before .before .before .answer .ensures) (c .before .r .given .1)
 
 returns-2 : tie.Need-returns-2
-returns-2 c = ?
+returns-2 c =
+    let z = c .before .before .before .before .before .args in
+    shown-as (z .s .now) (z .want-f) (z .want-g) (c .before .before .before .answer .ensures) (c .before .vectors .given .1)
 
 pub vectors-spec : {M : Type 1} → statement M
 vectors-spec =
