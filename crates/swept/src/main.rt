@@ -1,5 +1,5 @@
 // Asks of the scenes of standard input, each `label: bytes;` on lines of its own, with the bytes as document 01 writes them, whether the sweep accepts
-// them, and writes `swept` or `plain` for each, or `no` where they cannot be read. No contract says that a sound scene is swept; what this writes does.
+// them, and writes `swept` or `plain` for each, or `no` where it cannot be read. No contract says that a sound scene is swept: that is why this is run.
 use checks::Noting;
 use libc::STDIN_FILENO;
 use libc::STDOUT_FILENO;
