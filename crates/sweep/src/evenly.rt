@@ -11,7 +11,7 @@ ghost use lib.Dec.{T};
 ghost use Rattle.plane.specs.Plane.{samePoint, dominating};
 ghost use Rattle.scene.specs.Read.{halfsegmentAt, IsObject, IsScene};
 ghost use Rattle.scene.specs.Conditions.{hasSegments, isRegion};
-ghost use Rattle.sweep.specs.Evenly.{EndsEvenly, RegionsEndEvenly};
+ghost use Rattle.strands.specs.Evenly.{EndsEvenly, RegionsEndEvenly};
 
 // Do the halfsegments at two offsets have one dominating point?
 fn share_point(s: &[u8], at: usize, next: usize) -> bool

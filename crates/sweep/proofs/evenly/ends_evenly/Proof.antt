@@ -11,8 +11,8 @@ use Rattle.scene.proofs.Flags.{upheld}
 use Rattle.scene.proofs.Taken.{taken-object}
 use Rattle.whole.proofs.Logic.{is-true}
 use Rattle.whole.proofs.Parity.{parity}
-use Rattle.sweep.specs.Evenly.{dominatedBy}
-use Rattle.sweep.proofs.Pairs.{parityFrom, parity-all, parity-end, parity-pair, Pair, pair, shared}
+use Rattle.strands.specs.Evenly.{dominatedBy}
+use Rattle.strands.proofs.Pairs.{parityFrom, parity-all, parity-end, parity-pair, Pair, pair, shared}
 use Rattle.sweep.proofs.evenly.ends_evenly.Statement.{statement}
 use Rattle.sweep.proofs.evenly.ends_evenly.Tie as tie
 

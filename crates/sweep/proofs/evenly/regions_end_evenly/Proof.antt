@@ -3,8 +3,8 @@ use mathlib.Core.Path.{subst}
 use mathlib.Core.Bool.{true, false}
 use lib.Dec.{T}
 use Rattle.whole.proofs.Logic.{is-true}
-use Rattle.sweep.specs.Evenly.{RegionsEndEvenly}
-use Rattle.sweep.proofs.Objects.{read}
+use Rattle.strands.specs.Evenly.{RegionsEndEvenly}
+use Rattle.strands.proofs.Objects.{read}
 use Rattle.sweep.proofs.evenly.regions_end_evenly.Statement.{statement}
 use Rattle.sweep.proofs.evenly.regions_end_evenly.Tie as tie
 
