@@ -19,7 +19,6 @@ ghost use Rattle.strands.specs.Evenly.{RegionsEndEvenly};
 ghost use Rattle.strands.specs.Swept.{objectOf, total, takesFirst, Taken, Entry, Passes};
 ghost use Rattle.strands.specs.Noted.{SegmentsNoted, Noted};
 
-pub mod evenly;
 pub mod points;
 
 // How many events an object has.

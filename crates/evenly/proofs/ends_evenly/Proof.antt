@@ -1,4 +1,4 @@
--- `sweep::evenly::ends_evenly` meets its contract. The loop's invariant: `at` is where the element `i` stands, with evenly many before it, and each
+-- `evenly::ends_evenly` meets its contract. The loop's invariant: `at` is where the element `i` stands, with evenly many before it, and each
 -- point's parity is that from there on. The measure is the number of elements that are left.
 use Prim.Native.Nat.{_+_, _-_, _%_, _<_}
 use native.Mathlib.Omega.{arith}
@@ -13,8 +13,8 @@ use Rattle.whole.proofs.Logic.{is-true}
 use Rattle.whole.proofs.Parity.{parity}
 use Rattle.strands.specs.Evenly.{dominatedBy}
 use Rattle.strands.proofs.Pairs.{parityFrom, parity-all, parity-end, parity-pair, Pair, pair, shared}
-use Rattle.sweep.proofs.evenly.ends_evenly.Statement.{statement}
-use Rattle.sweep.proofs.evenly.ends_evenly.Tie as tie
+use Rattle.evenly.proofs.ends_evenly.Statement.{statement}
+use Rattle.evenly.proofs.ends_evenly.Tie as tie
 
 abbrev Inv-loop : tie.InvT-loop
 Inv-loop s l size at₀ i₀ at i =

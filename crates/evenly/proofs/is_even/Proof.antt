@@ -1,12 +1,12 @@
--- `sweep::evenly::is_even` meets its contract: of what is no region nothing is said, and a region has segments.
+-- `evenly::is_even` meets its contract: of what is no region nothing is said, and a region has segments.
 use mathlib.Core.Path.{subst}
 use borrow.Author.Needs.{needs}
 use lib.Dec.{T}
 use Rattle.whole.proofs.Logic.{is-true}
 use Rattle.scene.proofs.Flags.{upheld, refuted}
 use Rattle.segments.proofs.Elements.{region-segments}
-use Rattle.sweep.proofs.evenly.is_even.Statement.{statement}
-use Rattle.sweep.proofs.evenly.is_even.Tie as tie
+use Rattle.evenly.proofs.is_even.Statement.{statement}
+use Rattle.evenly.proofs.is_even.Tie as tie
 
 is-region-requires : tie.Need-is-region-requires
 is-region-requires c κs = search needs

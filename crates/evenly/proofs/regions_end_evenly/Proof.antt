@@ -1,12 +1,12 @@
--- `sweep::evenly::regions_end_evenly` meets its contract: both objects of a scene that has been read were asked.
+-- `evenly::regions_end_evenly` meets its contract: both objects of a scene that has been read were asked.
 use mathlib.Core.Path.{subst}
 use mathlib.Core.Bool.{true, false}
 use lib.Dec.{T}
 use Rattle.whole.proofs.Logic.{is-true}
 use Rattle.strands.specs.Evenly.{RegionsEndEvenly}
 use Rattle.strands.proofs.Objects.{read}
-use Rattle.sweep.proofs.evenly.regions_end_evenly.Statement.{statement}
-use Rattle.sweep.proofs.evenly.regions_end_evenly.Tie as tie
+use Rattle.evenly.proofs.regions_end_evenly.Statement.{statement}
+use Rattle.evenly.proofs.regions_end_evenly.Tie as tie
 
 -- both were asked
 module _ (c : tie.After-is-even2) where

@@ -1,9 +1,9 @@
--- `sweep::evenly::share_point` meets its contract: the two points are the dominating points of what was read.
+-- `evenly::share_point` meets its contract: the two points are the dominating points of what was read.
 use borrow.Author.Needs.{needs}
 use mathlib.Core.Path.{ap, ap₂, _∙_}
 use Rattle.plane.specs.Plane.{samePoint, dominating}
-use Rattle.sweep.proofs.evenly.share_point.Statement.{statement}
-use Rattle.sweep.proofs.evenly.share_point.Tie as tie
+use Rattle.evenly.proofs.share_point.Statement.{statement}
+use Rattle.evenly.proofs.share_point.Tie as tie
 
 halfsegment-requires : tie.Need-halfsegment-requires
 halfsegment-requires c κs = search needs
