@@ -13,7 +13,7 @@ use Rattle.scene.specs.declared.CheckedObject.{CheckedObject}
 use Rattle.scene.specs.declared.CheckedScene.{CheckedScene}
 use Rattle.scene.specs.Read.{Condition, condition, decide, judge, readScene, readAlone, IsScene}
 use Rattle.scene.specs.Conditions.{outOfOrder, unpaired, touching, touchingItself, oddEnd, wrongIa, typesDescend, Rule, conditions, sceneRules, checkedScene, checkSceneBy, checkedObject, checkObject, objectRules}
-use Rattle.sweep.specs.Swept.{objectOf, Passes}
+use Rattle.strands.specs.Swept.{objectOf, Passes}
 use Rattle.checks.specs.declared.Verdict.the-variants.{Sound, Refused}
 use Rattle.conditions.specs.Faults.{faultUnder}
 use Rattle.checks.specs.Refusals.{sceneFaultUnder, verdict, settle, objectVerdict, geometryRules, geometryVerdict}
