@@ -29,6 +29,7 @@ use Rattle.scene.specs.Conditions.{indices, elements, keep, hasSegments, isRegi
 use Rattle.scene.proofs.Taken.{TakenScene}
 use Rattle.scene.proofs.Given.{NoFault, checked-scene, checked-object}
 use Rattle.segments.proofs.Elements.{point-good, half-good, order-of-points, order-of-halves}
+use Rattle.segments.proofs.Partners.{Partner, partner-there}
 use Rattle.segments.proofs.Indices.{indices-in, element-in, in-element, keep-in, in-keep, kept-rise, not-nothing, none-wrong, halves-rise, points-rise}
 
 -- ---- an object that 10 to 14 do not refuse
@@ -49,39 +50,6 @@ module _ (s : List ℕ) (l : Layout) (i : ℕ) where
   left-segments : isLeft s l i ≡ true → (hasSegments (l .shape) ≡ true) × (half s l i .«is_left» ≡ true)
   left-segments e =
       (true-is _ (and-left (hasSegments (l .shape)) (half s l i .«is_left») (is-true (isLeft s l i) e)), true-is _ (and-right (hasSegments (l .shape)) (half s l i .«is_left») (is-true (isLeft s l i) e)))
-
--- the halfsegment "of opposite d, equal ends and ia"
-pub record Partner (s : List ℕ) (l : Layout) (i : ℕ) : Type 0 where
-  pub index : ℕ
-  pub there : index < l .count
-  pub other-side : half s l index .«is_left» ≡ not (half s l i .«is_left»)
-  pub same-segment : half s l index .segment ≡ half s l i .segment
-  pub same-ia : ia s l index ≡ ia s l i
-
-beq-not : (a b : Bool) → T (not (Bool·beq a b)) → b ≡ not a
-beq-not true true t = absurd t
-beq-not true false t = refl
-beq-not false true t = refl
-beq-not false false t = absurd t
-
-as-partner : (s : List ℕ) (l : Layout) (i j : ℕ) → j < l .count → T (partner s l i j) → Partner s l i
-unfolding partner
-as-partner s l i j h t = record {
-  index = j;
-  there = h;
-  other-side = beq-not (half s l i .«is_left») (half s l j .«is_left») (and-left sides segments′ both);
-  same-segment = sym (sameSegment-read (half s l i .segment) (half s l j .segment) (and-right sides segments′ both));
-  same-ia = sym (beq-same (ia s l i) (ia s l j) (true-is _ (and-right (sides && segments′) (Bool·beq (ia s l i) (ia s l j)) t)));
-}
-  where
-    sides : Bool
-    sides = not (Bool·beq (half s l i .«is_left») (half s l j .«is_left»))
-
-    segments′ : Bool
-    segments′ = sameSegment (half s l i .segment) (half s l j .segment)
-
-    both : T (sides && segments′)
-    both = and-left (sides && segments′) (Bool·beq (ia s l i) (ia s l j)) t
 
 module _ {s : List ℕ} {l : Layout} (o : SoundObject s l) where
   -- 10: each element comes before every later one
@@ -149,13 +117,7 @@ module _ {s : List ℕ} {l : Layout} (o : SoundObject s l) where
 
   -- 11: every halfsegment has its partner
   pub partner-of : hasSegments (l .shape) ≡ true → (i : ℕ) → i < l .count → Partner s l i
-  unfolding unpaired
-  partner-of e i h =
-      let w = some-find (partner s l i) (elements l) (is-true (some (partner s l i) (elements l)) found) in
-      as-partner s l i (w .0) (in-element l (w .0) (w .1)) (w .2)
-    where
-      found : some (partner s l i) (elements l) ≡ true
-      found = not-false (some (partner s l i) (elements l)) (rw e at (none-wrong l (isUnpaired s l) (o .paired) i h))
+  partner-of = partner-there s l (o .paired)
 
   -- so the segment of a right halfsegment is one of the list too
   pub segment-in : hasSegments (l .shape) ≡ true → (i : ℕ) → i < l .count → half s l i .segment ∈ segments s l
@@ -246,7 +208,7 @@ across {s} {sc} o =
         subst (λ (t : Segment). touch t u ≡ false) (w .3)
         (none-of (touch (half s (sc .f) (w .0) .segment)) (rw (w .2) at (none-wrong (sc .f) (isTouching s (sc .f) (segments s (sc .g))) (o .apart) (w .0) (w .1))) k)
 
-neither : (a b : Fault) → orElse a b ≡ Nothing → (a ≡ Nothing) × (b ≡ Nothing)
+pub neither : (a b : Fault) → orElse a b ≡ Nothing → (a ≡ Nothing) × (b ≡ Nothing)
 neither (At p) b e = absurd (not-nothing e)
 neither Nothing b e = (refl, e)
 
