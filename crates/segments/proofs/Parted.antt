@@ -1,4 +1,4 @@
--- Segments that do not touch: one ends left of where the other begins; or both ends of one lie strictly on one side of the other's line, or one of
+-- Segments that do not touch: the boxes round them are apart; or both ends of one lie strictly on one side of the other's line, or one of
 -- them is off it and the other is an end of both. And touching goes both ways.
 use Prim.Native.Nat.{_<_}
 use native.Mathlib.Omega.{arith}
@@ -7,11 +7,12 @@ use mathlib.Core.Logic.{⊎-elim}
 use mathlib.Core.Bool.{true, false, _&&_}
 use mathlib.Core.List.{[], _∷_}
 use lib.Dec.{T, T-not, le→leb}
-use lib.Signed.{leZ}
+use lib.Signed.{ltZ, leZ}
 use lib.IntN.{ℤ, pos, negsuc, negℤ, _+ℤ_, _-ℤ_, _*ℤ_, +ℤ-invr}
 use Rattle.whole.proofs.Solver.{var, con, opp, _:+_, _:-_, _:*_, solve}
-use Rattle.whole.proofs.Sign.{Pos, NonNeg, Neg, Sign, minus, nought, plus, sign, zero-nonneg, neg-pos, pos-neg, nonneg-clash, zero-pos, zero-neg, nonneg-add, nonneg-mul, pos-mul, mul-zero-left, mul-zero-right, cancel-zero, cancel-zero-right, cancel-nonneg, pos-lit, lit-pos, leZ-nonneg}
-use Rattle.whole.proofs.Logic.{and-make, true-is, refute}
+use Rattle.whole.proofs.Sign.{Pos, NonNeg, Neg, Sign, minus, nought, plus, sign, pos-nonneg, zero-nonneg, neg-pos, pos-neg, nonneg-clash, zero-pos, zero-neg, nonneg-add, nonneg-mul, pos-mul, mul-zero-left, mul-zero-right, cancel-zero, cancel-zero-right, cancel-nonneg, pos-lit, lit-pos, ltZ-pos, leZ-nonneg, nonneg-leZ, ltZ-leZ}
+use borrow.Author.Tests.{not-false}
+use Rattle.whole.proofs.Logic.{and-make, is-true, true-is, refute}
 use Rattle.plane.specs.declared.Point.{Point}
 use Rattle.plane.specs.declared.Segment.{Segment}
 use Rattle.plane.specs.Plane.{HPoint, grid, fractions, sameSegment, ordered, side, sideAt, isEnd, SharePoint, touch}
@@ -79,7 +80,7 @@ module _ (f : HPoint → ℤ) (g : Point → ℤ) (linear : (s : Segment) (p : H
       none : {z : ℤ} → z ≡ pos 0 → NonNeg (pos 0 -ℤ z)
       none e = zero-nonneg (ap (λ z. pos 0 -ℤ z) e)
 
--- ---- by x
+-- ---- by their boxes
 
 module _ (t u : Segment) (o : T (ordered t)) (o′ : T (ordered u)) where
   pub no-touch : (SharePoint t u → ⊥) → (touch t u ≡ false) × (touch u t ≡ false)
@@ -94,6 +95,21 @@ module _ (t u : Segment) (o : T (ordered t)) (o′ : T (ordered u)) where
       no-touch
       (parted (λ q. q .X) (λ e. e .x) (λ s p h. ap (λ q. q .X) (h .mean)) t u (t .right .x) (u .left .x) o o′ gap
       (width (ordered-read t o)) (zero-nonneg (+ℤ-invr (t .right .x))) (zero-nonneg (+ℤ-invr (u .left .x))) (width (ordered-read u o′)))
+
+  -- t is at most as high as c, and u at least as high as d, which is more
+  pub parted-up : (c d : ℤ) → Pos (d -ℤ c)
+      → NonNeg (c -ℤ t .left .y) → NonNeg (c -ℤ t .right .y) → NonNeg (u .left .y -ℤ d) → NonNeg (u .right .y -ℤ d) → (touch t u ≡ false) × (touch u t ≡ false)
+  parted-up c d gap tl tr ul ur = no-touch (parted (λ q. q .Y) (λ e. e .y) (λ s p h. ap (λ q. q .Y) (h .mean)) t u c d o o′ gap tl tr ul ur)
+
+-- comparisons
+pub same-at-most : (a : ℤ) → T (leZ a a)
+same-at-most a = nonneg-leZ a a (zero-nonneg (+ℤ-invr a))
+
+pub less-at-most : (a b : ℤ) → ltZ a b ≡ true → T (leZ a b)
+less-at-most a b e = nonneg-leZ a b (pos-nonneg (ltZ-pos a b (is-true (ltZ a b) e)))
+
+pub not-less-at-most : (a b : ℤ) → ltZ a b ≡ false → T (leZ b a)
+not-less-at-most a b e = is-true (leZ b a) (not-false (leZ b a) (sym (ltZ-leZ a b) ∙ e))
 
 -- ---- by the line of one of them
 

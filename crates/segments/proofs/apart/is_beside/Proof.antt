@@ -1,17 +1,16 @@
--- `segments::apart::is_beside` meets its contract: by the turns at the ends of u, and the ends that the two have in common.
+-- `segments::apart::is_beside` meets its contract: the same turn at both ends of u.
 use mathlib.Core.Path.{_≡_, sym, _∙_}
-use mathlib.Core.Bool.{false, true≢false}
+use mathlib.Core.Bool.{false, false≢true}
 use borrow.Author.Needs.{needs}
-use borrow.Author.Tests.{not-true}
 use lib.IntN.{ℤ, pos}
 use lib.Signed.{ltZ}
 use Rattle.whole.proofs.Logic.{is-true}
-use Rattle.whole.proofs.Sign.{Pos, Neg, ltZ0-pos, ltZ0-neg, zero-pos, zero-neg}
+use Rattle.whole.proofs.Sign.{Pos, Neg, ltZ0-pos, ltZ0-neg}
 use Rattle.plane.specs.declared.Point.{Point}
 use Rattle.plane.specs.declared.Turn.the-variants.{Left, Right}
 use Rattle.plane.specs.Plane.{side, touch}
-use Rattle.plane.proofs.Machine.{isLeft, isRight, left-is, right-is, told, turn-asks, left-in-range, right-in-range, eqZ-false}
-use Rattle.segments.proofs.Parted.{Beside, over, under, begins-at, ends-at, beside-clear}
+use Rattle.plane.proofs.Machine.{isLeft, isRight, left-is, right-is, told, turn-asks, left-in-range, right-in-range}
+use Rattle.segments.proofs.Parted.{Beside, over, under, beside-clear}
 use Rattle.segments.proofs.apart.is_beside.Statement.{statement}
 use Rattle.segments.proofs.apart.is_beside.Tie as tie
 
@@ -44,19 +43,8 @@ is-left-of-requires c κs =
     let s = c .before .before .before in
     turn-asks (s .args .t) (s .args .u .right) (s .pre .0) (right-in-range (s .args .u) (s .pre .2))
 
-is-end-requires : tie.Need-is-end-requires
-is-end-requires c κs = search needs
-
 enum-told-2 : tie.Need-enum-told-2
 enum-told-2 c = search needs
-
-is-end-requires-2 : tie.Need-is-end-requires-2
-is-end-requires-2 c κs = search needs
-
-is-off-requires : tie.Need-is-off-requires
-is-off-requires c κs =
-    let s = c .before .before .before .before .before in
-    (s .pre .0, right-in-range (s .args .u) (s .pre .2))
 
 enum-told-3 : tie.Need-enum-told-3
 enum-told-3 c = search needs
@@ -66,36 +54,18 @@ is-right-of-requires c κs =
     let s = c .before .before .before in
     turn-asks (s .args .t) (s .args .u .right) (s .pre .0) (right-in-range (s .args .u) (s .pre .2))
 
-is-end-requires-3 : tie.Need-is-end-requires-3
-is-end-requires-3 c κs = search needs
-
 returns : tie.Need-returns
 returns c q =
-    let d = c .before .before .before .before in
-    clear d (over (on-left d (c .before .before .enum-told .given .1)) (ltZ0-pos _ (is-true _ (sym (c .before .is-left-of .ensures) ∙ c .if1 .taken))))
+    let d = c .before .before .before in
+    clear d (over (on-left d (c .before .enum-told .given .1)) (ltZ0-pos _ (is-true _ (sym (c .is-left-of .ensures) ∙ q))))
 
 returns-2 : tie.Need-returns-2
-returns-2 c q =
-    let d = c .before .before .before .before .before in
-    clear d (ends-at (is-true _ (sym (c .is-end .ensures) ∙ q)) (λ e. zero-pos e (on-left d (c .before .before .before .enum-told .given .1))))
+returns-2 c q = absurd (false≢true q)
 
 returns-3 : tie.Need-returns-3
 returns-3 c q =
-    let d = c .before .before .before .before .before in
-    clear d (begins-at (is-true _ (sym (c .before .before .is-end2 .ensures) ∙ c .before .if2 .taken)) (eqZ-false _ (pos 0) (not-true _ (sym (c .is-off .ensures) ∙ q))))
-
-returns-4 : tie.Need-returns-4
-returns-4 c q = absurd (true≢false (sym q ∙ c .if2 .left))
-
-returns-5 : tie.Need-returns-5
-returns-5 c q =
-    let d = c .before .before .before .before in
-    clear d (under (on-right d (c .before .before .enum-told3 .given .1)) (ltZ0-neg _ (is-true _ (sym (c .before .is-right-of .ensures) ∙ c .if3 .taken))))
-
-returns-6 : tie.Need-returns-6
-returns-6 c q =
-    let d = c .before .before .before .before .before in
-    clear d (ends-at (is-true _ (sym (c .is-end3 .ensures) ∙ q)) (λ e. zero-neg e (on-right d (c .before .before .before .enum-told3 .given .1))))
+    let d = c .before .before .before in
+    clear d (under (on-right d (c .before .enum-told3 .given .1)) (ltZ0-neg _ (is-true _ (sym (c .is-right-of .ensures) ∙ q))))
 
 pub is-beside-spec : {M : Type 1} → statement M
 is-beside-spec =
@@ -104,16 +74,9 @@ is-beside-spec =
     turn-from-requires
     enum-told
     is-left-of-requires
-    is-end-requires
     enum-told-2
-    is-end-requires-2
-    is-off-requires
     enum-told-3
     is-right-of-requires
-    is-end-requires-3
     returns
     returns-2
-    returns-3
-    returns-4
-    returns-5
-    returns-6)
+    returns-3)
