@@ -1,5 +1,6 @@
 // The conditions 8 and 10 to 15 of document 01 over the bytes of a scene or of one object, and the whole check of either.
-// A question with conditions of its own calls them in their order: `types_fault`, its 9, `geometry_verdict`, then its 16 and 17.
+// A question with conditions of its own calls them in their order: `types_fault`, its 9, `geometry_verdict` or `noted_verdict`, then its 16
+// and 17.
 use scene::CheckedObject;
 use scene::CheckedScene;
 use scene::Fault;
@@ -9,16 +10,24 @@ use scene::Scene;
 use scene::records;
 ghost use mathlib.Core.Path.{_≡_};
 ghost use mathlib.Core.List.{List};
-ghost use Prim.Native.Nat.{ℕ};
+ghost use Prim.Native.Nat.{ℕ, _≤_};
 ghost use lib.Dec.{T};
+ghost use lib.ListN.{length};
 ghost use Rattle.scene.specs.Read.{IsObject, IsScene};
 ghost use Rattle.scene.specs.Conditions.{typesDescend, checkScene, checkObject};
+ghost use Rattle.sweep.specs.Noted.{Noted};
 ghost use Rattle.checks.specs.Refusals.{sceneFaultUnder, objectVerdict, geometryVerdict};
 
 // The first refusal under several conditions, if any.
 pub enum Verdict {
     Sound,
     Refused(Refusal),
+}
+
+// The sweep accepts, and has noted; or a verdict without notes.
+pub enum Noting {
+    Swept,
+    Plain(Verdict),
 }
 
 // 8: F's type above G's, at G's type record.
@@ -89,25 +98,37 @@ fn plain_verdict(s: &[u8], scene: Scene) -> Verdict
 }
 
 // Is a scene in order, and does the sweep accept it? It may say no of a sound scene, but never yes of another.
-fn is_swept(s: &[u8], scene: Scene) -> bool
-    requires { ⌜ IsScene (now s) scene ⌝ }
-    ensures { λ r. ⌜ (T r → geometryVerdict (now (s .entry)) scene ≡ Verdict.Sound) ⌝ }
+fn is_swept(s: &[u8], scene: Scene, notes: &mut [u8]) -> bool
+    requires { ⌜ IsScene (now s) scene × (2048 ≤ length (now notes)) ⌝ }
+    ensures { λ r. ⌜ (length (now (notes .exit)) ≡ length (now (notes .entry))) × (T r → (geometryVerdict (now (s .entry)) scene ≡ Verdict.Sound) × Noted (now (s .entry)) scene (now (notes .exit))) ⌝ }
 {
     match scene_fault(s, scene, 10) {
         Fault::At(_) => false,
-        Fault::Nothing => sweep::accepts(s, scene),
+        Fault::Nothing => sweep::accepts(s, scene, notes),
     }
 }
 
-// The same: by the sweep where it accepts, which is fast, and else condition by condition.
+// The same: by the sweep where it accepts, which is fast and leaves its notes, and else condition by condition.
+pub fn noted_verdict(s: &[u8], scene: Scene, notes: &mut [u8]) -> Noting
+    requires { ⌜ IsScene (now s) scene × (2048 ≤ length (now notes)) ⌝ }
+    ensures { λ r. ⌜ (length (now (notes .exit)) ≡ length (now (notes .entry))) × (r ≡ Noting.Swept → (geometryVerdict (now (s .entry)) scene ≡ Verdict.Sound) × Noted (now (s .entry)) scene (now (notes .exit))) × ((v : Verdict) → r ≡ Noting.Plain v → v ≡ geometryVerdict (now (s .entry)) scene) ⌝ }
+{
+    if is_swept(s, scene, notes) {
+        return Noting::Swept;
+    }
+    Noting::Plain(plain_verdict(s, scene))
+}
+
+// The verdict alone.
 pub fn geometry_verdict(s: &[u8], scene: Scene) -> Verdict
     requires { ⌜ IsScene (now s) scene ⌝ }
     ensures { λ r. ⌜ r ≡ geometryVerdict (now (s .entry)) scene ⌝ }
 {
-    if is_swept(s, scene) {
-        return Verdict::Sound;
+    let mut notes = [0u8; 2048];
+    match noted_verdict(s, scene, &mut notes) {
+        Noting::Swept => Verdict::Sound,
+        Noting::Plain(v) => v,
     }
-    plain_verdict(s, scene)
 }
 
 // A scene's bytes, checked whole: taken, or refused with one number and one place.

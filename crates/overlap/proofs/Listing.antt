@@ -3,36 +3,30 @@ use Prim.Native.Nat.{ℕ, suc, _+_, _*_, _<_, _≤_}
 use native.Mathlib.Numerals.{add-one}
 use native.Mathlib.Omega.{arith}
 use mathlib.Core.Path.{_≡_, refl, sym, ap, ap₂, subst, _∙_}
-use mathlib.Core.Logic.{⊎-elim}
 use mathlib.Core.Bool.{Bool, true, false, or-false, true≢false}
 use mathlib.Core.List.{List, [], _∷_, _++_, map, append-assoc, append-nil}
 use lib.Dec.{T}
 use lib.ListN.{length, drop, set, getD, length-append, length-drop, length-map}
 use lib.Seq.{drop-cons, set-append-seam}
 use Rattle.whole.specs.Count.{_∈_}
-use Rattle.whole.proofs.Logic.{and-left, or-cases, or-left, or-right, refute, true-is}
+use Rattle.whole.proofs.Logic.{refute, true-is}
 use Rattle.plane.specs.declared.Segment.{Segment}
-use Rattle.plane.specs.Plane.{midpoint, sameSegment, inside}
+use Rattle.plane.specs.Plane.{midpoint, inside}
+use Rattle.scene.specs.declared.Shape.{Shape}
+use Rattle.scene.specs.declared.Shape.the-variants.{Points, Line, Region}
 use Rattle.scene.specs.declared.Layout.{Layout}
-use Rattle.scene.specs.Read.{after, IsObject}
+use Rattle.scene.specs.Read.{size, after, IsObject}
 use Rattle.scene.specs.Conditions.{isRegion, segments}
 use Rattle.segments.proofs.Walk.{object-fits}
 use Rattle.flags.specs.Flags.{Edge, outline, hasSegment}
-use Rattle.flags.specs.Walk.{edges, sameIa, sameEdge, hasEdge, Clear}
+use Rattle.flags.specs.Walk.{edges, hasEdge, Clear}
 use Rattle.flags.proofs.ByElement.{outline-edges}
+use Rattle.classes.proofs.Behind.{edge-segment}
 use Rattle.overlap.specs.Overlap.{merge, adjoins, byteOf, overlapBytes}
 use Rattle.overlap.specs.Walked.{mergedFrom, MergedClear}
-use Rattle.overlap.proofs.Merging.{region-size, from-start}
+use Rattle.overlap.proofs.Merging.{from-start}
 
 -- ---- the byte of a segment
-
--- an edge of a region is one of its segments
-edge-segment : (R : List Edge) (t : Segment) (above : Bool) → T (hasEdge R t above) → T (hasSegment (outline R) t)
-edge-segment [] t above h = h
-edge-segment (e ∷ R) t above h =
-    ⊎-elim (λ q. or-left (sameSegment t (e .segment)) (hasSegment (outline R) t) (and-left (sameSegment t (e .segment)) (sameIa above (e .ia)) q))
-    (λ q. or-right (sameSegment t (e .segment)) (hasSegment (outline R) t) (edge-segment R t above q))
-    (or-cases (sameEdge t above e) (hasEdge R t above) h)
 
 module _ (R : List Edge) (t : Segment) (above : Bool) {l : List Segment} (e : outline R ≡ l) where
   pub adjoins-own : hasSegment l t ≡ true → hasEdge R t above ≡ adjoins above R t
@@ -49,6 +43,11 @@ module _ (R : List Edge) (t : Segment) (above : Bool) {l : List Segment} (e : ou
 -- ---- all of them
 
 -- a region's records take 19 bytes each
+region-size : (k : Shape) → T (isRegion k) → size k ≡ 19
+region-size Points r = absurd r
+region-size Line r = absurd r
+region-size Region r = refl
+
 pub few : (s : List ℕ) (l : Layout) → IsObject s l → T (isRegion (l .shape)) → 19 * l .count ≤ length s
 few s l is r = let h : after l ≤ length s = object-fits s l is in omega (arith, rw (region-size (l .shape) r) at h)
 

@@ -8,7 +8,8 @@ use Rattle.whole.proofs.Logic.{in-nil, in-cons, is-true}
 use Rattle.plane.specs.declared.Segment.{Segment}
 use Rattle.plane.specs.Plane.{sameSegment}
 use Rattle.plane.proofs.Equal.{sameSegment-read}
-use Rattle.overlap.specs.Overlap.{leftBefore, mergeFrom, merge}
+use Rattle.classes.specs.Walked.{leftBefore}
+use Rattle.overlap.specs.Overlap.{mergeFrom, merge}
 
 at-head : {t f : Segment} (l : List Segment) → t ≡ f → t ∈ (f ∷ l)
 at-head {t} l e = subst (λ (f : Segment). t ∈ (f ∷ l)) e here

@@ -1,4 +1,6 @@
--- Two lists in the order of left halfsegments, merged, are in that order, where any two unequal segments of the two compare.
+-- Two lists in the order of left halfsegments, merged, are in that order, where any two unequal segments of the two compare. So are the different
+-- segments of a scene that is taken.
+use Prim.Native.Nat.{ℕ}
 use mathlib.Core.Path.{_≡_, refl, sym, subst}
 use mathlib.Core.Logic.{⊎-elim}
 use mathlib.Core.Bool.{Bool, true, false, cond}
@@ -11,12 +13,13 @@ use Rattle.plane.specs.Plane.{sameSegment, ordered}
 use Rattle.plane.proofs.Equal.{sameSegment-read}
 use Rattle.plane.proofs.Accepted.{AllOrdered}
 use Rattle.plane.proofs.Order.{LeftBefore, comes-trans, halfOf}
-use Rattle.overlap.specs.Overlap.{leftBefore, mergeFrom, merge}
+use Rattle.scene.specs.declared.Scene.{Scene}
+use Rattle.scene.specs.Conditions.{segments}
+use Rattle.checks.proofs.Laws.{SoundScene, all-ordered, segments-sorted, across}
+use Rattle.classes.specs.Walked.{leftBefore}
+use Rattle.classes.proofs.Comparable.{Compare, compare-across}
+use Rattle.overlap.specs.Overlap.{mergeFrom, merge}
 use Rattle.overlap.proofs.Members.{merge-in}
-
--- of two unequal segments one comes before the other
-abbrev pub Compare : List Segment → List Segment → Type 0
-Compare F G = (t u : Segment) → t ∈ F → u ∈ G → sameSegment t u ≡ false → leftBefore t u ≡ false → LeftBefore u t
 
 head-first : {f : Segment} {F : List Segment} → Sorted LeftBefore (f ∷ F) → (t : Segment) → t ∈ F → LeftBefore f t
 head-first (sorted-cons h r) = h
@@ -52,3 +55,9 @@ pub merge-sorted : (F G : List Segment) → AllOrdered F → AllOrdered G → So
 merge-sorted [] G o p r q c = q
 merge-sorted (f ∷ F) G o p r q c =
     from-sorted f F o r (λ G p q c. merge-sorted F G (λ t m. o t (there m)) p (tail-sorted r) q c) G p q c
+
+-- The different segments of a scene that is taken, in the order of left halfsegments
+pub segments-merged-sorted : {s : List ℕ} {sc : Scene} → SoundScene s sc → Sorted LeftBefore (merge (segments s (sc .f)) (segments s (sc .g)))
+segments-merged-sorted {s} {sc} o =
+    merge-sorted (segments s (sc .f)) (segments s (sc .g)) (all-ordered (o .f-sound)) (all-ordered (o .g-sound)) (segments-sorted (o .f-sound)) (segments-sorted (o .g-sound))
+    (compare-across (all-ordered (o .f-sound)) (all-ordered (o .g-sound)) (across o))

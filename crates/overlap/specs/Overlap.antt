@@ -8,8 +8,7 @@ use lib.ListN.{length, drop}
 use lib.Dec.{leb}
 use Rattle.whole.specs.Count.{bit}
 use Rattle.plane.specs.declared.Segment.{Segment}
-use Rattle.plane.specs.declared.Halfsegment.{Halfsegment}
-use Rattle.plane.specs.Plane.{midpoint, sameSegment, comesBefore, inside}
+use Rattle.plane.specs.Plane.{midpoint, sameSegment, inside}
 use Rattle.scene.specs.declared.Scene.{Scene}
 use Rattle.scene.specs.declared.Fault.{Fault}
 use Rattle.scene.specs.declared.CheckedScene.{CheckedScene}
@@ -17,15 +16,10 @@ use Rattle.scene.specs.Read.{unless}
 use Rattle.scene.specs.Conditions.{isRegion, Rule, rule, orElse, sceneRules, checkSceneBy}
 use Rattle.flags.specs.Flags.{Edge, outline, hasSegment}
 use Rattle.flags.specs.Walk.{edges, hasEdge}
+use Rattle.classes.specs.Walked.{leftBefore}
 use Rattle.overlap.specs.declared.Overlap.{Overlap}
 
 -- ---- the different segments of two regions, in the order of left halfsegments
-
-abbrev pub leftHalf : Segment → Halfsegment
-leftHalf t = record { segment = t; «is_left» = true }
-
-abbrev pub leftBefore : Segment → Segment → Bool
-leftBefore t u = comesBefore (leftHalf t) (leftHalf u)
 
 -- f and what follows it in F among the segments of G; a segment of both is taken once. rest merges what follows f with what is left of G
 abbrev pub mergeFrom : Segment → List Segment → (List Segment → List Segment) → List Segment → List Segment

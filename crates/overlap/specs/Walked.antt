@@ -1,18 +1,17 @@
 -- What the walk over the different segments of two regions promises: the segments from an element on, and the next of both objects.
 use Prim.Native.Nat.{ℕ, _+_, _-_, _<_, _≤_}
 use mathlib.Core.Path.{_≡_}
-use mathlib.Core.Bool.{true, cond}
 use mathlib.Core.List.{List, [], _∷_, map}
 use lib.Dec.{T}
 use Rattle.whole.specs.Count.{_∈_}
 use Rattle.plane.specs.declared.Segment.{Segment}
-use Rattle.plane.specs.Plane.{segmentInRange, sameSegment}
+use Rattle.plane.specs.Plane.{segmentInRange}
 use Rattle.scene.specs.declared.Layout.{Layout}
 use Rattle.scene.specs.Conditions.{indices, keep, half, isLeft, segments}
 use Rattle.flags.specs.Walk.{Clear}
 use Rattle.overlap.specs.declared.merged.Step.{Step}
 use Rattle.overlap.specs.declared.merged.Step.the-variants.{Next, End}
-use Rattle.overlap.specs.Overlap.{leftBefore, merge}
+use Rattle.overlap.specs.Overlap.{merge}
 
 -- the segments of the elements from i on
 unfoldable pub segmentsFrom : List ℕ → Layout → ℕ → List Segment
@@ -21,17 +20,6 @@ segmentsFrom s l i = map (λ k. half s l k .segment) (keep (isLeft s l) (indices
 -- the midpoint of each of the different segments lies on a region's segments where the segment is one of them, and nowhere else
 abbrev pub MergedClear : List ℕ → Layout → Layout → Type 0
 MergedClear s f g = (t : Segment) → t ∈ merge (segments s f) (segments s g) → Clear (segments s f) t × Clear (segments s g) t
-
--- k is the first left halfsegment from i on, or the number of elements where there is none
-pub record NextLeft (s : List ℕ) (l : Layout) (i k : ℕ) : Type 0 where
-  pub onwards : i ≤ k
-  pub within : k ≤ l .count
-  pub same : segmentsFrom s l i ≡ segmentsFrom s l k
-  pub there : k < l .count → isLeft s l k ≡ true
-
--- the first of t, at i, and u, at j
-abbrev pub stepOf : Segment → Segment → ℕ → ℕ → Step
-stepOf t u i j = cond (sameSegment t u) (Next t (i + 1) (j + 1)) (cond (leftBefore t u) (Next t (i + 1) j) (Next u i (j + 1)))
 
 module _ (s : List ℕ) (f g : Layout) where
   abbrev pub mergedFrom : ℕ → ℕ → List Segment

@@ -1,13 +1,10 @@
 -- The flags of one element from the answers of its searches, for each pair of types.
-use Prim.Native.Nat.{ℕ, _+_}
-use native.Mathlib.Nat.{zero-add}
-use native.Mathlib.Omega.{arith}
+use Prim.Native.Nat.{ℕ}
 use mathlib.Core.Path.{_≡_, refl, sym, ap, _∙_}
 use mathlib.Core.Bool.{Bool, true, false, not, _&&_, _||_, and-true, and-false, true≢false}
 use mathlib.Core.List.{List, [], _∷_}
 use lib.Dec.{ltb}
-use borrow.Author.Tests.{lt-ltb}
-use Rattle.whole.specs.Count.{bit, some, count}
+use Rattle.whole.proofs.Counted.{some-count}
 use Rattle.plane.specs.declared.Point.{Point}
 use Rattle.plane.specs.declared.Segment.{Segment}
 use Rattle.plane.specs.Plane.{HPoint, grid, midpoint, sameSegment, isEnd, onSome, inside, endsAt}
@@ -34,15 +31,6 @@ module _ (G : List Segment) (v : Point) where
   point-off-region e p = rw (e, p, and-true (not (inside G (grid v))))
 
 -- ---- a segment by a line
-
--- some segment ends at a point where their number is above zero
-some-count : {A : Type 0} (f : A → Bool) (l : List A) → some f l ≡ ltb 0 (count f l)
-some-count f [] = refl
-some-count f (a ∷ l) = go (f a) (some-count f l)
-  where
-    go : (b : Bool) → some f l ≡ ltb 0 (count f l) → b || some f l ≡ ltb 0 (bit b + count f l)
-    go true e = sym (lt-ltb 0 (1 + count f l) (omega arith))
-    go false e = e ∙ ap (ltb 0) (sym (zero-add (count f l)))
 
 module _ (own other : List Segment) (v : Point) where
   pub end-bound :

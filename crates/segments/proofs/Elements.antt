@@ -18,7 +18,7 @@ use Rattle.scene.proofs.Taken.{TakenObject, taken-object}
 use Rattle.scene.proofs.Given.{GoodPoint, good-point, GoodHalfsegment, good-halfsegment, ia-there}
 use Rattle.segments.specs.Walked.{partners}
 
-no-segments-points : (k : Shape) → hasSegments k ≡ false → k ≡ Points
+pub no-segments-points : (k : Shape) → hasSegments k ≡ false → k ≡ Points
 no-segments-points Points e = refl
 no-segments-points Line e = absurd (true≢false e)
 no-segments-points Region e = absurd (true≢false e)

@@ -12,7 +12,7 @@ use Rattle.whole.specs.Count.{_∈_, here, there, bit, odd, count}
 use Rattle.whole.proofs.Logic.{beq-same, beq-refl, in-nil, in-cons, in-append, in-left, in-right}
 use Rattle.scene.specs.declared.Scene.{Scene}
 use Rattle.scene.specs.Read.{place}
-use Rattle.sweep.specs.Kept.{Strand, ownUnder, ownEqual, Kept}
+use Rattle.sweep.specs.Kept.{Strand, underOf, ownEqual, Kept}
 use Rattle.sweep.specs.Swept.{objectOf, strandOf, isBeginning, strandsBy}
 use Rattle.whole.proofs.Counted.{count-between, in-between, at-between, or-between}
 
@@ -47,7 +47,7 @@ kept-same isRegion {active = active} b e k =
       clear-ended = λ a c h m. k .clear-ended a c (e .from a h) (e .from c m);
       clear-active = λ a c h m. k .clear-active a c (e .from a h) m;
       rising = k .rising;
-      interior = λ a h i. ap odd (sym (b .counts (ownUnder a))) ∙ k .interior a (b .from a h) i;
+      interior = λ a h i. ap odd (sym (b .counts (underOf (a .first) a))) ∙ k .interior a (b .from a h) i;
     }
 
 -- ---- by elements
@@ -116,10 +116,10 @@ module _ (s : List ℕ) (sc : Scene) where
   -- ---- one element more
 
   module _ (i j : ℕ) where
-    pub further-first : (begins : Bool) → isBeginning s sc true i ≡ begins → Same (strandBy true i ∷ strands begins i j) (strands begins (suc i) j)
+    further-first : (begins : Bool) → isBeginning s sc true i ≡ begins → Same (strandBy true i ∷ strands begins i j) (strands begins (suc i) j)
     further-first begins e = same-is (sym (rw (such (isBeginning s sc true i) begins e)))
 
-    pub further-second : (begins : Bool) → isBeginning s sc false j ≡ begins → Same (strandBy false j ∷ strands begins i j) (strands begins i (suc j))
+    further-second : (begins : Bool) → isBeginning s sc false j ≡ begins → Same (strandBy false j ∷ strands begins i j) (strands begins i (suc j))
     further-second begins e =
         subst (λ b. Same (strandBy false j ∷ strands begins i j) (strandsBy s sc begins true i ++ cond b (strandBy false j ∷ strandsBy s sc begins false j) (strandsBy s sc begins false j)))
         (sym (such (isBeginning s sc false j) begins e)) (same-between (strandsBy s sc begins true i) (strandBy false j) (strandsBy s sc begins false j))
@@ -129,8 +129,45 @@ module _ (s : List ℕ) (sc : Scene) where
     unlike true b e = ap (λ x. Bool·beq true (not x)) (sym e)
     unlike false b e = ap (λ x. Bool·beq false (not x)) (sym e)
 
-    pub still-first : (begins : Bool) → isBeginning s sc true i ≡ begins → Same (strands (not begins) i j) (strands (not begins) (suc i) j)
+    still-first : (begins : Bool) → isBeginning s sc true i ≡ begins → Same (strands (not begins) i j) (strands (not begins) (suc i) j)
     still-first begins e = same-is (sym (rw (unlike (isBeginning s sc true i) begins e)))
 
-    pub still-second : (begins : Bool) → isBeginning s sc false j ≡ begins → Same (strands (not begins) i j) (strands (not begins) i (suc j))
+    still-second : (begins : Bool) → isBeginning s sc false j ≡ begins → Same (strands (not begins) i j) (strands (not begins) i (suc j))
     still-second begins e = same-is (sym (rw (unlike (isBeginning s sc false j) begins e)))
+
+  -- the next element of an object, of those reached, is taken
+  pub record Next (first : Bool) (i j i′ j′ : ℕ) : Type 0 where
+    pub grows : (b : Bool) → reached i j b ≤ reached i′ j′ b
+    pub by-one : (b : Bool) (k : ℕ) → k < reached i′ j′ b → (k < reached i j b) ⊎ ((b ≡ first) × (k ≡ reached i j first))
+    pub own : reached i j first < reached i′ j′ first
+    pub more : (begins : Bool) → isBeginning s sc first (reached i j first) ≡ begins → Same (strandBy first (reached i j first) ∷ strands begins i j) (strands begins i′ j′)
+    pub same : (begins : Bool) → isBeginning s sc first (reached i j first) ≡ begins → Same (strands (not begins) i j) (strands (not begins) i′ j′)
+
+  module _ (i j : ℕ) where
+    pub next-first : Next true i j (suc i) j
+    next-first =
+        record {
+          grows = λ b. elim b as (λ x. reached i j x ≤ reached (suc i) j x) [ true ↦ omega arith | false ↦ omega arith ];
+          by-one = by-one;
+          own = omega arith;
+          more = further-first i j;
+          same = still-first i j;
+        }
+      where
+        by-one : (b : Bool) (k : ℕ) → k < reached (suc i) j b → (k < reached i j b) ⊎ ((b ≡ true) × (k ≡ i))
+        by-one true k h = ⊎-elim (λ e. inr (refl, e)) inl (eq-or-lt-of-le (le-of-suc-le-suc h))
+        by-one false k h = inl h
+
+    pub next-second : Next false i j i (suc j)
+    next-second =
+        record {
+          grows = λ b. elim b as (λ x. reached i j x ≤ reached i (suc j) x) [ true ↦ omega arith | false ↦ omega arith ];
+          by-one = by-one;
+          own = omega arith;
+          more = further-second i j;
+          same = still-second i j;
+        }
+      where
+        by-one : (b : Bool) (k : ℕ) → k < reached i (suc j) b → (k < reached i j b) ⊎ ((b ≡ false) × (k ≡ j))
+        by-one true k h = inl h
+        by-one false k h = ⊎-elim (λ e. inr (refl, e)) inl (eq-or-lt-of-le (le-of-suc-le-suc h))

@@ -6,7 +6,7 @@ use native.Mathlib.Omega.{arith}
 use mir.Val.{boolByte}
 use mathlib.Core.Path.{_≡_, refl, sym, ap, _∙_, subst}
 use mathlib.Core.Logic.{⊎-elim}
-use mathlib.Core.Bool.{Bool, true, false, not, _&&_, _||_, cond, true≢false}
+use mathlib.Core.Bool.{Bool, true, false, not, _&&_, _||_, true≢false}
 use mathlib.Core.List.{List, [], _∷_}
 use lib.Dec.{T, T-not, not-T, ltb}
 use lib.IntN.{ℤ, negℤ, _+ℤ_, _-ℤ_}
@@ -21,17 +21,32 @@ use Rattle.plane.specs.declared.Halfsegment.{Halfsegment}
 use Rattle.plane.specs.Plane.{before, dominating, comesBefore}
 use Rattle.plane.proofs.Order.{before-irreflexive}
 use Rattle.scene.specs.declared.Scene.{Scene}
-use Rattle.scene.specs.Read.{place, halfsegmentAt}
-use Rattle.sweep.specs.Swept.{objectOf, total, takesFirst, Taken, it-began, it-ended, Entry}
+use Rattle.scene.specs.Read.{place, halfsegmentAt, IsScene}
+use Rattle.sweep.specs.Swept.{isFirst, total, takesFirst, Entry}
 use Rattle.sweep.proofs.Under.{NotBefore, after-x, after-y}
-use Rattle.sweep.proofs.Shifted.{in-inserted, in-removed}
-use Rattle.sweep.proofs.Begun.{reached}
+use Rattle.sweep.proofs.Begun.{reached, Next, next-first, next-second}
 use Rattle.sweep.proofs.Ordered.{not-after, comes-by-point}
-use Rattle.sweep.proofs.Run.{pointOf, Orderly, Run, take-first, take-second}
+use Rattle.sweep.proofs.Objects.{entry}
+use Rattle.sweep.proofs.Run.{pointOf, Orderly, Run}
+
+-- ---- which of two comes next: the one, with i of m taken, where of the other's n, with j taken, none is left or the next does not come before
+
+module _ (i m j n : ℕ) (later : Bool) where
+  abbrev isNext : Bool
+  isNext = ltb i m && (not (ltb j n) || not later)
+
+  pub none-left : m ≤ i → isNext ≡ false
+  none-left h = ap (λ (b : Bool). b && (not (ltb j n) || not later)) (le-ltb i m h)
+
+  pub one-left : i < m → n ≤ j → isNext ≡ true
+  one-left h k = ap (λ (b : Bool). b && (not (ltb j n) || not later)) (lt-ltb i m h) ∙ ap (λ (b : Bool). not b || not later) (le-ltb j n k)
+
+  pub both-left : i < m → j < n → isNext ≡ not later
+  both-left h k = ap (λ (b : Bool). b && (not (ltb j n) || not later)) (lt-ltb i m h) ∙ ap (λ (b : Bool). not b || not later) (lt-ltb j n k)
 
 -- ---- the order of points
 
-not-before-trans : (p q r : Point) → NotBefore p q → NotBefore q r → NotBefore p r
+pub not-before-trans : (p q r : Point) → NotBefore p q → NotBefore q r → NotBefore p r
 unfolding before
 not-before-trans p q r h k = not-T (before p r) (λ b. ⊎-elim further level (or-cases (ltZ (p .x) (r .x)) (eqZ (p .x) (r .x) && ltZ (p .y) (r .y)) b))
   where
@@ -70,7 +85,7 @@ not-before-itself p = not-T (before p p) (before-irreflexive p)
 
 module _ (s : List ℕ) (sc : Scene) (o : Orderly s sc) where
   -- the elements of one object from one on
-  from-one : (first : Bool) (k m : ℕ) → k ≤ m → m < total s sc first → NotBefore (pointOf s sc first m) (pointOf s sc first k)
+  pub from-one : (first : Bool) (k m : ℕ) → k ≤ m → m < total s sc first → NotBefore (pointOf s sc first m) (pointOf s sc first k)
   from-one first k m h l =
       ⊎-elim (λ e. subst (λ (n : ℕ). NotBefore (pointOf s sc first n) (pointOf s sc first k)) e (not-before-itself (pointOf s sc first k))) (λ g. o .rises first k m g l) (eq-or-lt-of-le h)
 
@@ -134,20 +149,22 @@ module _ (s : List ℕ) (sc : Scene) (o : Orderly s sc) where
   chosen i j h l true e = chosen-first i j e
   chosen i j h l false e = chosen-second i j h l e
 
-  pub taken-next : (i j : ℕ) {entries new : List ℕ} (first : Bool) → Chosen i j first → Run s sc i j entries → Taken s sc first (cond first i j) entries new
-      → Run s sc (i + boolByte first) (j + boolByte (not first)) new
-  taken-next i j {new = new} true c run t =
-      subst (λ (m : ℕ). Run s sc m (j + 0) new) (sym (add-one i)) (subst (λ (m : ℕ). Run s sc (suc i) m new) (sym (add-zero j)) (take-first s sc o run (c .more) (c .least) t))
-  taken-next i j {new = new} false c run t =
-      subst (λ (m : ℕ). Run s sc m (j + 1) new) (sym (add-zero i)) (subst (λ (m : ℕ). Run s sc i m new) (sym (add-one j)) (take-second s sc o run (c .more) (c .least) t))
+  -- one element further
+  pub next-by : (i j : ℕ) (first : Bool) → Next s sc first i j (i + boolByte first) (j + boolByte (not first))
+  next-by i j true = subst (λ (m : ℕ). Next s sc true i j m (j + 0)) (sym (add-one i)) (subst (Next s sc true i j (suc i)) (sym (add-zero j)) (next-first s sc i j))
+  next-by i j false = subst (λ (m : ℕ). Next s sc false i j m (j + 1)) (sym (add-zero i)) (subst (Next s sc false i j i) (sym (add-one j)) (next-second s sc i j))
 
   pub further : (i j : ℕ) (first : Bool) → Chosen i j first → i ≤ total s sc true → j ≤ total s sc false
       → (i + boolByte first ≤ total s sc true) × (j + boolByte (not first) ≤ total s sc false) × (i + boolByte first + (j + boolByte (not first)) ≡ i + j + 1)
   further i j true c h l = (omega (arith, c .more), omega (arith, l), omega arith)
   further i j false c h l = (omega (arith, h), omega (arith, c .more), omega arith)
 
-  -- the entries are records of the scene still
-  pub entries-still : {first : Bool} {k : ℕ} {old new : List ℕ} → Entry s sc (place (objectOf s sc first) k) → ((e : ℕ) → e ∈ old → Entry s sc e) → Taken s sc first k old new
-      → (e : ℕ) → e ∈ new → Entry s sc e
-  entries-still {old = old} own h (it-began e b) x m = ⊎-elim (λ q. subst (Entry s sc) (sym q) own) (h x) (in-inserted (b .position) old (subst (λ l. x ∈ l) (b .new-is) m))
-  entries-still {old = old} own h (it-ended e b) x m = h x (in-removed 0 (b .position) old (b .there) (subst (λ l. x ∈ l) (b .new-is) m))
+  -- of both objects, no more than there is; and the entries are records of the scene
+  pub both-within : (i j : ℕ) → i ≤ total s sc true → j ≤ total s sc false → (b : Bool) → reached s sc i j b ≤ total s sc b
+  both-within i j h l true = h
+  both-within i j h l false = l
+
+  pub entries-are : IsScene s sc → {i j : ℕ} {entries : List ℕ} → Run s sc i j entries → ((b : Bool) → reached s sc i j b ≤ total s sc b) → (e : ℕ) → e ∈ entries → Entry s sc e
+  entries-are is run within e m =
+      let t = run .taken e m in
+      subst (Entry s sc) (sym (t .is-place)) (entry s sc is (isFirst s sc e) (t .index) (omega (arith, t .earlier, within (isFirst s sc e))))

@@ -1,6 +1,6 @@
 -- How often a test holds of the strands of an object, counted over its elements, and of its segments.
 use Prim.Native.Nat.{ℕ, zero, suc, _+_, _<_, _≤_}
-use native.Mathlib.Nat.{add-zero, suc-add, add-suc}
+use native.Mathlib.Nat.{add-zero, suc-add, add-suc, le-of-suc-le-suc, eq-or-lt-of-le}
 use native.Mathlib.Omega.{arith}
 use mathlib.Core.Path.{_≡_, refl, sym, ap, ap₂, _∙_, subst}
 use mathlib.Core.Logic.{_⊎_, inl, inr, ⊎-elim}
@@ -8,15 +8,17 @@ use mathlib.Core.Bool.{Bool, true, false, not, _&&_, cond, Bool·beq}
 use mathlib.Core.List.{List, [], _∷_, _++_, map}
 use lib.Dec.{T}
 use Rattle.whole.specs.Count.{_∈_, here, there, bit, count}
-use Rattle.whole.proofs.Logic.{refute, true-is}
+use Rattle.whole.proofs.Logic.{refute, true-is, beq-same, in-map}
 use Rattle.plane.specs.declared.Segment.{Segment}
 use Rattle.scene.specs.declared.Layout.{Layout}
 use Rattle.scene.specs.declared.Scene.{Scene}
 use Rattle.scene.specs.Read.{place, segmentAt, halfsegmentAt}
 use Rattle.scene.specs.Conditions.{indices, elements, keep, hasSegments, isLeft, half, segments}
 use Rattle.sweep.specs.Kept.{Strand}
-use Rattle.sweep.specs.Swept.{objectOf, strandOf, isBeginning, strandsBy}
+use Rattle.sweep.specs.Swept.{objectOf, strandOf, isBeginning, strandsBy, total}
 use Rattle.whole.proofs.Counted.{count-append, count-none, count-same}
+use Rattle.segments.proofs.Indices.{element-in, in-keep}
+use Rattle.sweep.proofs.Objects.{has}
 use Rattle.sweep.proofs.Begun.{strandBy, By, find-by, reached, strands}
 
 -- the last index
@@ -58,6 +60,20 @@ module _ (s : List ℕ) (sc : Scene) where
       go true q e = omega (arith, e, last, ap (λ b. bit (b && g (strandBy s sc first n))) q)
       go false q e = omega (arith, e, last, ap (λ b. bit (b && g (strandBy s sc first n))) q)
 
+  -- of more elements none of which counts
+  pub count-first : (g : Strand → Bool) (begins first : Bool) (m n : ℕ) → m ≤ n
+      → ((k : ℕ) → m ≤ k → k < n → isBeginning s sc first k ≡ begins → g (strandBy s sc first k) ≡ false)
+      → count g (strandsBy s sc begins first n) ≡ count g (strandsBy s sc begins first m)
+  count-first g begins first m zero h none = let z : 0 ≡ m = omega arith in ap (λ (k : ℕ). count g (strandsBy s sc begins first k)) z
+  count-first g begins first m (suc n) h none =
+      ⊎-elim (λ e. ap (λ (k : ℕ). count g (strandsBy s sc begins first k)) (sym e))
+      (λ l. go (Bool·beq (isBeginning s sc first n) begins) refl (le-of-suc-le-suc l) (count-first g begins first m n (le-of-suc-le-suc l) (λ k a b. none k a (omega arith)))) (eq-or-lt-of-le h)
+    where
+      go : (b : Bool) → Bool·beq (isBeginning s sc first n) begins ≡ b → m ≤ n → count g (strandsBy s sc begins first n) ≡ count g (strandsBy s sc begins first m)
+          → count g (cond b (strandBy s sc first n ∷ strandsBy s sc begins first n) (strandsBy s sc begins first n)) ≡ count g (strandsBy s sc begins first m)
+      go true q l e = omega (arith, e, ap bit (none n l (omega arith) (beq-same (isBeginning s sc first n) begins q)))
+      go false q l e = e
+
   -- of the strands of both objects, those of one
   pub count-own : (g : Strand → Bool) (begins first : Bool) (i j : ℕ)
       → count (λ a. Bool·beq first (a .first) && g a) (strands s sc begins i j) ≡ count g (strandsBy s sc begins first (reached s sc i j first))
@@ -89,3 +105,9 @@ module _ (s : List ℕ) (sc : Scene) where
       beq-true : (b : Bool) → Bool·beq b true ≡ b
       beq-true true = refl
       beq-true false = refl
+
+  pub in-segments : (first : Bool) (k : ℕ) → k < total s sc first → isBeginning s sc first k ≡ true → strandBy s sc first k .segment ∈ segments s (objectOf s sc first)
+  unfolding segments
+  in-segments first k h e =
+      in-map (λ i. half s (objectOf s sc first) i .segment)
+      (in-keep (isLeft s (objectOf s sc first)) (element-in (objectOf s sc first) k (has s sc first k h .1)) (ap₂ _&&_ (has s sc first k h .0) e))

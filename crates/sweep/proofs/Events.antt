@@ -11,14 +11,14 @@ use lib.IntN.{ℤ, pos}
 use lib.Signed.{ltZ}
 use Rattle.whole.specs.Count.{_∈_, here, there, bit, odd, count}
 use Rattle.whole.proofs.Sign.{Pos, Neg, pos-neg, neg-of-pos, pos-clash, zero-pos, zero-neg, ltZ0-pos, ltZ0-neg}
-use Rattle.whole.proofs.Logic.{Sorted, sorted-nil, sorted-cons, in-cons, in-append, in-left, in-right, or-left, or-right, and-make, and-right, and-left, true-is, refute, is-true}
+use Rattle.whole.proofs.Logic.{Sorted, sorted-nil, sorted-cons, in-cons, in-append, in-left, in-right, or-left, or-right, and-make, and-right, and-left, and-follows, true-is, refute, is-true}
 use Rattle.plane.specs.declared.Point.{Point}
 use Rattle.plane.specs.declared.Segment.{Segment}
 use Rattle.plane.specs.Plane.{before, ordered, samePoint, sameSegment, side, countsBelow, grid, touch}
 use Rattle.plane.proofs.OnSegment.{Ordered, ordered-read}
 use Rattle.plane.proofs.Equal.{samePoint-refl, sameSegment-refl, sameSegment-read}
 use Rattle.sweep.specs.Lower.{passesUnder, passesOver, lowerAtLeft, lowerAtRight, under}
-use Rattle.sweep.specs.Kept.{Strand, sameObject, ownUnder, ownEqual, Lower, Kept}
+use Rattle.sweep.specs.Kept.{Strand, isOf, sameObject, underOf, NoneEqual, ownEqual, Lower, Kept}
 use Rattle.sweep.proofs.Pair.{ordered-clear, after-clear}
 use Rattle.whole.proofs.Counted.{count-append, count-between, count-none, count-same, in-between, at-between, or-between}
 use Rattle.sweep.proofs.Under.{NotBefore, side-left, side-right, side-turned, under-lower, under-over, under-ended, under-later, under-itself}
@@ -95,82 +95,79 @@ module _ (a b : Strand) where
   over-lower-left h = inr (or-left (passesUnder s (t .left) || passesOver t (s .left)) _ (or-right (passesUnder s (t .left)) _ h))
 
   -- of two strands that begin at one point, only one is under the other
-  turns-once : t .left ≡ s .left → UnderBeginning b a → sameObject a b ≡ true → T (passesUnder t (s .right)) → ⊥
-  turns-once e (passing h) d u = zero-pos (ap (side (s .left) (s .right)) e ∙ side-left s) (ltZ0-pos (side (s .left) (s .right) (t .left)) h)
-  turns-once e (turning f h) d u =
+  turns-once : t .left ≡ s .left → UnderBeginning b a → T (passesUnder t (s .right)) → ⊥
+  turns-once e (passing h) u = zero-pos (ap (side (s .left) (s .right)) e ∙ side-left s) (ltZ0-pos (side (s .left) (s .right) (t .left)) h)
+  turns-once e (turning f h) u =
       pos-clash (ltZ0-pos (side (t .left) (t .right) (s .right)) u)
       (neg-of-pos (side (t .left) (t .right) (s .right))
       (subst Pos (ap (λ p. side p (s .right) (t .right)) (sym e) ∙ side-turned (t .left) (s .right) (t .right)) (ltZ0-pos (side (s .left) (s .right) (t .right)) h)))
-  turns-once e (equal f g) d u = true≢false (sym (same (a .first) (b .first) d) ∙ g)
-    where
-      same : (x y : Bool) → Bool·beq x y ≡ true → Bool·beq y x ≡ true
-      same true true h = refl
-      same true false h = h
-      same false true h = h
-      same false false h = refl
+  turns-once e (equal f g) u = zero-pos (ap (λ (r : Segment). side (t .left) (t .right) (r .right)) f ∙ side-right t) (ltZ0-pos (side (t .left) (t .right) (s .right)) u)
 
-module _ (isRegion : Bool → Bool) {begun ended : List Strand} (a : Strand) (o : T (ordered (a .segment))) (low high : List Strand) where
-  -- ---- a strand begins
+module _ (isRegion : Bool → Bool) where
+  -- a strand begins between those under its left end and those over it
+  pub record Beginning (begun ended : List Strand) (a : Strand) (low high : List Strand) : Type 0 where
+    pub in-order : T (ordered (a .segment))
+    pub kept : Kept isRegion begun ended (low ++ high)
+    pub reached : Reached (a .segment .left) begun ended (low ++ high)
+    pub under-it : (b : Strand) → b ∈ low → UnderBeginning a b
+    pub over-it : (b : Strand) → b ∈ high → T (passesOver (b .segment) (a .segment .left))
 
-  module _ (k : Kept isRegion begun ended (low ++ high)) (r : Reached (a .segment .left) begun ended (low ++ high))
-      (under-it : (b : Strand) → b ∈ low → UnderBeginning a b) (over-it : (b : Strand) → b ∈ high → T (passesOver (b .segment) (a .segment .left))) where
-    -- of its own object, what is under it is what stands below it
-    own-low : (b : Strand) → b ∈ low → ownUnder a b ≡ sameObject a b
-    own-low b m = go (under-it b m)
+  module _ {begun ended : List Strand} {a : Strand} {low high : List Strand} (g : Beginning begun ended a low high) where
+    abbrev k : Kept isRegion begun ended (low ++ high)
+    k = g .kept
+
+    abbrev r : Reached (a .segment .left) begun ended (low ++ high)
+    r = g .reached
+
+    -- of an object without its equal, what is under it is what stands below it
+    of-low : (object : Bool) → NoneEqual object a begun → (b : Strand) → b ∈ low → underOf object a b ≡ isOf object b
+    of-low object none b m = and-follows (isOf object b) (under (a .segment) (b .segment)) (λ t. go t (g .under-it b m))
       where
-        active : b ∈ (low ++ high)
-        active = in-left high m
+        has-begun : b ∈ begun
+        has-begun = k .active-begun b (in-left high m)
 
-        yes : T (under (a .segment) (b .segment)) → ownUnder a b ≡ sameObject a b
-        yes t = rw (true-is (under (a .segment) (b .segment)) t) (last (sameObject a b))
-          where
-            last : (x : Bool) → x && true ≡ x
-            last true = refl
-            last false = refl
+        go : T (isOf object b) → UnderBeginning a b → T (under (a .segment) (b .segment))
+        go t (passing h) = under-lower (a .segment) (b .segment) (ordered-read (b .segment) (k .sound b has-begun)) (r .begun-before b has-begun) (r .active-on b (in-left high m)) h
+        go t (turning e h) =
+            or-right (countsBelow (grid (a .segment .left)) (b .segment)) (samePoint (b .segment .left) (a .segment .left) && passesUnder (b .segment) (a .segment .right)) (and-make (samePoint (b .segment .left) (a .segment .left)) (passesUnder (b .segment) (a .segment .right)) (same-left (b .segment) (a .segment) e) h)
+        go t (equal e d) = absurd (none b has-begun (true-is (isOf object b) t) (sym e))
 
-        go : UnderBeginning a b → ownUnder a b ≡ sameObject a b
-        go (passing h) =
-            yes (under-lower (a .segment) (b .segment) (ordered-read (b .segment) (k .sound b (k .active-begun b active))) (r .begun-before b (k .active-begun b active)) (r .active-on b active) h)
-        go (turning e h) =
-            yes (or-right (countsBelow (grid (a .segment .left)) (b .segment)) (samePoint (b .segment .left) (a .segment .left) && passesUnder (b .segment) (a .segment .right)) (and-make (samePoint (b .segment .left) (a .segment .left)) (passesUnder (b .segment) (a .segment .right)) (same-left (b .segment) (a .segment) e) h))
-        go (equal e d) = rw d
-
-    own-begun : count (ownUnder a) begun ≡ count (sameObject a) low
-    own-begun =
+    pub now-under : (object : Bool) → NoneEqual object a begun → count (underOf object a) (a ∷ begun) ≡ count (isOf object) low
+    now-under object none =
         omega (
           arith,
-          k .counts (ownUnder a),
-          count-append (ownUnder a) low high,
-          count-same (ownUnder a) (sameObject a) low own-low,
-          count-none (ownUnder a) high (λ b m. no-and (sameObject a b) (under (a .segment) (b .segment)) (under-over (a .segment) (b .segment) (over-it b m))),
-          count-none (ownUnder a) ended (λ b m. no-and (sameObject a b) (under (a .segment) (b .segment)) (under-ended (a .segment) (b .segment) (k .sound b (k .ended-begun b m)) (r .ended-before b m))),
+          ap bit (no-and (isOf object a) (under (a .segment) (a .segment)) (under-itself (a .segment))),
+          k .counts (underOf object a),
+          count-append (underOf object a) low high,
+          count-same (underOf object a) (isOf object) low (of-low object none),
+          count-none (underOf object a) high (λ b m. no-and (isOf object b) (under (a .segment) (b .segment)) (under-over (a .segment) (b .segment) (g .over-it b m))),
+          count-none (underOf object a) ended (λ b m. no-and (isOf object b) (under (a .segment) (b .segment)) (under-ended (a .segment) (b .segment) (k .sound b (k .ended-begun b m)) (r .ended-before b m))),
         )
 
     -- it is not under one that has begun
-    not-under : (b : Strand) → b ∈ begun → ownUnder b a ≡ false
+    not-under : (b : Strand) → b ∈ begun → under (b .segment) (a .segment) ≡ false
     unfolding ordered
-    not-under b m = by-object (sameObject b a) refl
+    not-under b m = under-later (b .segment) (a .segment) (ordered-read (a .segment) (g .in-order)) (r .begun-before b m) turns
       where
         ended-clash : b ∈ ended → a .segment .left ≡ b .segment .left → ⊥
         ended-clash n e =
             T-not (before (a .segment .left) (b .segment .right)) (r .ended-before b n)
             (subst (λ p. T (before p (b .segment .right))) (sym e) (k .sound b m))
 
-        turns : sameObject b a ≡ true → a .segment .left ≡ b .segment .left → T (passesUnder (a .segment) (b .segment .right)) → ⊥
-        turns d e u =
+        turns : a .segment .left ≡ b .segment .left → T (passesUnder (a .segment) (b .segment .right)) → ⊥
+        turns e u =
             ⊎-elim
-            (λ n. ⊎-elim (λ l. turns-once b a e (under-it b l) d u)
-            (λ h. zero-neg (ap (side (b .segment .left) (b .segment .right)) e ∙ side-left (b .segment)) (ltZ0-neg (side (b .segment .left) (b .segment .right) (a .segment .left)) (over-it b h))) (in-append low n))
+            (λ n. ⊎-elim (λ l. turns-once b a e (g .under-it b l) u)
+            (λ h. zero-neg (ap (side (b .segment .left) (b .segment .right)) e ∙ side-left (b .segment)) (ltZ0-neg (side (b .segment .left) (b .segment .right) (a .segment .left)) (g .over-it b h))) (in-append low n))
             (λ n. ended-clash n e) (k .placed b m)
 
-        by-object : (x : Bool) → sameObject b a ≡ x → x && under (b .segment) (a .segment) ≡ false
-        by-object true d = under-later (b .segment) (a .segment) (ordered-read (a .segment) o) (r .begun-before b m) (turns d)
-        by-object false d = refl
+    pub still-under : (object : Bool) (b : Strand) → b ∈ begun → count (underOf object b) (a ∷ begun) ≡ count (underOf object b) begun
+    still-under object b m = omega (arith, ap bit (no-and (isOf object a) (under (b .segment) (a .segment)) (not-under b m)))
 
     -- nor is it the same segment of the same object as one that has
-    new-segment : (b : Strand) → b ∈ begun → sameObject a b ≡ true → a .segment ≡ b .segment → ⊥
+    new-segment : NoneEqual (a .first) a begun
     unfolding ordered
-    new-segment b m d e = ⊎-elim (λ n. ⊎-elim (λ l. below (under-it b l)) (λ h. above (over-it b h)) (in-append low n)) past (k .placed b m)
+    new-segment b m d e = ⊎-elim (λ n. ⊎-elim (λ l. below (g .under-it b l)) (λ h. above (g .over-it b h)) (in-append low n)) past (k .placed b m)
       where
         at-left : side (b .segment .left) (b .segment .right) (a .segment .left) ≡ pos 0
         at-left = ap (λ (t : Segment). side (b .segment .left) (b .segment .right) (t .left)) e ∙ side-left (b .segment)
@@ -213,12 +210,12 @@ module _ (isRegion : Bool → Bool) {begun ended : List Strand} (a : Strand) (o 
           placed = λ b m. ⊎-elim (λ e. inl (subst (λ c. c ∈ (low ++ (a ∷ high))) (sym e) (at-between low a high))) (λ n. ⊎-elim (λ h. inl (in-between low a high h)) inr (k .placed b n)) (in-cons m);
           active-begun = λ b m. ⊎-elim (λ e. subst (λ c. c ∈ (a ∷ begun)) (sym e) here) (λ n. there (k .active-begun b n)) (or-between low a high m);
           ended-begun = λ b m. there (k .ended-begun b m);
-          sound = λ b m. ⊎-elim (λ e. subst (λ (c : Strand). T (ordered (c .segment))) (sym e) o) (k .sound b) (in-cons m);
+          sound = λ b m. ⊎-elim (λ e. subst (λ (c : Strand). T (ordered (c .segment))) (sym e) (g .in-order)) (k .sound b) (in-cons m);
           once = λ b m. ⊎-elim (λ e. subst (λ c. count (ownEqual c) (a ∷ begun) ≡ 1) (sym e) (omega (arith, ap bit itself, count-none (ownEqual a) begun (λ c n. not-equal c n .0)))) (λ n. omega (arith, ap bit (not-equal b n .1), k .once b n)) (in-cons m);
           clear-ended = k .clear-ended;
           clear-active = λ b c m n. ⊎-elim (λ e. subst (λ (d : Strand). (touch (b .segment) (d .segment) ≡ false) × (touch (d .segment) (b .segment) ≡ false)) (sym e) (past b m)) (k .clear-active b c m) (or-between low a high n);
-          rising = sorted-insert low a high (k .rising) (λ b m. under-lower-left a b (under-it b m)) (λ b m. over-lower-left a b (over-it b m));
-          interior = λ b m i. ⊎-elim (λ e. subst (λ c. odd (count (ownUnder c) (a ∷ begun)) ≡ not (c .ia)) (sym e) (own (subst (λ (c : Strand). T (isRegion (c .first))) e i))) (λ n. other b n i) (in-cons m);
+          rising = sorted-insert low a high (k .rising) (λ b m. under-lower-left a b (g .under-it b m)) (λ b m. over-lower-left a b (g .over-it b m));
+          interior = λ b m i. ⊎-elim (λ e. subst (λ c. odd (count (underOf (c .first) c) (a ∷ begun)) ≡ not (c .ia)) (sym e) (own (subst (λ (c : Strand). T (isRegion (c .first))) e i))) (λ n. other b n i) (in-cons m);
         }
       where
         itself : ownEqual a a ≡ true
@@ -230,21 +227,20 @@ module _ (isRegion : Bool → Bool) {begun ended : List Strand} (a : Strand) (o 
 
         past : (b : Strand) → b ∈ ended → (touch (b .segment) (a .segment) ≡ false) × (touch (a .segment) (b .segment) ≡ false)
         past b m =
-            let c = after-clear (a .segment) (b .segment) (ordered-read (a .segment) o) (ordered-read (b .segment) (k .sound b (k .ended-begun b m))) (r .ended-before b m) in
+            let c = after-clear (a .segment) (b .segment) (ordered-read (a .segment) (g .in-order)) (ordered-read (b .segment) (k .sound b (k .ended-begun b m))) (r .ended-before b m) in
             (c .1, c .0)
 
-        own : T (isRegion (a .first)) → odd (count (ownUnder a) (a ∷ begun)) ≡ not (a .ia)
-        own i =
-            ap odd (omega (arith, own-begun, ap bit (no-and (sameObject a a) (under (a .segment) (a .segment)) (under-itself (a .segment))))) ∙ right-ia i
+        own : T (isRegion (a .first)) → odd (count (underOf (a .first) a) (a ∷ begun)) ≡ not (a .ia)
+        own i = ap odd (now-under (a .first) new-segment) ∙ right-ia i
 
-        other : (b : Strand) → b ∈ begun → T (isRegion (b .first)) → odd (count (ownUnder b) (a ∷ begun)) ≡ not (b .ia)
-        other b m i = ap odd (omega (arith, ap bit (not-under b m))) ∙ k .interior b m i
+        other : (b : Strand) → b ∈ begun → T (isRegion (b .first)) → odd (count (underOf (b .first) b) (a ∷ begun)) ≡ not (b .ia)
+        other b m i = ap odd (still-under (b .first) b m) ∙ k .interior b m i
 
   -- ---- a strand ends
 
-  pub ends : Kept isRegion begun ended (low ++ (a ∷ high))
+  pub ends : {begun ended : List Strand} (a : Strand) → T (ordered (a .segment)) → (low high : List Strand) → Kept isRegion begun ended (low ++ (a ∷ high))
       → ((b : Strand) → b ∈ low → UnderEnd a b) → ((b : Strand) → b ∈ high → OverEnd a b) → Kept isRegion begun (a ∷ ended) (low ++ high)
-  ends k under-it over-it =
+  ends {begun} {ended} a o low high k under-it over-it =
       record {
         counts = λ f. omega (arith, k .counts f, count-between f low a high);
         placed = λ b m. ⊎-elim (λ h. ⊎-elim (λ e. inr (subst (λ c. c ∈ (a ∷ ended)) (sym e) here)) inl (or-between low a high h)) (λ h. inr (there h)) (k .placed b m);

@@ -6,8 +6,8 @@ use mathlib.Core.Logic.{_⊎_, inl, inr, ⊎-elim}
 use mathlib.Core.Bool.{Bool, true, false, not, _&&_, cond, Bool·beq, true≢false}
 use mathlib.Core.List.{List, [], _∷_, map}
 use lib.Dec.{T}
-use Rattle.whole.specs.Count.{_∈_, odd, some, count}
-use Rattle.whole.proofs.Logic.{in-nil, map-in, some-find, some-make, refute, true-is, is-true, and-make, beq-refl}
+use Rattle.whole.specs.Count.{_∈_, bit, odd, some, count}
+use Rattle.whole.proofs.Logic.{in-nil, in-map, map-in, some-find, some-make, none-of, refute, true-is, is-true, and-make, beq-refl, beq-same}
 use Rattle.whole.proofs.Parity.{_⊻_, parity, parity-same, parity-xor, xor-false, odd-count}
 use Rattle.plane.specs.declared.Point.{Point}
 use Rattle.plane.specs.declared.Segment.{Segment}
@@ -22,15 +22,19 @@ use Rattle.scene.specs.declared.Scene.{Scene}
 use Rattle.scene.specs.declared.Fault.the-variants.{Nothing}
 use Rattle.scene.specs.Read.{place, segmentAt, iaAt}
 use Rattle.scene.specs.Conditions.{elements, keep, hasSegments, isRegion, half, ia, isLeft, segments, partner, isUnpaired, unpaired, isTouching, touching, touchingItself, endsOddly, oddEnd, hasWrongIa, wrongIa, touchingAcross}
-use Rattle.segments.proofs.Indices.{element-in, in-element, keep-in, no-fault}
+use Rattle.whole.proofs.Counted.{count-none, count-same}
+use Rattle.segments.proofs.Indices.{element-in, in-element, keep-in, in-keep, no-fault}
 use Rattle.sweep.specs.Lower.{under}
 use Rattle.sweep.specs.Evenly.{EndsEvenly, dominatedBy}
-use Rattle.sweep.specs.Kept.{Strand, ownUnder, ownEqual, Kept}
+use Rattle.sweep.specs.Kept.{Strand, NoneEqual, Kept}
 use Rattle.sweep.specs.Swept.{objectOf, strandOf, isBeginning, strandsBy, total, Passes}
+use Rattle.sweep.specs.Noted.{SegmentsNoted}
 use Rattle.sweep.proofs.Start.{start-interior}
 use Rattle.sweep.proofs.Begun.{strandBy, reached, strands, Of, find-of, make-of}
+use Rattle.sweep.proofs.Objects.{has}
 use Rattle.sweep.proofs.Run.{Orderly, Run}
-use Rattle.sweep.proofs.Counts.{count-by, count-own, count-segments}
+use Rattle.sweep.proofs.Notes.{AllNoted}
+use Rattle.sweep.proofs.Counts.{count-by, count-own, count-segments, in-segments}
 
 module _ (s : List ℕ) (sc : Scene) (o : Orderly s sc) (run : Run s sc (total s sc true) (total s sc false) [])
     (evenly : (first : Bool) → T (isRegion (objectOf s sc first .shape)) → EndsEvenly s (objectOf s sc first)) where
@@ -118,11 +122,10 @@ module _ (s : List ℕ) (sc : Scene) (o : Orderly s sc) (run : Run s sc (total s
     in-order : (t : Segment) → t ∈ segments s (objectOf s sc first) → Ordered t
     in-order t m = let w = left-of m in subst Ordered (w .2) (ordered-read (strandBy s sc first (w .0) .segment) (o .sound first (w .0) (w .1)))
 
-    -- the segments of one object, by the strands of both
-    by-strands : (f : Segment → Bool) (begins : Bool) → parity f (segments s (objectOf s sc first)) ≡ odd (count (λ (a : Strand). Bool·beq first (a .first) && f (a .segment)) (all begins))
-    by-strands f begins =
-        sym (odd-count f (segments s (objectOf s sc first)))
-        ∙ ap odd (count-segments s sc f first has ∙ ap (λ (n : ℕ). count (λ (a : Strand). f (a .segment)) (strandsBy s sc true first n)) (sym (taken first ∙ whole)) ∙ sym (count-own s sc (λ (a : Strand). f (a .segment)) true first (total s sc true) (total s sc false)) ∙ go begins)
+    -- how often a test holds of its segments, by the strands of both objects
+    count-strands : (f : Segment → Bool) (begins : Bool) → count f (segments s (objectOf s sc first)) ≡ count (λ (a : Strand). Bool·beq first (a .first) && f (a .segment)) (all begins)
+    count-strands f begins =
+        count-segments s sc f first has ∙ ap (λ (n : ℕ). count (λ (a : Strand). f (a .segment)) (strandsBy s sc true first n)) (sym (taken first ∙ whole)) ∙ sym (count-own s sc (λ (a : Strand). f (a .segment)) true first (total s sc true) (total s sc false)) ∙ go begins
       where
         g : Strand → Bool
         g a = Bool·beq first (a .first) && f (a .segment)
@@ -132,11 +135,21 @@ module _ (s : List ℕ) (sc : Scene) (o : Orderly s sc) (run : Run s sc (total s
         go false = omega (arith, at-end .counts g)
 
     -- and by its elements
+    count-elements : (f : Segment → Bool) (begins : Bool)
+        → count f (segments s (objectOf s sc first)) ≡ count (λ i. Bool·beq (isBeginning s sc first i) begins && f (strandBy s sc first i .segment)) (elements (objectOf s sc first))
+    count-elements f begins =
+        count-strands f begins
+        ∙ count-own s sc (λ (a : Strand). f (a .segment)) begins first (total s sc true) (total s sc false)
+        ∙ ap (λ (n : ℕ). count (λ (a : Strand). f (a .segment)) (strandsBy s sc begins first n)) (taken first ∙ whole)
+        ∙ count-by s sc (λ (a : Strand). f (a .segment)) begins first (objectOf s sc first .count)
+
+    by-strands : (f : Segment → Bool) (begins : Bool) → parity f (segments s (objectOf s sc first)) ≡ odd (count (λ (a : Strand). Bool·beq first (a .first) && f (a .segment)) (all begins))
+    by-strands f begins = sym (odd-count f (segments s (objectOf s sc first))) ∙ ap odd (count-strands f begins)
+
     by-elements : (f : Segment → Bool) (begins : Bool)
         → parity f (segments s (objectOf s sc first)) ≡ parity (λ i. Bool·beq (isBeginning s sc first i) begins && f (strandBy s sc first i .segment)) (elements (objectOf s sc first))
     by-elements f begins =
-        by-strands f begins
-        ∙ ap odd (count-own s sc (λ (a : Strand). f (a .segment)) begins first (total s sc true) (total s sc false) ∙ ap (λ (n : ℕ). count (λ (a : Strand). f (a .segment)) (strandsBy s sc begins first n)) (taken first ∙ whole) ∙ count-by s sc (λ (a : Strand). f (a .segment)) begins first (objectOf s sc first .count))
+        sym (odd-count f (segments s (objectOf s sc first))) ∙ ap odd (count-elements f begins)
         ∙ odd-count (λ i. Bool·beq (isBeginning s sc first i) begins && f (strandBy s sc first i .segment)) (elements (objectOf s sc first))
 
   -- ---- 12 and 15
@@ -241,12 +254,54 @@ module _ (s : List ℕ) (sc : Scene) (o : Orderly s sc) (run : Run s sc (total s
         even = λ first. no-fault (objectOf s sc first) (endsOddly s (objectOf s sc first)) (unless-region first (λ k. odd (endsAt (segments s (objectOf s sc first)) (grid (dominating (half s (objectOf s sc first) k))))) (λ r k h. even-at first r (dominating (half s (objectOf s sc first) k))));
         right-ia = λ first. no-fault (objectOf s sc first) (hasWrongIa s (objectOf s sc first)) (unless-region first (λ k. not (Bool·beq (ia s (objectOf s sc first) k) (interiorAbove (segments s (objectOf s sc first)) (half s (objectOf s sc first) k .segment)))) (λ r k h. agrees (ia s (objectOf s sc first) k) (interiorAbove (segments s (objectOf s sc first)) (half s (objectOf s sc first) k .segment)) (interior-at first r k h)));
         across = no-touch true false;
+        matched = λ first h f. count-elements first (true-is (hasSegments (objectOf s sc first .shape)) h) f false
+            ∙ count-same (λ i. Bool·beq (isBeginning s sc first i) false && f (strandBy s sc first i .segment)) (λ i. not (isBeginning s sc first i) && f (strandBy s sc first i .segment)) (elements (objectOf s sc first)) (λ i m. ap (λ b. b && f (strandBy s sc first i .segment)) (beq-false (isBeginning s sc first i)));
       }
     where
       unless : (b c : Bool) → (T b → T c) → b && not c ≡ false
       unless true c f = ap not (true-is c (f tt))
       unless false c f = refl
 
+      beq-false : (b : Bool) → Bool·beq b false ≡ not b
+      beq-false true = refl
+      beq-false false = refl
+
       agrees : (a b : Bool) → b ≡ a → not (Bool·beq a b) ≡ false
       agrees true b e = ap (λ x. not (Bool·beq true x)) e
       agrees false b e = ap (λ x. not (Bool·beq false x)) e
+
+  -- ---- the notes
+
+  -- an object without segments has no strands
+  under-strands : (f : Segment → Bool) (first : Bool) → count f (segments s (objectOf s sc first)) ≡ count (λ (a : Strand). Bool·beq first (a .first) && f (a .segment)) (all true)
+  under-strands f first = go (hasSegments (objectOf s sc first .shape)) refl
+    where
+      go : (b : Bool) → hasSegments (objectOf s sc first .shape) ≡ b → count f (segments s (objectOf s sc first)) ≡ count (λ (a : Strand). Bool·beq first (a .first) && f (a .segment)) (all true)
+      go true e = count-strands first e f true
+      go false e =
+          count-none f (segments s (objectOf s sc first)) (λ t m. absurd (no-segments first e m))
+          ∙ ap (λ (n : ℕ). count (λ (a : Strand). f (a .segment)) (strandsBy s sc true first n)) (sym (taken first ∙ ap (λ b. cond b (objectOf s sc first .count) 0) e))
+          ∙ sym (count-own s sc (λ (a : Strand). f (a .segment)) true first (total s sc true) (total s sc false))
+
+  pub notes-hold : (notes : List ℕ) → AllNoted s sc (total s sc true) (total s sc false) [] notes → SegmentsNoted s sc notes
+  notes-hold notes noted first k h alone =
+      noted (λ e m. absurd (in-nil m)) first k (subst (λ (n : ℕ). k < n) (sym (taken first)) h) none
+      ∙ ap (λ (n : ℕ). bit (odd n)) (sym (under-strands (under t) (not first)))
+    where
+      t : Segment
+      t = strandBy s sc first k .segment
+
+      listed-other : (b : Strand) → b ∈ all true → Bool·beq (not first) (b .first) ≡ true → b .segment ∈ segments s (objectOf s sc (not first))
+      listed-other b m d =
+          subst (λ (c : Bool). b .segment ∈ segments s (objectOf s sc c)) (sym (ap (λ (a : Strand). a .first) (w .by .is)) ∙ sym (beq-same (not first) (b .first) d))
+          (subst (λ (a : Strand). a .segment ∈ segments s (objectOf s sc (w .first))) (sym (w .by .is))
+          (in-segments s sc (w .first) (w .by .index) (subst (λ (n : ℕ). w .by .index < n) (taken (w .first)) (w .by .earlier)) (w .by .is-such)))
+        where
+          w : Of s sc true (total s sc true) (total s sc false) b
+          w = find-of s sc true (total s sc true) (total s sc false) b m
+
+      none : NoneEqual (not first) (strandBy s sc first k) (all true)
+      none b m d e =
+          true≢false
+          (sym (true-is (sameSegment t (b .segment)) (subst (λ (u : Segment). T (sameSegment t u)) e (sameSegment-refl t)))
+          ∙ none-of (sameSegment t) alone (listed-other b m d))

@@ -3,9 +3,13 @@
 pub mod Pair
 pub mod Start
 pub mod Under
+pub mod Between
+pub mod Linked
 pub mod Events
+pub mod Neighbours
 pub mod Begun
 pub mod Run
+pub mod Notes
 pub mod Counts
 pub mod Final
 pub mod Objects
@@ -14,3 +18,5 @@ pub mod Chosen
 pub mod Shifted
 pub mod Entries
 pub mod Pairs
+pub mod Located
+pub mod PointRun

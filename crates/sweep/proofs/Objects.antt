@@ -16,7 +16,7 @@ use Rattle.scene.specs.declared.Scene.{Scene}
 use Rattle.scene.specs.Read.{size, place, after, IsObject, IsScene}
 use Rattle.scene.specs.Conditions.{hasSegments}
 use Rattle.scene.proofs.Taken.{taken-scene}
-use Rattle.scene.proofs.Given.{GoodHalfsegment}
+use Rattle.scene.proofs.Given.{GoodHalfsegment, GoodPoint, good-point}
 use Rattle.segments.proofs.Elements.{half-good}
 use Rattle.sweep.specs.Swept.{objectOf, isFirst, total, Entry}
 
@@ -46,6 +46,9 @@ module _ (s : List ℕ) (sc : Scene) where
     pub good : (first : Bool) (k : ℕ) → k < total s sc first → GoodHalfsegment s (place (objectOf s sc first) k)
     good first k h = half-good s (objectOf s sc first) (read first) k (has first k h .1) (has first k h .0)
 
+    pub point-good : sc .f .shape ≡ Points → (i : ℕ) → i < sc .f .count → GoodPoint s (place (sc .f) i)
+    point-good e i h = good-point (taken-scene s sc is .f-taken) i h e
+
     pub owned : (first : Bool) (k : ℕ) → k < total s sc first → isFirst s sc (place (objectOf s sc first) k) ≡ first
     owned true k h = lt-ltb (place (sc .f) k) (sc .g .start) (subst (λ (n : ℕ). place (sc .f) k < n) (sym (taken-scene s sc is .g-taken .object .starts)) (before-end (sc .f) k (has true k h .1)))
     owned false k h = le-ltb (place (sc .g) k) (sc .g .start) (omega arith)
@@ -61,13 +64,13 @@ module _ (s : List ℕ) (sc : Scene) where
         own : isFirst s sc (place (objectOf s sc first) k) ≡ first
         own = owned first k h
 
-    pub few-events : (first : Bool) → total s sc first ≤ 1024
-    few-events first = go (hasSegments (objectOf s sc first .shape)) first
-      where
-        few : (first : Bool) → objectOf s sc first .count ≤ 1024
-        few true = taken-scene s sc is .f-taken .few
-        few false = taken-scene s sc is .g-taken .object .few
+    pub few-elements : (first : Bool) → objectOf s sc first .count ≤ 1024
+    few-elements true = taken-scene s sc is .f-taken .few
+    few-elements false = taken-scene s sc is .g-taken .object .few
 
-        go : (b : Bool) (first : Bool) → cond b (objectOf s sc first .count) 0 ≤ 1024
-        go true first = few first
-        go false first = omega arith
+    pub few-events : (first : Bool) → total s sc first ≤ 1024
+    few-events first = go (hasSegments (objectOf s sc first .shape))
+      where
+        go : (b : Bool) → cond b (objectOf s sc first .count) 0 ≤ 1024
+        go true = few-elements first
+        go false = omega arith

@@ -1,6 +1,6 @@
 -- What the sweep starts from: in a scene that has been read and whose elements are in order, no dominating point comes before an earlier one.
-use Prim.Native.Nat.{ℕ}
-use mathlib.Core.Path.{_≡_, sym, subst}
+use Prim.Native.Nat.{ℕ, _<_}
+use mathlib.Core.Path.{_≡_, sym, subst, _∙_}
 use mathlib.Core.Logic.{_⊎_, inl, inr, ⊎-elim}
 use mathlib.Core.Bool.{Bool}
 use mathlib.Core.List.{List}
@@ -8,15 +8,15 @@ use lib.Dec.{T, not-T}
 use Rattle.whole.proofs.Logic.{or-cases, or-left, and-left}
 use Rattle.plane.specs.declared.Halfsegment.{Halfsegment}
 use Rattle.plane.specs.Plane.{before, samePoint, dominating, comesBefore}
-use Rattle.plane.proofs.Order.{before-irreflexive, before-trans}
+use Rattle.plane.proofs.Order.{before-irreflexive, before-trans, comes-irreflexive}
 use Rattle.plane.proofs.Equal.{samePoint-read}
 use Rattle.scene.specs.declared.Scene.{Scene}
 use Rattle.scene.specs.declared.Fault.the-variants.{Nothing}
 use Rattle.scene.specs.Read.{IsScene}
 use Rattle.scene.specs.Conditions.{half, outOfOrder}
 use Rattle.segments.proofs.Indices.{halves-rise}
-use Rattle.sweep.specs.Swept.{objectOf}
-use Rattle.sweep.proofs.Objects.{has, read, good, owned}
+use Rattle.sweep.specs.Swept.{objectOf, total}
+use Rattle.sweep.proofs.Objects.{has, read, good, owned, few-events}
 use Rattle.sweep.proofs.Under.{NotBefore}
 use Rattle.sweep.proofs.Run.{Orderly}
 
@@ -43,5 +43,10 @@ module _ (s : List ℕ) (sc : Scene) (is : IsScene s sc) (order : (first : Bool)
       record {
         sound = λ first k h. good s sc is first k h .in-order;
         owned = owned s sc is;
-        rises = λ first k m h l. not-after (half s (objectOf s sc first) k) (half s (objectOf s sc first) m) (halves-rise s (objectOf s sc first) (read s sc is first) (order first) (has s sc first m l .0) k m h (has s sc first m l .1));
+        few = few-events s sc is;
+        rises = λ first k m h l. not-after (half s (objectOf s sc first) k) (half s (objectOf s sc first) m) (rise first k m h l);
+        differ = λ first k m h l p q e. comes-irreflexive (half s (objectOf s sc first) m) (subst (λ (h : Halfsegment). T (comesBefore h (half s (objectOf s sc first) m))) (λ i. record { segment = e i; «is_left» = (p ∙ sym q) i }) (rise first k m h l));
       }
+    where
+      rise : (first : Bool) (k m : ℕ) → k < m → m < total s sc first → T (comesBefore (half s (objectOf s sc first) k) (half s (objectOf s sc first) m))
+      rise first k m h l = halves-rise s (objectOf s sc first) (read s sc is first) (order first) (has s sc first m l .0) k m h (has s sc first m l .1)

@@ -121,7 +121,7 @@ module _ (p : Point) (t : Segment) (h : T (countsBelow (grid p) t)) where
   unfolding before
   counts-right = or-left (ltZ (p .x) (t .right .x)) _ (and-right (leZ (t .left .x) (p .x)) (ltZ (p .x) (t .right .x)) range)
 
-  counts-under : Pos (side (t .left) (t .right) p)
+  pub counts-under : Pos (side (t .left) (t .right) p)
   counts-under = ltZ0-pos (side (t .left) (t .right) p) (and-right (leZ (t .left .x) (p .x) && ltZ (p .x) (t .right .x)) (passesUnder t p) tests)
 
 -- a segment between whose ends p comes, and that passes strictly under p
@@ -143,6 +143,19 @@ counts-make p t o l r u =
     short : T (ltZ (p .x) (t .right .x))
     short = ⊎-elim (λ h. h) (λ n. absurd (at-right n)) (decide (ltZ (p .x) (t .right .x)))
 
+-- one that has ended before p does not count below it, nor does one that begins after p
+pub counts-ended : (p : Point) (t : Segment) → NotBefore p (t .right) → T (countsBelow (grid p) t) → ⊥
+counts-ended p t n h = T-not (before p (t .right)) n (counts-right p t h)
+
+pub counts-later : (p : Point) (t : Segment) → Ordered t → NotBefore (t .left) p → T (countsBelow (grid p) t) → ⊥
+counts-later p t o n h = below-left t p o (sym same) (after-y (t .left) p n same) (counts-under p t h)
+  where
+    same : t .left .x ≡ p .x
+    same =
+        sub-zero-eq (t .left .x) (p .x)
+        (nonneg-both (counts-left p t h)
+        (subst NonNeg (solve (t .left .x ∷ p .x ∷ []) (var 0 :- var 1) (opp (var 1 :- var 0)) tt) (after-x (t .left) p n)))
+
 -- ---- under the beginning of s
 
 module _ (s t : Segment) where
@@ -163,21 +176,12 @@ module _ (s t : Segment) where
   pub under-ended : T (ordered t) → NotBefore (s .left) (t .right) → under s t ≡ false
   unfolding ordered
   under-ended o n =
-      off (λ h. T-not (before (s .left) (t .right)) n (counts-right (s .left) t h))
+      off (counts-ended (s .left) t n)
       (λ e h. T-not (before (s .left) (t .right)) n (subst (λ p. T (before p (t .right))) e o))
 
   -- t begins where s does or later, and where it does, not under s
   pub under-later : Ordered t → NotBefore (t .left) (s .left) → (t .left ≡ s .left → T (passesUnder t (s .right)) → ⊥) → under s t ≡ false
-  under-later o n g = off counts g
-    where
-      counts : T (countsBelow (grid (s .left)) t) → ⊥
-      counts h = below-left t (s .left) o (sym same) (after-y (t .left) (s .left) n same) (counts-under (s .left) t h)
-        where
-          same : t .left .x ≡ s .left .x
-          same =
-              sub-zero-eq (t .left .x) (s .left .x)
-              (nonneg-both (counts-left (s .left) t h)
-              (subst NonNeg (solve (t .left .x ∷ s .left .x ∷ []) (var 0 :- var 1) (opp (var 1 :- var 0)) tt) (after-x (t .left) (s .left) n)))
+  under-later o n g = off (counts-later (s .left) t o n) g
 
 pub under-itself : (s : Segment) → under s s ≡ false
 under-itself s =

@@ -4,7 +4,7 @@
 use Prim.Native.Nat.{ℕ, _+_}
 use mathlib.Core.Path.{_≡_}
 use mathlib.Core.Logic.{_⊎_}
-use mathlib.Core.Bool.{Bool, false, not, _&&_, Bool·beq}
+use mathlib.Core.Bool.{Bool, true, false, not, _&&_, Bool·beq}
 use mathlib.Core.List.{List}
 use lib.Dec.{T}
 use Rattle.whole.specs.Count.{_∈_, count, odd}
@@ -19,12 +19,20 @@ pub record Strand : Type 0 where
   pub segment : Segment
   pub ia : Bool
 
-abbrev pub sameObject : Strand → Strand → Bool
-sameObject a b = Bool·beq (a .first) (b .first)
+-- a strand of F, or of G
+abbrev pub isOf : Bool → Strand → Bool
+isOf object b = Bool·beq object (b .first)
 
--- b passes under the beginning of a, and belongs to the same object
-abbrev pub ownUnder : Strand → Strand → Bool
-ownUnder a b = sameObject a b && under (a .segment) (b .segment)
+abbrev pub sameObject : Strand → Strand → Bool
+sameObject a = isOf (a .first)
+
+-- b passes under the beginning of a, and belongs to an object
+abbrev pub underOf : Bool → Strand → Strand → Bool
+underOf object a b = isOf object b && under (a .segment) (b .segment)
+
+-- no strand of the object has the segment of a
+abbrev pub NoneEqual : Bool → Strand → List Strand → Type 0
+NoneEqual object a begun = (b : Strand) → b ∈ begun → isOf object b ≡ true → a .segment ≡ b .segment → ⊥
 
 -- b is the same segment of the same object
 abbrev pub ownEqual : Strand → Strand → Bool
@@ -50,4 +58,4 @@ module _ (isRegion : Bool → Bool) where
         → (touch (a .segment) (b .segment) ≡ false) × (touch (b .segment) (a .segment) ≡ false)
     pub rising : Sorted Lower active
     -- the interior is above a region's segment where an even number of its own pass under the segment's beginning
-    pub interior : (a : Strand) → a ∈ begun → T (isRegion (a .first)) → odd (count (ownUnder a) begun) ≡ not (a .ia)
+    pub interior : (a : Strand) → a ∈ begun → T (isRegion (a .first)) → odd (count (underOf (a .first) a) begun) ≡ not (a .ia)

@@ -6,3 +6,4 @@ pub mod Swept
 pub mod Evenly
 pub mod Ready
 pub mod Noted
+pub mod Located

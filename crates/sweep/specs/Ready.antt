@@ -5,18 +5,24 @@ use mathlib.Core.Bool.{Bool}
 use mathlib.Core.List.{List}
 use lib.ListN.{length, getD, take}
 use Rattle.whole.specs.Count.{_∈_}
+use Rattle.scene.specs.declared.Layout.{Layout}
 use Rattle.scene.specs.declared.Scene.{Scene}
-use Rattle.scene.specs.Read.{IsScene}
+use Rattle.scene.specs.Read.{place, IsScene}
 use Rattle.scene.proofs.Given.{GoodHalfsegment}
 use Rattle.sweep.specs.Swept.{isFirst, Entry}
 
--- the event's record and those of the first n entries are halfsegments, whole and in range
-pub record AllReadable (s : List ℕ) (at : ℕ) (status : List ℕ) (n : ℕ) : Type 0 where
-  pub event : GoodHalfsegment s at
+-- the offset is the record of an element
+pub record Placed (l : Layout) (at : ℕ) : Type 0 where
+  pub index : ℕ
+  pub few : index < 1024
+  pub is-place : at ≡ place l index
+
+-- the records of the first n entries are halfsegments, whole and in range
+pub record Readable (s status : List ℕ) (n : ℕ) : Type 0 where
   pub room : n ≤ length status
   pub entries : (i : ℕ) → i < n → GoodHalfsegment s (getD status i 0)
 
--- they are records of a scene, the event's of F or not
+-- they are records of a scene, and so is the event's, which is of F or not
 pub record Ready (s : List ℕ) (sc : Scene) (first : Bool) (at : ℕ) (status : List ℕ) (n : ℕ) : Type 0 where
   pub scene : IsScene s sc
   pub event : Entry s sc at

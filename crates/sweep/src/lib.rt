@@ -1,11 +1,12 @@
-// The sweep over the halfsegments of a scene, from left to right: where it accepts, the conditions 11 to 15 hold. Where it does not, nothing is said.
+// The sweep over the halfsegments of a scene, from left to right: where it accepts, the conditions 11 to 15 hold, and how many of the other
+// object's segments pass under each segment is noted, as a parity. Where it does not, nothing is said.
 use event::Step;
 use scene::Layout;
 use scene::Scene;
 use scene::bytes;
 use scene::records;
 ghost use mathlib.Core.Path.{_≡_};
-ghost use mathlib.Core.Bool.{Bool, true, false, cond};
+ghost use mathlib.Core.Bool.{Bool, true, false, not, _&&_, cond};
 ghost use Prim.Native.Nat.{ℕ, _<_, _≤_};
 ghost use lib.Dec.{T};
 ghost use lib.ListN.{length, take};
@@ -15,9 +16,13 @@ ghost use Rattle.scene.specs.Read.{IsScene};
 ghost use Rattle.scene.specs.Conditions.{hasSegments, outOfOrder};
 ghost use Rattle.sweep.specs.Evenly.{RegionsEndEvenly};
 ghost use Rattle.sweep.specs.Swept.{objectOf, total, takesFirst, Taken, Entry, Passes};
+ghost use Rattle.sweep.specs.Noted.{SegmentsNoted, Noted};
 
 pub mod evenly;
 pub mod event;
+pub mod note;
+pub mod place;
+pub mod points;
 pub mod status;
 
 // How many events an object has.
@@ -57,23 +62,31 @@ fn next_of(first: bool, i: usize, j: usize) -> usize
 }
 
 // The element k of F, or of G.
-fn take_event(s: &[u8], scene: Scene, first: bool, k: usize, status: &mut [u16], n: usize) -> Step
-    requires { ⌜ IsScene (now s) scene × (k < total (now s) scene first) × (n ≤ length (now status)) × ((e : ℕ) → e ∈ take n (now status) → Entry (now s) scene e) ⌝ }
-    ensures { λ r. ⌜ (length (now (status .exit)) ≡ length (now (status .entry))) × ((m : ℕ) → r ≡ Step.On m → (m ≤ length (now (status .exit))) × Taken (now (s .entry)) scene first k (take n (now (status .entry))) (take m (now (status .exit)))) ⌝ }
+fn take_event(
+    s: &[u8],
+    scene: Scene,
+    first: bool,
+    k: usize,
+    status: &mut [u16],
+    n: usize,
+    notes: &[u8],
+) -> Step
+    requires { ⌜ IsScene (now s) scene × (k < total (now s) scene first) × (n ≤ length (now status)) × ((e : ℕ) → e ∈ take n (now status) → Entry (now s) scene e) × (2048 ≤ length (now notes)) ⌝ }
+    ensures { λ r. ⌜ (length (now (status .exit)) ≡ length (now (status .entry))) × ((m v : ℕ) → r ≡ Step.On m v → (m ≤ length (now (status .exit))) × Taken (now (s .entry)) scene first k (now (notes .entry)) (take n (now (status .entry))) (take m (now (status .exit))) v) ⌝ }
 {
     let l = if first { scene.f } else { scene.g };
     let at = records::place(l, k);
     if s[at + 17] == 1 {
         event::begin(s, scene, first, at, status, n)
     } else {
-        event::end(s, scene, first, at, status, n)
+        event::end(s, scene, first, at, status, n, notes)
     }
 }
 
 // All events, one after the other.
-fn run_events(s: &[u8], scene: Scene, status: &mut [u16]) -> bool
-    requires { ⌜ IsScene (now s) scene × ((first : Bool) → outOfOrder (now s) (objectOf (now s) scene first) ≡ Nothing) ⌝ }
-    ensures { λ r. ⌜ (length (now (status .exit)) ≡ length (now (status .entry))) × (T r → RegionsEndEvenly (now (s .entry)) scene → Passes (now (s .entry)) scene) ⌝ }
+fn run_events(s: &[u8], scene: Scene, status: &mut [u16], notes: &mut [u8]) -> bool
+    requires { ⌜ IsScene (now s) scene × ((first : Bool) → outOfOrder (now s) (objectOf (now s) scene first) ≡ Nothing) × (2048 ≤ length (now notes)) ⌝ }
+    ensures { λ r. ⌜ (length (now (status .exit)) ≡ length (now (status .entry))) × (length (now (notes .exit)) ≡ length (now (notes .entry))) × (T r → RegionsEndEvenly (now (s .entry)) scene → Passes (now (s .entry)) scene × SegmentsNoted (now (s .entry)) scene (now (notes .exit))) ⌝ }
 {
     let f = scene.f;
     let g = scene.g;
@@ -84,27 +97,39 @@ fn run_events(s: &[u8], scene: Scene, status: &mut [u16]) -> bool
     while i + j < all {
         let first = takes_first(s, scene, i, j);
         let k = next_of(first, i, j);
-        match take_event(s, scene, first, k, status, n) {
-            Step::On(m) => {
-                n = m;
-            }
-            Step::Stop => {
-                return false;
-            }
-        }
+        let Step::On(m, v) = take_event(s, scene, first, k, status, n, notes) else {
+            return false;
+        };
+        n = m;
+        notes[note::slot(first, k)] = v;
         i += first as usize;
         j += !first as usize;
     }
     n == 0
 }
 
-pub fn accepts(s: &[u8], scene: Scene) -> bool
-    requires { ⌜ IsScene (now s) scene × ((first : Bool) → outOfOrder (now s) (objectOf (now s) scene first) ≡ Nothing) ⌝ }
-    ensures { λ r. ⌜ (T r → Passes (now (s .entry)) scene) ⌝ }
+// Does F have points, and G segments?
+fn has_points(scene: Scene) -> bool
+    ensures { λ r. ⌜ r ≡ (not (hasSegments (scene .f .shape)) && hasSegments (scene .g .shape)) ⌝ }
+{
+    let f = scene.f;
+    let g = scene.g;
+    let k = f.shape;
+    let l = g.shape;
+    !segments::has_segments(k) && segments::has_segments(l)
+}
+
+pub fn accepts(s: &[u8], scene: Scene, notes: &mut [u8]) -> bool
+    requires { ⌜ IsScene (now s) scene × ((first : Bool) → outOfOrder (now s) (objectOf (now s) scene first) ≡ Nothing) × (2048 ≤ length (now notes)) ⌝ }
+    ensures { λ r. ⌜ (length (now (notes .exit)) ≡ length (now (notes .entry))) × (T r → Passes (now (s .entry)) scene × Noted (now (s .entry)) scene (now (notes .exit))) ⌝ }
 {
     if !evenly::regions_end_evenly(s, scene) {
         return false;
     }
     let mut status = [0u16; 1024];
-    run_events(s, scene, &mut status)
+    if has_points(scene) {
+        points::run_points(s, scene, &mut status, notes)
+    } else {
+        run_events(s, scene, &mut status, notes)
+    }
 }

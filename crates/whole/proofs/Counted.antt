@@ -1,10 +1,13 @@
--- Counts over lists: of an appended list, of tests that agree, and of an element put between two lists.
+-- Counts over lists: of an appended list, of tests that agree, and of an element put between two lists; and "some" as a count above zero.
 use Prim.Native.Nat.{ℕ, _+_}
+use native.Mathlib.Nat.{zero-add}
 use native.Mathlib.Omega.{arith}
 use mathlib.Core.Path.{_≡_, refl, sym, ap, _∙_}
-use mathlib.Core.Bool.{Bool, false}
+use mathlib.Core.Bool.{Bool, true, false, _||_}
 use mathlib.Core.List.{List, [], _∷_, _++_}
-use Rattle.whole.specs.Count.{_∈_, here, there, bit, count}
+use lib.Dec.{ltb}
+use borrow.Author.Tests.{lt-ltb}
+use Rattle.whole.specs.Count.{_∈_, here, there, bit, some, count}
 use Rattle.whole.proofs.Logic.{in-append, in-left, in-right}
 use mathlib.Core.Logic.{_⊎_, inl, inr, ⊎-elim}
 
@@ -36,3 +39,11 @@ module _ {A : Type 0} where
   or-between [] a m (there h) = inr h
   or-between (c ∷ l) a m here = inr here
   or-between (c ∷ l) a m (there h) = ⊎-elim inl (λ k. inr (there k)) (or-between l a m h)
+
+  pub some-count : (f : A → Bool) (l : List A) → some f l ≡ ltb 0 (count f l)
+  some-count f [] = refl
+  some-count f (a ∷ l) = go (f a) (some-count f l)
+    where
+      go : (b : Bool) → some f l ≡ ltb 0 (count f l) → b || some f l ≡ ltb 0 (bit b + count f l)
+      go true e = sym (lt-ltb 0 (1 + count f l) (omega arith))
+      go false e = e ∙ ap (ltb 0) (sym (zero-add (count f l)))

@@ -26,16 +26,16 @@ in-order s sc e = go (outOfOrder s (sc .f)) refl e
     go Nothing q e = λ first. elim first as (λ b. outOfOrder s (objectOf s sc b) ≡ Nothing) [ true ↦ q | false ↦ e ]
 
 ordered : (c : tie.After-enum-told2)
-    → let z = c .before .before .before .before in
+    → let z = c .before .before .before .before .before in
     (first : Bool) → outOfOrder (z .args .s .now) (objectOf (z .args .s .now) (z .args .scene) first) ≡ Nothing
 ordered c =
-    let z = c .before .before .before .before in
+    let z = c .before .before .before .before .before in
     in-order (z .args .s .now) (z .args .scene) (sym (c .before .before .scene-fault .ensures) ∙ c .enum-told2 .given .1)
 
 scene-fault-requires : tie.Need-scene-fault-requires
 scene-fault-requires c κs =
-    let z = c .before in
-    let t = taken-scene (z .args .s .now) (z .args .scene) (z .pre) in
+    let z = c .before .before in
+    let t = taken-scene (z .args .s .now) (z .args .scene) (z .pre .0) in
     (t .f-read, t .g-taken .read)
 
 enum-told : tie.Need-enum-told
@@ -46,16 +46,32 @@ enum-told-2 c = search needs
 
 accepts-requires : tie.Need-accepts-requires
 accepts-requires c κs =
-    let z = c .before .before .before .before in
-    (z .pre, ordered c)
+    let z = c .before .before .before .before .before .before in
+    (z .pre .0, ordered (c .before), z .pre .1)
 
 returns : tie.Need-returns
-returns c = λ no. absurd no
+returns c = (refl, λ no. absurd no)
+
+same-length : tie.Need-same-length
+same-length c = search needs
 
 returns-2 : tie.Need-returns-2
 returns-2 c =
-    let z = c .before .before .before .before .before in
-    λ t. swept (z .args .s .now) (z .args .scene) (ordered (c .before)) (c .accepts .ensures t)
+    let r = c .before .before in
+    let o = r .before .before in
+    let z = o .before .before .before .before .before in (
+      r .accepts .ensures .0,
+      λ t. let w = r .accepts .ensures .1 t in (swept (z .args .s .now) (z .args .scene) (ordered o) (w .0), w .1),
+    )
 
 pub is-swept-spec : {M : Type 1} → statement M
-is-swept-spec = tie.close (tie.spec scene-fault-requires enum-told enum-told-2 accepts-requires returns returns-2)
+is-swept-spec =
+    tie.close
+    (tie.spec
+    scene-fault-requires
+    enum-told
+    enum-told-2
+    accepts-requires
+    returns
+    same-length
+    returns-2)

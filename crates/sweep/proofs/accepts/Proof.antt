@@ -1,15 +1,64 @@
 -- `sweep::accepts` meets its contract: the regions end evenly, and the run of all events ends with none active.
+use mathlib.Core.Path.{_≡_, refl, sym, ap, _∙_}
+use mathlib.Core.Bool.{not, _&&_, true≢false}
 use borrow.Author.Needs.{needs}
 use borrow.Author.Tests.{not-false}
-use Rattle.whole.proofs.Logic.{is-true}
+use lib.Dec.{T}
+use Rattle.whole.proofs.Logic.{is-true, is-false, true-is, false-is, and-left, and-right, and-make}
+use Rattle.scene.specs.declared.Shape.the-variants.{Points}
+use Rattle.scene.specs.Conditions.{hasSegments}
+use Rattle.segments.proofs.Elements.{no-segments-points}
+use Rattle.sweep.specs.Evenly.{RegionsEndEvenly}
 use Rattle.sweep.proofs.accepts.Statement.{statement}
 use Rattle.sweep.proofs.accepts.Tie as tie
+
+-- the regions end evenly
+module _ (c : tie.Else1) where
+  abbrev z : tie.Start
+  z = c .before .before .before .before
+
+  evenly : RegionsEndEvenly (z .args .s .now) (z .args .scene)
+  evenly = c .before .regions-end-evenly .ensures (is-true _ (not-false (c .before .regions-end-evenly .result) (c .if1 .left)))
+
+-- F has points, and G segments
+module _ (c : tie.Then2) where
+  abbrev y : tie.Start
+  y = z (c .before .before)
+
+  tests : T (not (hasSegments (y .args .scene .f .shape)) && hasSegments (y .args .scene .g .shape))
+  tests = is-true _ (sym (c .before .has-points .ensures) ∙ c .if2 .taken)
+
+  points : y .args .scene .f .shape ≡ Points
+  points = no-segments-points (y .args .scene .f .shape) (false-is (hasSegments (y .args .scene .f .shape)) (and-left (not (hasSegments (y .args .scene .f .shape))) (hasSegments (y .args .scene .g .shape)) tests))
+
+  lines : T (hasSegments (y .args .scene .g .shape))
+  lines = and-right (not (hasSegments (y .args .scene .f .shape))) (hasSegments (y .args .scene .g .shape)) tests
+
+-- or not
+module _ (c : tie.Else2) where
+  abbrev x : tie.Start
+  x = z (c .before .before)
+
+  none : x .args .scene .f .shape ≡ Points → T (hasSegments (x .args .scene .g .shape)) → ⊥
+  none e h =
+      true≢false
+      (sym (true-is _ (and-make (not (hasSegments (x .args .scene .f .shape))) (hasSegments (x .args .scene .g .shape)) (is-false (hasSegments (x .args .scene .f .shape)) (ap hasSegments e)) h))
+      ∙ sym (c .before .has-points .ensures) ∙ c .if2 .left)
 
 regions-end-evenly-requires : tie.Need-regions-end-evenly-requires
 regions-end-evenly-requires c κs = search needs
 
 returns : tie.Need-returns
-returns c = λ no. absurd no
+returns c = (refl, λ no. absurd no)
+
+has-points-requires : tie.Need-has-points-requires
+has-points-requires c κs = search needs
+
+slice-aggregate-run-points : tie.Need-slice-aggregate-run-points
+slice-aggregate-run-points c = search needs
+
+run-points-requires : tie.Need-run-points-requires
+run-points-requires c κs = let b = c .before .before in (y b .pre .0, y b .pre .1, points b, lines b, y b .pre .2)
 
 slice-aggregate-run-events : tie.Need-slice-aggregate-run-events
 slice-aggregate-run-events c = search needs
@@ -17,10 +66,26 @@ slice-aggregate-run-events c = search needs
 run-events-requires : tie.Need-run-events-requires
 run-events-requires c κs = search needs
 
+same-length : tie.Need-same-length
+same-length c = search needs
+
 returns-2 : tie.Need-returns-2
 returns-2 c =
-    let e = c .before .before .before in
-    λ t. c .before .run-events .ensures .1 t (e .before .regions-end-evenly .ensures (is-true _ (not-false (e .before .regions-end-evenly .result) (e .if1 .left))))
+    let r = c .before .before .before in
+    let b = r .before .before .before in
+    (r .run-points .ensures .1, λ t. r .run-points .ensures .2 t (evenly (b .before .before)))
+
+same-length-2 : tie.Need-same-length-2
+same-length-2 c = search needs
+
+returns-3 : tie.Need-returns-3
+returns-3 c =
+    let r = c .before .before .before in
+    let b = r .before .before .before in (
+      r .run-events .ensures .1,
+      λ t. let w = r .run-events .ensures .2 t (evenly (b .before .before)) in
+          (w .0, record { of-segments = w .1; of-points = λ e h. absurd (none b e h) }),
+    )
 
 pub accepts-spec : {M : Type 1} → statement M
 accepts-spec =
@@ -28,6 +93,12 @@ accepts-spec =
     (tie.spec
     regions-end-evenly-requires
     returns
+    has-points-requires
+    slice-aggregate-run-points
+    run-points-requires
     slice-aggregate-run-events
     run-events-requires
-    returns-2)
+    same-length
+    returns-2
+    same-length-2
+    returns-3)

@@ -1,5 +1,5 @@
--- `sweep::run_events` meets its contract. The loop's invariant: i elements of F and j of G have been taken, and the first n entries of the status are
--- the active segments of such a run. The measure is the number of elements that are left.
+-- `sweep::run_events` meets its contract. The loop's invariant: i elements of F and j of G have been taken and noted, and the first n entries of the
+-- status are the active segments of such a run. The measure is the number of elements that are left.
 use Prim.Native.Nat.{ℕ, _+_, _-_, _<_, _≤_}
 use native.Mathlib.Omega.{arith}
 use mir.Val.{boolByte}
@@ -7,61 +7,77 @@ use mathlib.Core.Path.{_≡_, refl, sym, ap, subst, _∙_}
 use mathlib.Core.Bool.{Bool, true, false, not, cond}
 use mathlib.Core.List.{List, []}
 use lib.Dec.{T, eqb→eq}
-use lib.ListN.{length, take}
+use lib.ListN.{length, take, set, length-set}
 use borrow.Author.Needs.{needs}
-use Rattle.whole.specs.Count.{_∈_}
-use Rattle.sweep.specs.Swept.{objectOf, total, takesFirst, Taken, Entry, Passes}
-use Rattle.whole.proofs.Logic.{in-nil}
+use Rattle.sweep.specs.Swept.{slot, total, Taken}
 use Rattle.sweep.proofs.Begun.{reached}
-use Rattle.sweep.proofs.Run.{Run, Orderly, run-start}
-use Rattle.sweep.proofs.Objects.{entry, few-events}
+use Rattle.sweep.proofs.Run.{Run, Orderly, run-start, advance}
+use Rattle.sweep.proofs.Notes.{AllNoted, noted-start, noted-next, slot-room}
+use Rattle.sweep.proofs.Objects.{few-events}
 use Rattle.sweep.proofs.Ordered.{orderly}
-use Rattle.sweep.proofs.Final.{passes}
-use Rattle.sweep.proofs.Chosen.{Chosen, chosen, further, taken-next, entries-still}
+use Rattle.sweep.proofs.Final.{passes, notes-hold}
+use Rattle.sweep.proofs.Chosen.{Chosen, chosen, further, next-by, both-within, entries-are}
 use Rattle.sweep.proofs.run_events.Statement.{statement}
 use Rattle.sweep.proofs.run_events.Tie as tie
 
 abbrev Inv-loop : tie.InvT-loop
-Inv-loop s scene status₀ all i₀ j₀ n₀ status i j n =
-    (length status ≡ length status₀) × (i ≤ total s scene true) × (j ≤ total s scene false) × (n ≤ length status)
-    × ((e : ℕ) → e ∈ take n status → Entry s scene e) × Run s scene i j (take n status)
+Inv-loop s scene status₀ notes₀ all i₀ j₀ n₀ status notes i j n =
+    (length status ≡ length status₀) × (length notes ≡ length notes₀) × (i ≤ total s scene true) × (j ≤ total s scene false) × (n ≤ length status)
+    × Run s scene i j (take n status) × AllNoted s scene i j (take n status) notes
 
 abbrev μ-loop : tie.MeasureT-loop
-μ-loop s scene status₀ all i₀ j₀ n₀ status i j n = total s scene true + total s scene false - (i + j)
+μ-loop s scene status₀ notes₀ all i₀ j₀ n₀ status notes i j n = total s scene true + total s scene false - (i + j)
+
+-- the loop's test
+module _ (d : tie.At-loop Inv-loop μ-loop) where
+  abbrev z : tie.Start Inv-loop μ-loop
+  z = d .before .before .before .before .before .before .before .before
+
+  start : Orderly (z .args .s .now) (z .args .scene)
+  start = orderly (z .args .s .now) (z .args .scene) (z .pre .0) (z .pre .1)
+
+  few : (first : Bool) → total (z .args .s .now) (z .args .scene) first ≤ 1024
+  few = few-events (z .args .s .now) (z .args .scene) (z .pre .0)
+
+  reached-within : (b : Bool) → reached (z .args .s .now) (z .args .scene) (d .loop .i) (d .loop .j) b ≤ total (z .args .s .now) (z .args .scene) b
+  reached-within = both-within (z .args .s .now) (z .args .scene) start (d .loop .i) (d .loop .j) (d .loop .inv .2) (d .loop .inv .3)
+
+  room : 2048 ≤ length (d .loop .notes)
+  room = omega (arith, d .loop .inv .1, z .pre .2)
 
 -- an event is chosen
 module _ (c : tie.After-next-of Inv-loop μ-loop) where
   abbrev d : tie.At-loop Inv-loop μ-loop
   d = c .before .before .before
 
-  abbrev z : tie.Start Inv-loop μ-loop
-  z = d .before .before .before .before .before .before .before
+  abbrev y : tie.Start Inv-loop μ-loop
+  y = z d
 
-  start : Orderly (z .args .s .now) (z .args .scene)
-  start = orderly (z .args .s .now) (z .args .scene) (z .pre .0) (z .pre .1)
-
-  left : d .loop .i + d .loop .j < total (z .args .s .now) (z .args .scene) true + total (z .args .s .now) (z .args .scene) false
+  left : d .loop .i + d .loop .j < total (y .args .s .now) (y .args .scene) true + total (y .args .s .now) (y .args .scene) false
   left = omega (arith, d .before .before .event-count .ensures, d .before .event-count2 .ensures)
 
-  it : Chosen (z .args .s .now) (z .args .scene) start (d .loop .i) (d .loop .j) (c .before .takes-first .result)
+  it : Chosen (y .args .s .now) (y .args .scene) (start d) (d .loop .i) (d .loop .j) (c .before .takes-first .result)
   it =
-      chosen (z .args .s .now) (z .args .scene) start (d .loop .i) (d .loop .j) (d .loop .inv .1) left (c .before .takes-first .result)
+      chosen (y .args .s .now) (y .args .scene) (start d) (d .loop .i) (d .loop .j) (d .loop .inv .2) left (c .before .takes-first .result)
       (sym (c .before .takes-first .ensures))
 
-  its-index : reached (z .args .s .now) (z .args .scene) (d .loop .i) (d .loop .j) (c .before .takes-first .result) ≡ c .next-of .result
+  its-index : reached (y .args .s .now) (y .args .scene) (d .loop .i) (d .loop .j) (c .before .takes-first .result) ≡ c .next-of .result
   its-index = go (c .before .takes-first .result) ∙ sym (c .next-of .ensures)
     where
-      go : (b : Bool) → reached (z .args .s .now) (z .args .scene) (d .loop .i) (d .loop .j) b ≡ cond b (d .loop .i) (d .loop .j)
+      go : (b : Bool) → reached (y .args .s .now) (y .args .scene) (d .loop .i) (d .loop .j) b ≡ cond b (d .loop .i) (d .loop .j)
       go true = refl
       go false = refl
 
-  within : c .next-of .result < total (z .args .s .now) (z .args .scene) (c .before .takes-first .result)
-  within = subst (λ (k : ℕ). k < total (z .args .s .now) (z .args .scene) (c .before .takes-first .result)) its-index (it .more)
+  within : c .next-of .result < total (y .args .s .now) (y .args .scene) (c .before .takes-first .result)
+  within = subst (λ (k : ℕ). k < total (y .args .s .now) (y .args .scene) (c .before .takes-first .result)) its-index (it .more)
+
+  short : c .next-of .result < 1024
+  short = omega (arith, within, few d (c .before .takes-first .result))
 
 -- and taken
 module _ (c : tie.After-known-told Inv-loop μ-loop) where
   abbrev e : tie.After-next-of Inv-loop μ-loop
-  e = c .before .before .before .before .before .before .before
+  e = c .before .before .before .before .before .before .before .before
 
   abbrev new : List ℕ
   new = c .before .before .before .before .before .take-event .last .1 .1 .1 .1 .0
@@ -69,17 +85,44 @@ module _ (c : tie.After-known-told Inv-loop μ-loop) where
   abbrev m : ℕ
   m = c .before .m .given .0 .0
 
+  abbrev v : ℕ
+  v = c .before .m .given .0 .1 .0
+
   done : (m ≤ length new)
-      × Taken (z e .args .s .now) (z e .args .scene) (e .before .takes-first .result) (e .next-of .result) (take (d e .loop .n) (d e .loop .status)) (take m new)
-  done = c .before .before .before .before .before .take-event .ensures .1 m (c .before .m .given .1)
+      × Taken (y e .args .s .now) (y e .args .scene) (e .before .takes-first .result) (e .next-of .result) (d e .loop .notes) (take (d e .loop .n) (d e .loop .status)) (take m new) v
+  done = c .before .before .before .before .before .take-event .ensures .1 m v (c .before .m .given .1)
 
-  on : (d e .loop .i + boolByte (e .before .takes-first .result) ≤ total (z e .args .s .now) (z e .args .scene) true)
-      × (d e .loop .j + boolByte (not (e .before .takes-first .result)) ≤ total (z e .args .s .now) (z e .args .scene) false)
+  on : (d e .loop .i + boolByte (e .before .takes-first .result) ≤ total (y e .args .s .now) (y e .args .scene) true)
+      × (d e .loop .j + boolByte (not (e .before .takes-first .result)) ≤ total (y e .args .s .now) (y e .args .scene) false)
       × (d e .loop .i + boolByte (e .before .takes-first .result) + (d e .loop .j + boolByte (not (e .before .takes-first .result))) ≡ d e .loop .i + d e .loop .j + 1)
-  on = further (z e .args .s .now) (z e .args .scene) (start e) (d e .loop .i) (d e .loop .j) (e .before .takes-first .result) (it e) (d e .loop .inv .1) (d e .loop .inv .2)
+  on = further (y e .args .s .now) (y e .args .scene) (start (d e)) (d e .loop .i) (d e .loop .j) (e .before .takes-first .result) (it e) (d e .loop .inv .2) (d e .loop .inv .3)
 
-  few : (first : Bool) → total (z e .args .s .now) (z e .args .scene) first ≤ 1024
-  few = few-events (z e .args .s .now) (z e .args .scene) (z e .pre .0)
+-- and noted
+module _ (c : tie.After-slot Inv-loop μ-loop) where
+  abbrev told : tie.After-known-told Inv-loop μ-loop
+  told = c .before
+
+  abbrev x : tie.After-next-of Inv-loop μ-loop
+  x = e told
+
+  slot-is : slot (x .before .takes-first .result) (reached (y x .args .s .now) (y x .args .scene) (d x .loop .i) (d x .loop .j) (x .before .takes-first .result)) ≡ c .slot .result
+  slot-is = ap (slot (x .before .takes-first .result)) (its-index x) ∙ sym (c .slot .ensures)
+
+  event : Taken (y x .args .s .now) (y x .args .scene) (x .before .takes-first .result) (reached (y x .args .s .now) (y x .args .scene) (d x .loop .i) (d x .loop .j) (x .before .takes-first .result)) (d x .loop .notes) (take (d x .loop .n) (d x .loop .status)) (take (m told) (new told)) (v told)
+  event =
+      subst (λ (k : ℕ). Taken (y x .args .s .now) (y x .args .scene) (x .before .takes-first .result) k (d x .loop .notes) (take (d x .loop .n) (d x .loop .status)) (take (m told) (new told)) (v told))
+      (sym (its-index x)) (done told .1)
+
+  run-on : Run (y x .args .s .now) (y x .args .scene) (d x .loop .i + boolByte (x .before .takes-first .result)) (d x .loop .j + boolByte (not (x .before .takes-first .result))) (take (m told) (new told))
+  run-on =
+      advance (y x .args .s .now) (y x .args .scene) (start (d x)) (d x .loop .inv .5) (x .before .takes-first .result) (it x .more) (it x .least)
+      (next-by (y x .args .s .now) (y x .args .scene) (start (d x)) (d x .loop .i) (d x .loop .j) (x .before .takes-first .result)) event
+
+  noted-on : AllNoted (y x .args .s .now) (y x .args .scene) (d x .loop .i + boolByte (x .before .takes-first .result)) (d x .loop .j + boolByte (not (x .before .takes-first .result))) (take (m told) (new told)) (set (d x .loop .notes) (c .slot .result) (v told))
+  noted-on =
+      subst (λ (p : ℕ). AllNoted (y x .args .s .now) (y x .args .scene) (d x .loop .i + boolByte (x .before .takes-first .result)) (d x .loop .j + boolByte (not (x .before .takes-first .result))) (take (m told) (new told)) (set (d x .loop .notes) p (v told))) slot-is
+      (noted-next (y x .args .s .now) (y x .args .scene) (start (d x)) (d x .loop .inv .5) (x .before .takes-first .result) (it x .more) (it x .least)
+      (next-by (y x .args .s .now) (y x .args .scene) (start (d x)) (d x .loop .i) (d x .loop .j) (x .before .takes-first .result)) (reached-within (d x)) (d x .loop .notes) (room (d x)) (d x .loop .inv .6) event)
 
 event-count-requires : tie.Need-event-count-requires Inv-loop μ-loop
 event-count-requires c κs = search needs
@@ -89,27 +132,33 @@ event-count-requires-2 c κs = search needs
 
 add-all : tie.Need-add-all Inv-loop μ-loop
 add-all c =
-    let z = c .before .before .before .before .before .before in
-    omega (arith, c .before .event-count .ensures, c .event-count2 .ensures, few-events (z .args .s .now) (z .args .scene) (z .pre .0) true, few-events (z .args .s .now) (z .args .scene) (z .pre .0) false)
+    let z = c .before .before .before .before .before .before .before in
+    let few = few-events (z .args .s .now) (z .args .scene) (z .pre .0) in
+    omega (arith, c .before .event-count .ensures, c .event-count2 .ensures, few true, few false)
 
 loop-holds : tie.Need-loop-holds Inv-loop μ-loop
 loop-holds c =
-    let a = c .before .before .before .before .before .before .args in
-    (refl, omega arith, omega arith, omega arith, λ e m. absurd (in-nil m), run-start (a .s .now) (a .scene))
+    let a = c .before .before .before .before .before .before .before .args in
+    (refl, refl, omega arith, omega arith, omega arith, run-start (a .s .now) (a .scene), noted-start (a .s .now) (a .scene) (a .notes .now))
 
 add-loop : tie.Need-add-loop Inv-loop μ-loop
-add-loop c =
-    let z = c .before .before .before .before .before .before .before in
-    omega (arith, c .loop .inv .1, c .loop .inv .2, few-events (z .args .s .now) (z .args .scene) (z .pre .0) true, few-events (z .args .s .now) (z .args .scene) (z .pre .0) false)
+add-loop c = omega (arith, c .loop .inv .2, c .loop .inv .3, few c true, few c false)
 
 takes-first-requires : tie.Need-takes-first-requires Inv-loop μ-loop
-takes-first-requires c κs = (c .before .before .before .before .before .before .before .before .pre .0, c .before .loop .inv .1, c .before .loop .inv .2)
+takes-first-requires c κs = (z (c .before) .pre .0, c .before .loop .inv .2, c .before .loop .inv .3)
 
 next-of-requires : tie.Need-next-of-requires Inv-loop μ-loop
 next-of-requires c κs = search needs
 
 take-event-requires : tie.Need-take-event-requires Inv-loop μ-loop
-take-event-requires c κs = (z (c .before) .pre .0, within (c .before), d (c .before) .loop .inv .3, d (c .before) .loop .inv .4)
+take-event-requires c κs =
+    let x = c .before .before in (
+      y x .pre .0,
+      within x,
+      d x .loop .inv .4,
+      entries-are (y x .args .s .now) (y x .args .scene) (start (d x)) (y x .pre .0) (d x .loop .inv .5) (reached-within (d x)),
+      room (d x),
+    )
 
 enum-known-m : tie.Need-enum-known-m Inv-loop μ-loop
 enum-known-m c = search needs
@@ -117,52 +166,95 @@ enum-known-m c = search needs
 enum-told : tie.Need-enum-told Inv-loop μ-loop
 enum-told c = search needs
 
+-- the lengths stay, also where the sweep stops
+module _ (c : tie.After-enum-told Inv-loop μ-loop) where
+  abbrev t : tie.After-take-event Inv-loop μ-loop
+  t = c .before .before .before .before
+
+  abbrev w : tie.At-loop Inv-loop μ-loop
+  w = d (t .before .before .before)
+
+  still : length (t .take-event .last .1 .1 .1 .1 .0) ≡ length (z w .args .status .now)
+  still = t .take-event .ensures .0 ∙ w .loop .inv .0
+
 same-length : tie.Need-same-length Inv-loop μ-loop
-same-length c = c .before .before .before .before .take-event .ensures .0 ∙ c .before .before .before .before .before .before .before .before .before .loop .inv .0
+same-length c = still c
+
+same-length-2 : tie.Need-same-length-2 Inv-loop μ-loop
+same-length-2 c = w c .loop .inv .1
 
 returns : tie.Need-returns Inv-loop μ-loop
-returns c = (c .before .before .before .before .take-event .ensures .0 ∙ c .before .before .before .before .before .before .before .before .before .loop .inv .0, λ no. absurd no)
+returns c = (still c, w c .loop .inv .1, λ no. absurd no)
+
+slot-requires : tie.Need-slot-requires Inv-loop μ-loop
+slot-requires c κs = short (e c)
+
+slice-write-notes : tie.Need-slice-write-notes Inv-loop μ-loop
+slice-write-notes c = omega (arith, c .slot .ensures, slot-room (x c .before .takes-first .result) (x c .next-of .result) (short (x c)), room (d (x c)))
 
 cast-i : tie.Need-cast-i Inv-loop μ-loop
 cast-i c = tt
 
 add-i : tie.Need-add-i Inv-loop μ-loop
-add-i c = omega (arith, on c .0, few c true)
+add-i c = omega (arith, on (told c) .0, few (d (x c)) true)
 
 cast-j : tie.Need-cast-j Inv-loop μ-loop
 cast-j c = tt
 
 add-j : tie.Need-add-j Inv-loop μ-loop
-add-j c = omega (arith, on c .1, few c false)
+add-j c = omega (arith, on (told c) .1, few (d (x c)) false)
 
 loop-less : tie.Need-loop-less Inv-loop μ-loop
-loop-less c = omega (arith, on c .2, left (e c))
+loop-less c = omega (arith, on (told c) .2, left (x c))
 
 loop-again : tie.Need-loop-again Inv-loop μ-loop
 loop-again c = (
-  c .before .before .before .before .before .take-event .ensures .0 ∙ d (e c) .loop .inv .0,
-  on c .0,
-  on c .1,
-  done c .0,
-  entries-still (z (e c) .args .s .now) (z (e c) .args .scene) (start (e c)) (entry (z (e c) .args .s .now) (z (e c) .args .scene) (z (e c) .pre .0) (e c .before .takes-first .result) (e c .next-of .result) (within (e c))) (d (e c) .loop .inv .4) (done c .1),
-  taken-next (z (e c) .args .s .now) (z (e c) .args .scene) (start (e c)) (d (e c) .loop .i) (d (e c) .loop .j) (e c .before .takes-first .result) (it (e c)) (d (e c) .loop .inv .5) (subst (λ (k : ℕ). Taken (z (e c) .args .s .now) (z (e c) .args .scene) (e c .before .takes-first .result) k (take (d (e c) .loop .n) (d (e c) .loop .status)) (take (m c) (new c))) (e c .next-of .ensures) (done c .1)),
+  told c .before .before .before .before .before .take-event .ensures .0 ∙ d (x c) .loop .inv .0,
+  length-set (d (x c) .loop .notes) (c .slot .result) (v (told c)) ∙ d (x c) .loop .inv .1,
+  on (told c) .0,
+  on (told c) .1,
+  done (told c) .0,
+  run-on c,
+  noted-on c,
 )
 
-same-length-2 : tie.Need-same-length-2 Inv-loop μ-loop
-same-length-2 c = c .before .loop .inv .0
+same-length-3 : tie.Need-same-length-3 Inv-loop μ-loop
+same-length-3 c = c .before .loop .inv .0
+
+same-length-4 : tie.Need-same-length-4 Inv-loop μ-loop
+same-length-4 c = c .before .loop .inv .1
+
+-- all elements have been taken
+module _ (c : tie.After-loop Inv-loop μ-loop) where
+  abbrev b : tie.At-loop Inv-loop μ-loop
+  b = c .before
+
+  abbrev all-of : Bool → ℕ
+  all-of = total (z b .args .s .now) (z b .args .scene)
+
+  of-f : b .loop .i ≡ all-of true
+  of-f = omega (arith, b .loop .inv .2, b .loop .inv .3, b .before .before .event-count .ensures, b .before .event-count2 .ensures)
+
+  of-g : b .loop .j ≡ all-of false
+  of-g = omega (arith, b .loop .inv .2, b .loop .inv .3, b .before .before .event-count .ensures, b .before .event-count2 .ensures)
+
+  -- what holds of the elements and entries at the end
+  at-end : (P : ℕ → ℕ → List ℕ → Type 0) → b .loop .n ≡ 0 → P (b .loop .i) (b .loop .j) (take (b .loop .n) (b .loop .status)) → P (all-of true) (all-of false) []
+  at-end P e p =
+      subst (λ (i : ℕ). P i (all-of false) []) of-f
+      (subst (λ (j : ℕ). P (b .loop .i) j []) of-g (subst (λ (n : ℕ). P (b .loop .i) (b .loop .j) (take n (b .loop .status))) e p))
 
 returns-2 : tie.Need-returns-2 Inv-loop μ-loop
 returns-2 c =
     let b = c .before in
-    let z = b .before .before .before .before .before .before .before in
-    let f : b .loop .i ≡ total (z .args .s .now) (z .args .scene) true = omega (arith, b .loop .inv .1, b .loop .inv .2, b .before .before .event-count .ensures, b .before .event-count2 .ensures) in
-    let g : b .loop .j ≡ total (z .args .s .now) (z .args .scene) false = omega (arith, b .loop .inv .1, b .loop .inv .2, b .before .before .event-count .ensures, b .before .event-count2 .ensures) in (
+    let s = z b .args .s .now in
+    let sc = z b .args .scene in (
       b .loop .inv .0,
+      b .loop .inv .1,
       λ t evenly.
-          passes (z .args .s .now) (z .args .scene) (orderly (z .args .s .now) (z .args .scene) (z .pre .0) (z .pre .1))
-          (subst (λ (i : ℕ). Run (z .args .s .now) (z .args .scene) i (total (z .args .s .now) (z .args .scene) false) []) f
-          (subst (λ (j : ℕ). Run (z .args .s .now) (z .args .scene) (b .loop .i) j []) g
-          (subst (λ (n : ℕ). Run (z .args .s .now) (z .args .scene) (b .loop .i) (b .loop .j) (take n (b .loop .status))) (eqb→eq (b .loop .n) 0 t) (b .loop .inv .5)))) evenly,
+          let none = eqb→eq (b .loop .n) 0 t in
+          let run = at-end c (Run s sc) none (b .loop .inv .5) in
+          (passes s sc (start b) run evenly, notes-hold s sc (start b) run evenly (b .loop .notes) (at-end c (λ i j l. AllNoted s sc i j l (b .loop .notes)) none (b .loop .inv .6))),
     )
 
 pub run-events-spec : {M : Type 1} → statement M
@@ -182,12 +274,16 @@ run-events-spec =
     enum-known-m
     enum-told
     same-length
+    same-length-2
     returns
+    slot-requires
+    slice-write-notes
     cast-i
     add-i
     cast-j
     add-j
     loop-less
     loop-again
-    same-length-2
+    same-length-3
+    same-length-4
     returns-2)

@@ -19,7 +19,7 @@ use Rattle.sweep.proofs.take_event.Tie as tie
 -- the object
 module _ (c : tie.Joined1) where
   abbrev z : tie.Start
-  z = c .before .before .before
+  z = c .before .before .before .before
 
   object-is : c .if1 .l ≡ objectOf (z .args .s .now) (z .args .scene) (z .args .first)
   object-is =
@@ -68,7 +68,7 @@ begin-requires : tie.Need-begin-requires
 begin-requires c κs = ready (c .before .before .before)
 
 end-requires : tie.Need-end-requires
-end-requires c κs = ready (c .before .before .before)
+end-requires c κs = (ready (c .before .before .before), a (c .before .before .before) .pre .4)
 
 same-length : tie.Need-same-length
 same-length c = search needs
@@ -80,10 +80,10 @@ returns c =
     let p = t .before .before in
     let x = a p .args in (
       r .begin .ensures .0,
-      λ m e. let w = r .begin .ensures .1 m e in (
+      λ m v e. let w = r .begin .ensures .1 m v e in (
         w .1,
         it-began (beginning-is p (eq-eqb _ _ (t .if2 .taken)))
-            (subst (λ (at : ℕ). Began (x .s .now) (x .scene) (x .first) at (take (x .n) (x .status .now)) (take m (r .begin .last .1 .1 .1 .1 .0))) (at-is p) (w .2)),
+            (subst (λ (at : ℕ). Began (x .s .now) (x .scene) (x .first) at (take (x .n) (x .status .now)) (take m (r .begin .last .1 .1 .1 .1 .0)) v) (at-is p) (w .2)),
       ),
     )
 
@@ -97,10 +97,10 @@ returns-2 c =
     let p = t .before .before in
     let x = a p .args in (
       r .end .ensures .0,
-      λ m e. let w = r .end .ensures .1 m e in (
+      λ m v e. let w = r .end .ensures .1 m v e in (
         omega (arith, w .0, a p .pre .2, r .end .ensures .0),
         it-ended (beginning-is p (ne-eqb _ _ (t .if2 .left)))
-            (subst (λ (at : ℕ). Ended (x .s .now) (x .scene) (x .first) at (take (x .n) (x .status .now)) (take m (r .end .last .1 .1 .1 .1 .0))) (at-is p) (w .1)),
+            (subst (λ (at : ℕ). Ended (x .s .now) (x .scene) (x .first) at (x .notes .now) (take (x .n) (x .status .now)) (take m (r .end .last .1 .1 .1 .1 .0)) v) (at-is p) (w .1)),
       ),
     )
 

@@ -2,39 +2,24 @@
 use Prim.Native.Nat.{ℕ, _<_, _≤_}
 use native.Mathlib.Omega.{arith}
 use mathlib.Core.Path.{_≡_, sym, ap, ap₂, _∙_}
-use mathlib.Core.Bool.{Bool, true, false, not, _&&_, _||_}
+use mathlib.Core.Bool.{Bool, true, false, not}
 use mathlib.Core.List.{List}
 use borrow.Author.Needs.{needs}
-use borrow.Author.Tests.{lt-ltb, le-ltb}
-use lib.Dec.{ltb}
 use Rattle.plane.specs.Plane.{comesBefore}
 use Rattle.scene.specs.declared.Scene.{Scene}
 use Rattle.scene.specs.Read.{place}
 use Rattle.scene.specs.Conditions.{half}
 use Rattle.scene.proofs.Given.{GoodHalfsegment}
 use Rattle.segments.proofs.Elements.{half-is, half-in-range}
-use Rattle.sweep.specs.Swept.{total, takesFirst}
+use Rattle.sweep.specs.Swept.{total}
 use Rattle.sweep.proofs.Objects.{good}
+use Rattle.sweep.proofs.Chosen.{none-left, one-left, both-left}
 use Rattle.sweep.proofs.takes_first.Statement.{statement}
 use Rattle.sweep.proofs.takes_first.Tie as tie
 
--- the definition, by what its tests say
-module _ (s : List ℕ) (sc : Scene) (i j : ℕ) where
-  abbrev later : Bool
-  later = comesBefore (half s (sc .g) j) (half s (sc .f) i)
-
-  none-of-f : total s sc true ≤ i → takesFirst s sc i j ≡ false
-  none-of-f h = ap (λ (b : Bool). b && (not (ltb j (total s sc false)) || not later)) (le-ltb i (total s sc true) h)
-
-  module _ (h : i < total s sc true) where
-    some-of-f : takesFirst s sc i j ≡ (not (ltb j (total s sc false)) || not later)
-    some-of-f = ap (λ (b : Bool). b && (not (ltb j (total s sc false)) || not later)) (lt-ltb i (total s sc true) h)
-
-    none-of-g : total s sc false ≤ j → takesFirst s sc i j ≡ true
-    none-of-g k = some-of-f ∙ ap (λ (b : Bool). not b || not later) (le-ltb j (total s sc false) k)
-
-    some-of-both : j < total s sc false → takesFirst s sc i j ≡ not later
-    some-of-both k = some-of-f ∙ ap (λ (b : Bool). not b || not later) (lt-ltb j (total s sc false) k)
+-- which comes first where both have one left
+abbrev later : List ℕ → Scene → ℕ → ℕ → Bool
+later s sc i j = comesBefore (half s (sc .g) j) (half s (sc .f) i)
 
 -- F has an event left
 module _ (c : tie.Else1) where
@@ -76,7 +61,7 @@ returns : tie.Need-returns
 returns c =
     let e = c .before in
     let a = e .before .before .before .before .args in
-    sym (none-of-f (a .s .now) (a .scene) (a .i) (a .j) (omega (arith, e .event-count .ensures, c .if1 .taken)))
+    sym (none-left (a .i) (total (a .s .now) (a .scene) true) (a .j) (total (a .s .now) (a .scene) false) (later (a .s .now) (a .scene) (a .i) (a .j)) (omega (arith, e .event-count .ensures, c .if1 .taken)))
 
 event-count-requires-2 : tie.Need-event-count-requires-2
 event-count-requires-2 c κs = search needs
@@ -85,7 +70,7 @@ returns-2 : tie.Need-returns-2
 returns-2 c =
     let e = c .before in
     let a = z (e .before) .args in
-    sym (none-of-g (a .s .now) (a .scene) (a .i) (a .j) (of-f (e .before)) (omega (arith, e .event-count2 .ensures, c .if2 .taken)))
+    sym (one-left (a .i) (total (a .s .now) (a .scene) true) (a .j) (total (a .s .now) (a .scene) false) (later (a .s .now) (a .scene) (a .i) (a .j)) (of-f (e .before)) (omega (arith, e .event-count2 .ensures, c .if2 .taken)))
 
 place-requires : tie.Need-place-requires
 place-requires c κs = omega (arith, good-f c .there, y c .good)
@@ -108,7 +93,7 @@ returns-3 : tie.Need-returns-3
 returns-3 c =
     let r = c .before in
     let a = y (d r) .args in
-    ap not (c .comes-before .ensures ∙ ap₂ comesBefore (is-g r) (is-f r)) ∙ sym (some-of-both (a .s .now) (a .scene) (a .i) (a .j) (of-f (d r .before .before)) (of-g (d r)))
+    ap not (c .comes-before .ensures ∙ ap₂ comesBefore (is-g r) (is-f r)) ∙ sym (both-left (a .i) (total (a .s .now) (a .scene) true) (a .j) (total (a .s .now) (a .scene) false) (later (a .s .now) (a .scene) (a .i) (a .j)) (of-f (d r .before .before)) (of-g (d r)))
 
 pub takes-first-spec : {M : Type 1} → statement M
 takes-first-spec =

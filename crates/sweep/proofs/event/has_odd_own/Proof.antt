@@ -22,20 +22,17 @@ abbrev μ-loop : tie.MeasureT-loop
 μ-loop start first status k odd₀ i₀ odd i = k - i
 
 -- at the end
-last : (c : tie.After-loop Inv-loop μ-loop) → c .before .loop .i ≡ c .before .before .before .args .k
+last : (c : tie.After-loop Inv-loop μ-loop) → c .before .loop .i ≡ c .before .before .args .k
 last c = omega arith
 
 loop-holds : tie.Need-loop-holds Inv-loop μ-loop
 loop-holds c = (omega arith, sym (parity-nil _))
 
-mul-wide : tie.Need-mul-wide Inv-loop μ-loop
-mul-wide c = omega arith
+mul-odd : tie.Need-mul-odd Inv-loop μ-loop
+mul-odd c = omega arith
 
-shared-slice-read-wide : tie.Need-shared-slice-read-wide Inv-loop μ-loop
-shared-slice-read-wide c = omega arith
-
-wide-requires : tie.Need-wide-requires Inv-loop μ-loop
-wide-requires c κs = search needs
+shared-slice-read-odd : tie.Need-shared-slice-read-odd Inv-loop μ-loop
+shared-slice-read-odd c = omega arith
 
 add-i : tie.Need-add-i Inv-loop μ-loop
 add-i c = omega arith
@@ -45,16 +42,15 @@ loop-less c = omega arith
 
 loop-again : tie.Need-loop-again Inv-loop μ-loop
 loop-again c =
-    let d = c .before .before .before in
-    let a = d .before .before .args in (
+    let d = c .before .before in
+    let a = d .before .args in (
       omega arith,
-      ap (λ (e : ℕ). not (Bool·beq (d .loop .odd) (isOwn (a .start) (a .first) e))) (c .wide .ensures)
-          ∙ parity-one (isOwn (a .start) (a .first)) (a .status .now) (d .loop .i) (omega arith) (d .loop .inv .1),
+      parity-one (isOwn (a .start) (a .first)) (a .status .now) (d .loop .i) (omega arith) (d .loop .inv .1),
     )
 
 returns : tie.Need-returns Inv-loop μ-loop
 returns c =
-    let a = c .before .before .before .args in
+    let a = c .before .before .args in
     c .before .loop .inv .1
     ∙ ap (λ (m : ℕ). parity (isOwn (a .start) (a .first)) (take m (a .status .now))) (last c)
     ∙ sym (odd-count (isOwn (a .start) (a .first)) (take (a .k) (a .status .now)))
@@ -66,9 +62,8 @@ has-odd-own-spec =
     Inv-loop
     μ-loop
     loop-holds
-    mul-wide
-    shared-slice-read-wide
-    wide-requires
+    mul-odd
+    shared-slice-read-odd
     add-i
     loop-less
     loop-again

@@ -1,0 +1,114 @@
+// The points of F where F has points and G segments: the sweep over G's halfsegments takes each before the first halfsegment that does not come
+// before it, and notes it by the segments that are active there.
+use crate::event::Step;
+use crate::place;
+use plane::Point;
+use scene::Scene;
+use scene::bytes;
+use scene::records;
+ghost use mathlib.Core.Path.{_≡_};
+ghost use mathlib.Core.Bool.{Bool, false};
+ghost use Prim.Native.Nat.{ℕ, _<_, _≤_};
+ghost use lib.Dec.{T};
+ghost use lib.ListN.{length, getD, take};
+ghost use Rattle.whole.specs.Count.{_∈_};
+ghost use Rattle.plane.specs.Plane.{inRange};
+ghost use Rattle.scene.specs.declared.Shape.the-variants.{Points};
+ghost use Rattle.scene.specs.declared.Fault.the-variants.{Nothing};
+ghost use Rattle.scene.specs.Read.{IsScene};
+ghost use Rattle.scene.specs.Conditions.{hasSegments, outOfOrder};
+ghost use Rattle.scene.proofs.Given.{GoodHalfsegment};
+ghost use Rattle.sweep.specs.Located.{located, pointBy, isPointNext, PointsTaken};
+ghost use Rattle.sweep.specs.Evenly.{RegionsEndEvenly};
+ghost use Rattle.sweep.specs.Noted.{Noted};
+ghost use Rattle.sweep.specs.Swept.{objectOf, total, Entry, Passes};
+
+// The note of a point by the first n entries.
+fn locate(s: &[u8], status: &[u16], n: usize, v: Point) -> u8
+    requires { ⌜ (n ≤ length (now status)) × ((i : ℕ) → i < n → GoodHalfsegment (now s) (getD (now status) i 0)) × T (inRange v) ⌝ }
+    ensures { λ r. ⌜ r ≡ located (now (s .entry)) (take n (now (status .entry))) v ⌝ }
+{
+    let mut odd = false;
+    let mut k: usize = 0;
+    while k < n {
+        let u = bytes::segment(s, place::wide(status[k]));
+        let value = plane::side(u.left, u.right, v);
+        if value == 0 {
+            return 2;
+        }
+        odd = odd != (value > 0);
+        k += 1;
+    }
+    odd as u8
+}
+
+// Does F's point i come before G's halfsegment j?
+fn is_point_next(s: &[u8], scene: Scene, i: usize, j: usize) -> bool
+    requires { ⌜ IsScene (now s) scene × (scene .f .shape ≡ Points) × (i ≤ scene .f .count) × (j ≤ total (now s) scene false) ⌝ }
+    ensures { λ r. ⌜ r ≡ isPointNext (now (s .entry)) scene i j ⌝ }
+{
+    let f = scene.f;
+    let g = scene.g;
+    if i == f.count {
+        return false;
+    }
+    if j == crate::event_count(g) {
+        return true;
+    }
+    let h = bytes::halfsegment(s, records::place(g, j));
+    let v = bytes::point(s, records::place(f, i));
+    !plane::is_before(geometry::dominating_point(h), v)
+}
+
+// The note of F's point i.
+fn note_of(s: &[u8], scene: Scene, i: usize, status: &[u16], n: usize) -> u8
+    requires { ⌜ IsScene (now s) scene × (scene .f .shape ≡ Points) × (i < scene .f .count) × (n ≤ length (now status)) × ((e : ℕ) → e ∈ take n (now status) → Entry (now s) scene e) ⌝ }
+    ensures { λ r. ⌜ r ≡ located (now (s .entry)) (take n (now (status .entry))) (pointBy (now (s .entry)) scene i) ⌝ }
+{
+    let f = scene.f;
+    locate(s, status, n, bytes::point(s, records::place(f, i)))
+}
+
+// The points from i on that come before G's halfsegment j: the index of the first that does not.
+fn note_points(
+    s: &[u8],
+    scene: Scene,
+    i: usize,
+    j: usize,
+    status: &[u16],
+    n: usize,
+    notes: &mut [u8],
+) -> usize
+    requires { ⌜ IsScene (now s) scene × (scene .f .shape ≡ Points) × (i ≤ scene .f .count) × (j ≤ total (now s) scene false) × (n ≤ length (now status)) × ((e : ℕ) → e ∈ take n (now status) → Entry (now s) scene e) × (scene .f .count ≤ length (now notes)) ⌝ }
+    ensures { λ r. ⌜ (r ≤ scene .f .count) × (isPointNext (now (s .entry)) scene r j ≡ false) × PointsTaken (now (s .entry)) scene j (take n (now (status .entry))) i r (now (notes .entry)) (now (notes .exit)) ⌝ }
+{
+    let mut k = i;
+    while is_point_next(s, scene, k, j) {
+        notes[k] = note_of(s, scene, k, status, n);
+        k += 1;
+    }
+    k
+}
+
+// All points of F and all halfsegments of G, one after the other.
+pub fn run_points(s: &[u8], scene: Scene, status: &mut [u16], notes: &mut [u8]) -> bool
+    requires { ⌜ IsScene (now s) scene × ((first : Bool) → outOfOrder (now s) (objectOf (now s) scene first) ≡ Nothing) × (scene .f .shape ≡ Points) × T (hasSegments (scene .g .shape)) × (2048 ≤ length (now notes)) ⌝ }
+    ensures { λ r. ⌜ (length (now (status .exit)) ≡ length (now (status .entry))) × (length (now (notes .exit)) ≡ length (now (notes .entry))) × (T r → RegionsEndEvenly (now (s .entry)) scene → Passes (now (s .entry)) scene × Noted (now (s .entry)) scene (now (notes .exit))) ⌝ }
+{
+    let g = scene.g;
+    let all = crate::event_count(g);
+    let mut i: usize = 0;
+    let mut j: usize = 0;
+    let mut n: usize = 0;
+    while j < all {
+        i = note_points(s, scene, i, j, status, n, notes);
+        let Step::On(m, v) = crate::take_event(s, scene, false, j, status, n, notes) else {
+            return false;
+        };
+        n = m;
+        notes[1024 + j] = v;
+        j += 1;
+    }
+    note_points(s, scene, i, j, status, n, notes);
+    n == 0
+}
