@@ -5,17 +5,16 @@ use native.Mathlib.Nat.{eq-or-lt-of-le}
 use native.Mathlib.Omega.{arith}
 use mathlib.Core.Path.{_≡_, refl, sym, ap, subst, subst₂, _∙_}
 use mathlib.Core.Logic.{⊎-elim}
-use mathlib.Core.Bool.{Bool, true, false, not, _&&_, cond, Bool·beq}
+use mathlib.Core.Bool.{Bool, true, false, not, cond, Bool·beq}
 use mathlib.Core.List.{List, [], _∷_, _++_, map}
 use lib.Dec.{T, leb, ltb, leb→le}
 use borrow.Author.Tests.{lt-ltb, not-false}
-use Rattle.whole.specs.Count.{odd, some, _∈_, here, there}
-use Rattle.whole.proofs.Logic.{beq-same, and-left, and-right, is-true, true-is, in-nil, in-cons, some-find, none-of, in-map, map-in, Sorted, sorted-nil, sorted-cons, sorted-map, rising}
+use Rattle.whole.specs.Count.{odd, _∈_, here, there}
+use Rattle.whole.proofs.Logic.{beq-same, and-left, and-right, is-true, true-is, in-nil, in-cons, none-of, in-map, map-in, Sorted, sorted-nil, sorted-cons, sorted-map, rising}
 use Rattle.plane.specs.declared.Point.{Point}
 use Rattle.plane.specs.declared.Segment.{Segment}
 use Rattle.plane.specs.declared.Halfsegment.{Halfsegment}
-use Rattle.plane.specs.Plane.{inRange, segmentInRange, before, sameSegment, ordered, dominating, comesBefore, grid, endsAt, interiorAbove, touch}
-use Rattle.plane.proofs.Equal.{sameSegment-read}
+use Rattle.plane.specs.Plane.{inRange, segmentInRange, before, ordered, dominating, comesBefore, grid, endsAt, interiorAbove, touch}
 use Rattle.plane.proofs.Order.{before-irreflexive, before-trans, comes-irreflexive, comes-trans, LeftBefore, halfOf}
 use Rattle.plane.proofs.Accepted.{Split, Regular, Across, AllOrdered, across-from-touch, split-from-order, even-from-ends}
 use Rattle.scene.specs.declared.Layout.{Layout}
@@ -25,7 +24,7 @@ use Rattle.scene.specs.declared.Fault.the-variants.{At, Nothing}
 use Rattle.scene.specs.declared.CheckedObject.{CheckedObject}
 use Rattle.scene.specs.declared.CheckedScene.{CheckedScene}
 use Rattle.scene.specs.Read.{pointAt, shapeNumber, place, unless, IsObject}
-use Rattle.scene.specs.Conditions.{indices, elements, keep, hasSegments, isRegion, half, ia, isLeft, segments, earliest, inOrder, isMisplaced, outOfOrder, partner, isUnpaired, unpaired, isTouching, touching, touchingItself, endsOddly, oddEnd, hasWrongIa, wrongIa, Rule, rule, objectRules, orElse, overBoth, touchingAcross, sceneRules, checkSceneBy, checkObject}
+use Rattle.scene.specs.Conditions.{indices, elements, keep, hasSegments, isRegion, half, ia, isLeft, segments, earliest, inOrder, isMisplaced, outOfOrder, unpaired, isTouching, touching, touchingItself, endsOddly, oddEnd, hasWrongIa, wrongIa, Rule, rule, objectRules, orElse, overBoth, touchingAcross, sceneRules, checkSceneBy, checkObject}
 use Rattle.scene.proofs.Taken.{TakenScene}
 use Rattle.scene.proofs.Given.{NoFault, checked-scene, checked-object}
 use Rattle.segments.proofs.Elements.{point-good, half-good, order-of-points, order-of-halves}

@@ -19,7 +19,7 @@ use Rattle.checks.specs.declared.Verdict.the-variants.{Sound, Refused}
 use Rattle.conditions.specs.Faults.{faultUnder}
 use Rattle.checks.specs.Refusals.{sceneFaultUnder, verdict, settle, objectVerdict, geometryRules, geometryVerdict}
 use Rattle.segments.proofs.Walk.{between, between-next, between-none}
-use Rattle.conditions.proofs.Earliest.{fault-11, fault-12, fault-14, fault-15}
+use Rattle.conditions.proofs.Earliest.{fault-11, fault-12, fault-13, fault-14, fault-15}
 use Rattle.checks.proofs.Laws.{neither}
 
 -- ---- by number
@@ -49,24 +49,24 @@ decide-alike n f g a b e then = go f refl ∙ ap (λ (h : Fault). decide Refused
 
 -- each test rests on the conditions before it
 pub object-numbered : (s : List ℕ) (l : Layout) → IsObject s l → objectVerdict s l ≡ verdict (numbered (faultUnder s l l) 10 15)
-unfolding objectVerdict outOfOrder oddEnd
+unfolding objectVerdict outOfOrder
 object-numbered s l is =
     decide-alike 10 (outOfOrder s l) (faultUnder s l l 10) _ _ refl (λ order.
     decide-alike 11 (unpaired s l) (faultUnder s l l 11) _ _ (sym (fault-11 s l is order)) (λ paired.
     decide-alike 12 (touchingItself s l) (faultUnder s l l 12) _ _ (sym (fault-12 s l is order)) (λ _.
-    decide-alike 13 (oddEnd s l) (faultUnder s l l 13) _ _ refl (λ _.
+    decide-alike 13 (oddEnd s l) (faultUnder s l l 13) _ _ (sym (fault-13 s l)) (λ _.
     decide-alike 14 (wrongIa s l) (faultUnder s l l 14) _ _ (sym (fault-14 s l is order paired)) (λ _. refl)))))
 
 pub geometry-numbered : (s : List ℕ) (sc : Scene) → IsObject s (sc .f) → IsObject s (sc .g)
     → geometryVerdict s sc ≡ verdict (numbered (sceneFaultUnder s sc) 10 16)
-unfolding geometryVerdict outOfOrder oddEnd
+unfolding geometryVerdict outOfOrder
 geometry-numbered s sc is-f is-g =
     decide-alike 10 (orElse (outOfOrder s (sc .f)) (outOfOrder s (sc .g))) (sceneFaultUnder s sc 10) _ _ refl (λ order.
     let o = neither (outOfOrder s (sc .f)) (outOfOrder s (sc .g)) order in
     decide-alike 11 (orElse (unpaired s (sc .f)) (unpaired s (sc .g))) (sceneFaultUnder s sc 11) _ _ (ap₂ orElse (sym (fault-11 s (sc .f) is-f (o .0))) (sym (fault-11 s (sc .g) is-g (o .1)))) (λ paired.
     let p = neither (unpaired s (sc .f)) (unpaired s (sc .g)) paired in
     decide-alike 12 (orElse (touchingItself s (sc .f)) (touchingItself s (sc .g))) (sceneFaultUnder s sc 12) _ _ (ap₂ orElse (sym (fault-12 s (sc .f) is-f (o .0))) (sym (fault-12 s (sc .g) is-g (o .1)))) (λ _.
-    decide-alike 13 (orElse (oddEnd s (sc .f)) (oddEnd s (sc .g))) (sceneFaultUnder s sc 13) _ _ refl (λ _.
+    decide-alike 13 (orElse (oddEnd s (sc .f)) (oddEnd s (sc .g))) (sceneFaultUnder s sc 13) _ _ (ap₂ orElse (sym (fault-13 s (sc .f))) (sym (fault-13 s (sc .g)))) (λ _.
     decide-alike 14 (orElse (wrongIa s (sc .f)) (wrongIa s (sc .g))) (sceneFaultUnder s sc 14) _ _ (ap₂ orElse (sym (fault-14 s (sc .f) is-f (o .0) (p .0))) (sym (fault-14 s (sc .g) is-g (o .1) (p .1)))) (λ _.
     decide-alike 15 (touchingAcross s sc) (sceneFaultUnder s sc 15) _ _ (sym (fault-15 s (sc .g) is-g (o .1) (sc .f) is-f)) (λ _. refl))))))
 

@@ -11,23 +11,25 @@ use mathlib.Core.List.{List}
 use lib.Dec.{T, T-not, ltb}
 use borrow.Author.Tests.{lt-ltb, ltb-true}
 use Rattle.whole.specs.Count.{_∈_, odd, some, count}
-use Rattle.whole.proofs.Logic.{and-left, and-right, and-make, or-left, is-true, is-false, true-is, refute, same-test, some-find, some-make}
+use Rattle.whole.proofs.Logic.{and-left, and-right, and-make, or-left, is-true, is-false, true-is, same-test, some-find, some-make}
+use Rattle.plane.specs.declared.Point.{Point}
 use Rattle.plane.specs.declared.Segment.{Segment}
 use Rattle.plane.specs.declared.Halfsegment.{Halfsegment}
-use Rattle.plane.specs.Plane.{before, ordered, dominating, comesBefore, midpoint, countsBelow, countsBelowLeft, interiorAbove, touch}
+use Rattle.plane.specs.Plane.{before, samePoint, ordered, dominating, comesBefore, grid, midpoint, endsAt, countsBelow, countsBelowLeft, interiorAbove, touch}
+use Rattle.plane.proofs.Equal.{samePoint-read}
 use Rattle.plane.proofs.Order.{comes-irreflexive, comes-trans}
 use Rattle.scene.specs.declared.Layout.{Layout}
 use Rattle.scene.specs.declared.Fault.the-variants.{At, Nothing}
 use Rattle.scene.specs.Read.{place, IsObject}
-use Rattle.scene.specs.Conditions.{indices, elements, hasSegments, isRegion, half, ia, isLeft, segments, earliest, outOfOrder, partner, isUnpaired, unpaired, isTouching, touching, touchingItself, hasWrongIa, wrongIa}
-use Rattle.segments.specs.Walked.{vertical, isBelow, touchesFrom, countBelow}
+use Rattle.scene.specs.Conditions.{indices, elements, hasSegments, isRegion, half, ia, isLeft, segments, earliest, outOfOrder, partner, isUnpaired, unpaired, isTouching, touching, touchingItself, endsOddly, oddEnd, hasWrongIa, wrongIa}
+use Rattle.segments.specs.Walked.{vertical, touchesFrom, countBelow}
 use Rattle.segments.proofs.Elements.{half-good, region-segments}
 use Rattle.segments.proofs.Indices.{element-in, in-element, indices-in, in-indices, halves-rise}
 use Rattle.segments.proofs.Parted.{touch-itself, touch-swap}
 use Rattle.segments.proofs.Partners.{Partner, as-paired, partner-there}
-use Rattle.segments.proofs.Walk.{between, all-between, leftPasses, some-segments}
+use Rattle.segments.proofs.Walk.{between, leftPasses, some-segments}
 use Rattle.segments.proofs.Beyond.{touches-some, counts-below}
-use Rattle.conditions.specs.Faults.{placeFor, turned, hasPartner, touchesAny, interiorBy, isMismarked}
+use Rattle.conditions.specs.Faults.{placeFor, turned, hasPartner, touchesAny, isFirstAt, beginsOddly, interiorBy, isMismarked}
 use Rattle.conditions.proofs.Halving.{Parts, parted}
 
 -- ---- two tests with one earliest record: what is tested is wrong, and at or before what is wrong something is tested
@@ -60,6 +62,41 @@ module _ (l : Layout) (wrong tested : ℕ → Bool) where
   -- tests that agree
   agree : ((i : ℕ) → i < l .count → tested i ≡ wrong i) → earliest l tested (elements l) ≡ earliest l wrong (elements l)
   agree e = same-earliest (record { sound = λ i h. subst T (e i h); complete = λ i h t. (i, omega arith, subst T (sym (e i h)) t) })
+
+-- ---- 13: elements that stand together at one dominating point are at fault together
+
+module _ (s : List ℕ) (l : Layout) where
+  abbrev odd-at : ℕ → Bool
+  odd-at i = odd (endsAt (segments s l) (grid (dominating (half s l i))))
+
+  -- the first of them
+  first-of : (i : ℕ) → T (endsOddly s l i) → (j : ℕ) × (j ≤ i) × T (beginsOddly s l j)
+  first-of zero t = (0, omega arith, and-make (isRegion (l .shape)) (isFirstAt s l 0 && odd-at 0) (and-left (isRegion (l .shape)) (odd-at 0) t) (and-right (isRegion (l .shape)) (odd-at 0) t))
+  first-of (suc i) t = go (samePoint (dominating (half s l i)) (dominating (half s l (suc i)))) refl (first-of i)
+    where
+      go : (b : Bool) → samePoint (dominating (half s l i)) (dominating (half s l (suc i))) ≡ b
+          → (T (endsOddly s l i) → (j : ℕ) × (j ≤ i) × T (beginsOddly s l j)) → (j : ℕ) × (j ≤ suc i) × T (beginsOddly s l j)
+      go true e earlier =
+          let same = samePoint-read (dominating (half s l i)) (dominating (half s l (suc i))) (is-true _ e) in
+          let w = earlier (subst (λ (p : Point). T (isRegion (l .shape) && odd (endsAt (segments s l) (grid p)))) (sym same) t) in
+          (w .0, omega arith, w .2)
+      go false e earlier =
+          (suc i, omega arith, and-make (isRegion (l .shape)) (isFirstAt s l (suc i) && odd-at (suc i)) (and-left (isRegion (l .shape)) (odd-at (suc i)) t) (and-make (isFirstAt s l (suc i)) (odd-at (suc i)) (is-true _ first) (and-right (isRegion (l .shape)) (odd-at (suc i)) t)))
+        where
+          back : suc i - 1 ≡ i
+          back = omega arith
+
+          first : isFirstAt s l (suc i) ≡ true
+          first = rw (lt-ltb 0 (suc i) (omega arith), back, e)
+
+  pub fault-13 : earliest l (beginsOddly s l) (elements l) ≡ oddEnd s l
+  unfolding oddEnd
+  fault-13 = same-earliest l (endsOddly s l) (beginsOddly s l) (record { sound = later; complete = λ i h. first-of i })
+    where
+      later : (i : ℕ) → i < l .count → T (beginsOddly s l i) → T (endsOddly s l i)
+      later i h t =
+          and-make (isRegion (l .shape)) (odd-at i) (and-left (isRegion (l .shape)) (isFirstAt s l i && odd-at i) t)
+          (and-right (isFirstAt s l i) (odd-at i) (and-right (isRegion (l .shape)) (isFirstAt s l i && odd-at i) t))
 
 module _ (s : List ℕ) (l : Layout) (is : IsObject s l) (order : outOfOrder s l ≡ Nothing) where
   -- ---- 11

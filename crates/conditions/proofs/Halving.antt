@@ -1,13 +1,11 @@
 -- The search by halving: step by step, and what it finds where the numbers that pass come first.
-use Prim.Native.Nat.{ℕ, zero, suc, _+_, _-_, _/_, _<_, _≤_}
+use Prim.Native.Nat.{ℕ, zero, suc, _+_, _-_, _<_, _≤_}
 use native.Mathlib.Nat.{eq-or-lt-of-le}
 use native.Mathlib.Omega.{arith}
 use mathlib.Core.Path.{_≡_, refl, sym, ap, subst, _∙_}
 use mathlib.Core.Logic.{⊎-elim}
 use mathlib.Core.Bool.{Bool, true, false, cond}
-use lib.Dec.{T, ltb}
 use borrow.Author.Tests.{lt-ltb, le-ltb}
-use Rattle.whole.proofs.Logic.{is-true}
 use Rattle.conditions.specs.Faults.{middle, lowest}
 
 pub middle-between : (low high : ℕ) → low < high → (low ≤ middle low high) × (middle low high < high)

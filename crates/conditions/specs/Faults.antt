@@ -1,17 +1,17 @@
 -- The conditions 10 to 15 by their numbers, as tests of one element: what the functions of this crate promise. Each test rests on the conditions
 -- before it and looks at fewer elements than its definition in scene's Conditions.antt; where they hold, the earliest record at fault is the same
 -- (proofs/Earliest.antt).
-use Prim.Native.Nat.{ℕ, zero, suc, _+_, _/_}
+use Prim.Native.Nat.{ℕ, zero, suc, _+_, _-_, _/_}
 use mathlib.Core.Bool.{Bool, not, _&&_, _||_, cond, Bool·beq}
 use mathlib.Core.List.{List}
 use lib.Dec.{eqb, ltb}
 use Rattle.whole.specs.Count.{odd}
 use Rattle.plane.specs.declared.Segment.{Segment}
 use Rattle.plane.specs.declared.Halfsegment.{Halfsegment}
-use Rattle.plane.specs.Plane.{comesBefore}
+use Rattle.plane.specs.Plane.{samePoint, dominating, comesBefore, grid, endsAt}
 use Rattle.scene.specs.declared.Layout.{Layout}
 use Rattle.scene.specs.declared.Fault.{Fault}
-use Rattle.scene.specs.Conditions.{elements, hasSegments, isRegion, half, ia, isLeft, earliest, isMisplaced, partner, endsOddly}
+use Rattle.scene.specs.Conditions.{elements, hasSegments, isRegion, half, ia, isLeft, segments, earliest, isMisplaced, partner}
 use Rattle.segments.specs.Walked.{vertical, touchesFrom, countBelow}
 
 -- where the numbers that pass come first, the least one from low up to high that does not, by halving
@@ -39,6 +39,13 @@ module _ (s : List ℕ) (l : Layout) where
   abbrev pub touchesAny : Layout → ℕ → ℕ → Bool
   touchesAny other k i = isLeft s l i && touchesFrom s other (half s l i .segment) k
 
+  -- 13: of those that stand together at one dominating point, by the first
+  abbrev pub isFirstAt : ℕ → Bool
+  isFirstAt i = not (ltb 0 i && samePoint (dominating (half s l (i - 1))) (dominating (half s l i)))
+
+  abbrev pub beginsOddly : ℕ → Bool
+  beginsOddly i = isRegion (l .shape) && (isFirstAt i && odd (endsAt (segments s l) (grid (dominating (half s l i)))))
+
   -- 14: of the two halfsegments, which have one ia, by the left one
   abbrev pub interiorBy : Segment → Bool
   interiorBy t = (vertical t && odd (countBelow s l t)) || (not (vertical t) && not (odd (countBelow s l t)))
@@ -53,7 +60,7 @@ module _ (s : List ℕ) (l other : Layout) where
       cond (eqb n 10) (isMisplaced s l i)
       (cond (eqb n 11) (hasSegments (l .shape) && not (hasPartner s l i))
       (cond (eqb n 12) (touchesAny s l l (i + 1) i)
-      (cond (eqb n 13) (endsOddly s l i)
+      (cond (eqb n 13) (beginsOddly s l i)
       (cond (eqb n 14) (isMismarked s l i) (touchesAny s l other 0 i)))))
 
   abbrev pub faultUnder : ℕ → Fault

@@ -1,5 +1,6 @@
 // The conditions 10 to 15 as tests of one element, by its index, and the earliest element at fault under each.
 use plane::Halfsegment;
+use plane::Point;
 use plane::Segment;
 use scene::Fault;
 use scene::Layout;
@@ -11,11 +12,11 @@ ghost use mathlib.Core.Bool.{not, _&&_};
 ghost use Prim.Native.Nat.{_+_, _<_, _≤_};
 ghost use lib.ListN.{length};
 ghost use lib.Dec.{T};
-ghost use Rattle.plane.specs.Plane.{segmentInRange};
+ghost use Rattle.plane.specs.Plane.{segmentInRange, dominating};
 ghost use Rattle.scene.specs.Read.{halfsegmentAt, iaAt, size, IsObject};
-ghost use Rattle.scene.specs.Conditions.{hasSegments, isRegion, inOrder, isMisplaced, endsOddly};
+ghost use Rattle.scene.specs.Conditions.{hasSegments, isRegion, half, inOrder, isMisplaced};
 ghost use Rattle.segments.specs.Walked.{partners};
-ghost use Rattle.conditions.specs.Faults.{placeFor, hasPartner, touchesAny, interiorBy, isMismarked, isAtFault, faultUnder};
+ghost use Rattle.conditions.specs.Faults.{placeFor, hasPartner, touchesAny, isFirstAt, beginsOddly, interiorBy, isMismarked, isAtFault, faultUnder};
 
 // ---- 10: element not strictly after the one before
 
@@ -131,17 +132,37 @@ fn is_touching(s: &[u8], l: Layout, other: Layout, k: usize, i: usize) -> bool
     h.is_left && segments::touches_from(s, other, h.segment, k)
 }
 
-// ---- 13: region end in an odd number of its segments
+// ---- 13: region end in an odd number of its segments, by the first element that has it
+
+fn point_at(s: &[u8], l: Layout, i: usize) -> Point
+    requires { ⌜ IsObject (now s) l × (i < l .count) × T (hasSegments (l .shape)) ⌝ }
+    ensures { λ r. ⌜ r ≡ dominating (half (now (s .entry)) l i) ⌝ }
+{
+    geometry::dominating_point(bytes::halfsegment(s, records::place(l, i)))
+}
+
+fn is_first_at(s: &[u8], l: Layout, i: usize) -> bool
+    requires { ⌜ IsObject (now s) l × (i < l .count) × T (hasSegments (l .shape)) ⌝ }
+    ensures { λ r. ⌜ r ≡ isFirstAt (now (s .entry)) l i ⌝ }
+{
+    if i == 0 {
+        return true;
+    }
+    !plane::is_same_point(point_at(s, l, i - 1), point_at(s, l, i))
+}
 
 fn ends_oddly(s: &[u8], l: Layout, i: usize) -> bool
     requires { ⌜ IsObject (now s) l × (i < l .count) ⌝ }
-    ensures { λ r. ⌜ r ≡ endsOddly (now (s .entry)) l i ⌝ }
+    ensures { λ r. ⌜ r ≡ beginsOddly (now (s .entry)) l i ⌝ }
 {
     let k = l.shape;
     if !segments::is_region(k) {
         return false;
     }
-    let p = geometry::dominating_point(bytes::halfsegment(s, records::place(l, i)));
+    if !is_first_at(s, l, i) {
+        return false;
+    }
+    let p = point_at(s, l, i);
     segments::count_ends(s, l, p) % 2 == 1
 }
 

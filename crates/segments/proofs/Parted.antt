@@ -1,23 +1,22 @@
 -- Segments that do not touch: the boxes round them are apart; or both ends of one lie strictly on one side of the other's line, or one of
 -- them is off it and the other is an end of both. And touching goes both ways.
-use Prim.Native.Nat.{_<_}
 use native.Mathlib.Omega.{arith}
-use mathlib.Core.Path.{_≡_, refl, sym, ap, ap₂, subst, _∙_}
+use mathlib.Core.Path.{_≡_, sym, ap, ap₂, subst, _∙_}
 use mathlib.Core.Logic.{⊎-elim}
 use mathlib.Core.Bool.{true, false, _&&_}
 use mathlib.Core.List.{[], _∷_}
 use lib.Dec.{T, T-not, le→leb}
 use lib.Signed.{ltZ, leZ}
-use lib.IntN.{ℤ, pos, negsuc, negℤ, _+ℤ_, _-ℤ_, _*ℤ_, +ℤ-invr}
+use lib.IntN.{ℤ, pos, negℤ, _+ℤ_, _-ℤ_, _*ℤ_, +ℤ-invr}
 use Rattle.whole.proofs.Solver.{var, con, opp, _:+_, _:-_, _:*_, solve}
-use Rattle.whole.proofs.Sign.{Pos, NonNeg, Neg, Sign, minus, nought, plus, sign, pos-nonneg, zero-nonneg, neg-pos, pos-neg, nonneg-clash, zero-pos, zero-neg, nonneg-add, nonneg-mul, pos-mul, mul-zero-left, mul-zero-right, cancel-zero, cancel-zero-right, cancel-nonneg, pos-lit, lit-pos, ltZ-pos, leZ-nonneg, nonneg-leZ, ltZ-leZ}
+use Rattle.whole.proofs.Sign.{Pos, NonNeg, Neg, Sign, minus, nought, plus, sign, pos-nonneg, zero-nonneg, neg-pos, pos-neg, nonneg-clash, nonneg-add, nonneg-mul, pos-mul, mul-zero-left, mul-zero-right, cancel-zero, cancel-zero-right, cancel-nonneg, pos-lit, lit-pos, ltZ-pos, leZ-nonneg, nonneg-leZ, ltZ-leZ}
 use borrow.Author.Tests.{not-false}
 use Rattle.whole.proofs.Logic.{and-make, is-true, true-is, refute}
 use Rattle.plane.specs.declared.Point.{Point}
 use Rattle.plane.specs.declared.Segment.{Segment}
 use Rattle.plane.specs.Plane.{HPoint, grid, fractions, sameSegment, ordered, side, sideAt, isEnd, SharePoint, touch}
 use Rattle.plane.proofs.Homogeneous.{side-grid}
-use Rattle.plane.proofs.OnSegment.{Ordered, ordered-read, width, Between, Along, on-line, on-along, right-of-left, above-left}
+use Rattle.plane.proofs.OnSegment.{ordered-read, width, Between, Along, on-line, on-along, right-of-left, above-left}
 use Rattle.plane.proofs.Meeting.{between-swap}
 use Rattle.plane.proofs.Equal.{samePoint-read, sameSegment-refl}
 use Rattle.plane.proofs.Means.{At, EndOf, left-end, right-end, end-make}

@@ -2,9 +2,8 @@
 use Prim.Native.Nat.{ℕ, zero, suc, _+_, _<_, _≤_}
 use native.Mathlib.Omega.{arith}
 use mir.Val.{boolByte}
-use mathlib.Core.Path.{_≡_, refl, sym, ap, _∙_}
+use mathlib.Core.Path.{_≡_, refl, sym, ap}
 use mathlib.Core.Bool.{Bool, true, false, _||_, cond}
-use mathlib.Core.List.{List}
 use lib.Dec.{T, T-not}
 use Rattle.whole.specs.Count.{_∈_, bit, some, count}
 use Rattle.whole.proofs.Logic.{is-true, is-false, refute, some-find}

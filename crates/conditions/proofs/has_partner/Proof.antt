@@ -2,12 +2,12 @@
 use Prim.Native.Nat.{ℕ, _<_}
 use native.Mathlib.Omega.{arith}
 use mathlib.Core.Path.{_≡_, sym, ap, _∙_}
-use mathlib.Core.Bool.{Bool, true, not, _&&_}
+use mathlib.Core.Bool.{true, not, _&&_}
 use borrow.Author.Tests.{lt-ltb, le-ltb}
 use Rattle.whole.proofs.Logic.{true-is}
 use Rattle.plane.specs.declared.Halfsegment.{Halfsegment}
 use Rattle.scene.specs.Read.{iaAt, place}
-use Rattle.scene.specs.Conditions.{hasSegments, isRegion, half, ia}
+use Rattle.scene.specs.Conditions.{hasSegments, isRegion, half}
 use Rattle.scene.proofs.Given.{GoodHalfsegment}
 use Rattle.segments.proofs.Elements.{fits, half-good, half-is, half-in-range, partner-is}
 use Rattle.conditions.specs.Faults.{placeFor, turned}
