@@ -26,7 +26,6 @@ use Rattle.segments.proofs.Indices.{keep-in, element-in, in-element}
 use Rattle.flags.specs.Flags as F
 use Rattle.flags.specs.Flags.{Edge, Elements, outline, segmentsOf, flagsOfF, flagsOfG, pack}
 use Rattle.flags.specs.Walk.{edges, edgeOf, pointOf, pointsOf, elementsAs, elementsOf}
-use Rattle.features.specs.Wanted.{typeOf, only, maskOfF, maskOfG, wanted, vectorOfF, vectorOfG}
 use Rattle.features.specs.declared.Vectors.{Vectors}
 use Rattle.features.specs.Vectors.{sceneVectors}
 use Rattle.flags.proofs.ByElement.{outline-edges}
@@ -34,7 +33,7 @@ use Rattle.features.proofs.Wanted.{vector-all-F, vector-all-G}
 use Rattle.cells.specs.declared.Explored.{Explored}
 use Rattle.matrix.specs.Matrix.{Part, interior, boundary, exterior, Meet, matrixOf, cellAt}
 use Rattle.cells.specs.Explored as E
-use Rattle.cells.specs.Explored.{sceneMatrix, wholeVectorF, wholeVectorG, allOfF, allOfG, row, takenAs, exploredOf, answered, cellsOf, NoCellWrong}
+use Rattle.cells.specs.Explored.{sceneMatrix, row, takenAs, exploredOf, answered, cellsOf, NoCellWrong}
 use Rattle.matrix.proofs.Common.{filled, filled-of}
 use Rattle.matrix.proofs.RegionRegion.{Sound}
 use Rattle.matrix.proofs.Theorem.{Accepted, Good, shapeOf, isEmpty, no-cell-wrong}
@@ -103,11 +102,6 @@ module _ (s : List ℕ) where
   shape-as l Line = refl
   shape-as l Region = refl
 
-  type-as : (l : Layout) (k : Shape) → typeOf (elementsAs s l k) ≡ shapeNumber k
-  type-as l Points = refl
-  type-as l Line = refl
-  type-as l Region = refl
-
   segments-as : (l : Layout) (k : Shape) {t : Segment} → t ∈ segmentsOf (elementsAs s l k) → t ∈ segments s l
   segments-as l Points m = absurd (in-nil m)
   segments-as l Line m = m
@@ -125,26 +119,12 @@ module _ (s : List ℕ) where
 
 -- ---- the scene
 
-wanted-all : (all other : ℕ) → wanted all all other ≡ wanted all 0 0
-unfolding wanted
-wanted-all all other = go (eqb all 0 && eqb other 0)
-  where
-    go : (b : Bool) → cond b all all ≡ all
-    go true = refl
-    go false = refl
-
 module _ (s : List ℕ) (sc : Scene) (o : SoundScene s sc) where
   abbrev of-f : Elements
   of-f = elementsOf s (sc .f)
 
   abbrev of-g : Elements
   of-g = elementsOf s (sc .g)
-
-  type-f : shapeNumber (sc .f .shape) ≡ typeOf of-f
-  type-f = sym (type-as s (sc .f) (sc .f .shape))
-
-  type-g : shapeNumber (sc .g .shape) ≡ typeOf of-g
-  type-g = sym (type-as s (sc .g) (sc .g .shape))
 
   accepted : Accepted of-f of-g
   accepted = record {
@@ -159,25 +139,12 @@ module _ (s : List ℕ) (sc : Scene) (o : SoundScene s sc) where
           subst (λ (a : Shape). T (leb (shapeNumber a) (shapeNumber b))) (sym e)
           (subst (λ (b : Shape). T (leb (shapeNumber (sc .f .shape)) (shapeNumber b))) (sym q) (le→leb (shapeNumber (sc .f .shape)) (shapeNumber (sc .g .shape)) (o .ascending)))
 
-  -- "with every flag of the type pair wanted"
-  whole-f : wholeVectorF s sc ≡ pack (flagsOfF of-f of-g)
-  unfolding vectorOfF
-  whole-f =
-      ap (λ (m : ℕ). only m (pack (flagsOfF of-f of-g))) (ap (λ (a : ℕ). wanted (maskOfF (typeOf of-f) (typeOf of-g)) a (allOfG s sc)) (ap₂ maskOfF type-f type-g) ∙ wanted-all (maskOfF (typeOf of-f) (typeOf of-g)) (allOfG s sc))
-      ∙ vector-all-F of-f of-g
-
-  whole-g : wholeVectorG s sc ≡ pack (flagsOfG of-f of-g)
-  unfolding vectorOfG
-  whole-g =
-      ap (λ (m : ℕ). only m (pack (flagsOfG of-f of-g))) (ap (λ (a : ℕ). wanted (maskOfG (typeOf of-f) (typeOf of-g)) a (allOfF s sc)) (ap₂ maskOfG type-f type-g) ∙ wanted-all (maskOfG (typeOf of-f) (typeOf of-g)) (allOfF s sc))
-      ∙ vector-all-G of-f of-g
-
   matrix-is : sceneMatrix s sc ≡ matrixOf (shapeOf of-f) (shapeOf of-g) (pack (flagsOfF of-f of-g)) (pack (flagsOfG of-f of-g)) (isEmpty of-f) (isEmpty of-g)
   matrix-is =
       let a = shape-as s (sc .f) (sc .f .shape) in
       let b = shape-as s (sc .g) (sc .g .shape) in
-      let v = whole-f in
-      let w = whole-g in
+      let v = vector-all-F of-f of-g in
+      let w = vector-all-G of-f of-g in
       let x = empty-as s (sc .f) (o .f-sound) (sc .f .shape) refl in
       let y = empty-as s (sc .g) (o .g-sound) (sc .g .shape) refl in
       cc
@@ -219,10 +186,7 @@ module _ (s : List ℕ) (sc : Scene) where
   abbrev matrixBeside : Vectors → List (List Bool)
   matrixBeside both = matrixOf (sc .f .shape) (sc .g .shape) (both .f) (both .g) (E.isEmpty (sc .f)) (E.isEmpty (sc .g))
 
-  pub shown-taken : {mf mg f g : ℕ} {both : Vectors} {m : List (List Bool)} → mf ≡ allOfF s sc → mg ≡ allOfG s sc → both ≡ sceneVectors s sc mf mg → m ≡ matrixBeside both
-      → f ≡ shapeNumber (sc .f .shape) → g ≡ shapeNumber (sc .g .shape) → shown f g both m ≡ takenAs s sc
-  shown-taken {both = both} {m} of-f of-g v cells f g =
-      ap₂ (λ (f g : ℕ). shown f g both m) f g ∙ ap₂ (shown (shapeNumber (sc .f .shape)) (shapeNumber (sc .g .shape))) whole (cells ∙ ap matrixBeside whole)
-    where
-      whole : both ≡ sceneVectors s sc (allOfF s sc) (allOfG s sc)
-      whole = v ∙ ap₂ (sceneVectors s sc) of-f of-g
+  pub shown-taken : {f g : ℕ} {both : Vectors} {m : List (List Bool)} → both ≡ sceneVectors s sc 0 0 → m ≡ matrixBeside both → f ≡ shapeNumber (sc .f .shape) → g ≡ shapeNumber (sc .g .shape)
+      → shown f g both m ≡ takenAs s sc
+  shown-taken {both = both} {m} v cells f g =
+      ap₂ (λ (f g : ℕ). shown f g both m) f g ∙ ap₂ (shown (shapeNumber (sc .f .shape)) (shapeNumber (sc .g .shape))) v (cells ∙ ap matrixBeside v)

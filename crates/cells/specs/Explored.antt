@@ -13,7 +13,7 @@ use Rattle.scene.specs.declared.CheckedScene.{CheckedScene}
 use Rattle.scene.specs.Read.{shapeNumber}
 use Rattle.scene.specs.Conditions.{object, checkScene}
 use Rattle.flags.specs.Walk.{elementsOf}
-use Rattle.features.specs.Wanted.{maskOfF, maskOfG, vectorOfF, vectorOfG}
+use Rattle.features.specs.Wanted.{vectorOfF, vectorOfG}
 use Rattle.cells.specs.declared.Row.{Row}
 use Rattle.cells.specs.declared.Explored.{Explored}
 use Rattle.matrix.specs.Matrix.{Part, interior, boundary, exterior, Meet, matrixOf, noCells, index, cellAt}
@@ -22,19 +22,13 @@ use Rattle.matrix.specs.Matrix.{Part, interior, boundary, exterior, Meet, matri
 abbrev pub isEmpty : Layout → Bool
 isEmpty l = eqb (l .count) 0
 
--- "its two vectors are those of demand 2 with every flag of the type pair wanted"
+-- "its two vectors are those of demand 2 with every flag of the type pair wanted", and "If both masks are 0, all flags are wanted."
 module _ (s : List ℕ) (sc : Scene) where
-  abbrev pub allOfF : ℕ
-  allOfF = maskOfF (shapeNumber (sc .f .shape)) (shapeNumber (sc .g .shape))
-
-  abbrev pub allOfG : ℕ
-  allOfG = maskOfG (shapeNumber (sc .f .shape)) (shapeNumber (sc .g .shape))
-
   abbrev pub wholeVectorF : ℕ
-  wholeVectorF = vectorOfF (elementsOf s (sc .f)) (elementsOf s (sc .g)) allOfF allOfG
+  wholeVectorF = vectorOfF (elementsOf s (sc .f)) (elementsOf s (sc .g)) 0 0
 
   abbrev pub wholeVectorG : ℕ
-  wholeVectorG = vectorOfG (elementsOf s (sc .f)) (elementsOf s (sc .g)) allOfF allOfG
+  wholeVectorG = vectorOfG (elementsOf s (sc .f)) (elementsOf s (sc .g)) 0 0
 
   abbrev pub sceneMatrix : List (List Bool)
   sceneMatrix = matrixOf (sc .f .shape) (sc .g .shape) wholeVectorF wholeVectorG (isEmpty (sc .f)) (isEmpty (sc .g))

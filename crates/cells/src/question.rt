@@ -1,15 +1,16 @@
 // The cells question over a scene's bytes.
 use crate::Explored;
 use crate::Row;
-use features::masks;
+use features::Answer;
+use features::Vectors;
 use features::question;
-use scene::CheckedScene;
 use scene::Refusal;
 use scene::Scene;
 use scene::records;
 ghost use mathlib.Core.Path.{_≡_};
-ghost use Rattle.scene.specs.declared.CheckedScene.{CheckedScene as Checked};
-ghost use Rattle.scene.specs.Conditions.{checkScene};
+ghost use mathlib.Core.List.{List};
+ghost use Prim.Native.Nat.{ℕ};
+ghost use Rattle.features.specs.Vectors.{sceneVectors};
 ghost use Rattle.cells.specs.Explored.{takenAs, refusedAs, exploredOf, cellsOf, NoCellWrong};
 
 fn refused(refusal: Refusal) -> Explored
@@ -28,16 +29,14 @@ fn refused(refusal: Refusal) -> Explored
     }
 }
 
-fn taken(s: &[u8], scene: Scene) -> Explored
-    requires { ⌜ checkScene (now s) ≡ Checked.Taken scene ⌝ }
-    ensures { λ r. ⌜ r ≡ takenAs (now (s .entry)) scene ⌝ }
+// What is said of a scene with the two vectors that have every flag wanted.
+fn taken(scene: Scene, both: Vectors) -> Explored
+    ensures { λ r. ⌜ ((s : List ℕ) → both ≡ sceneVectors s scene 0 0 → r ≡ takenAs s scene) ⌝ }
 {
     let f = scene.f;
     let g = scene.g;
     let of_f = f.shape;
     let of_g = g.shape;
-    let all = masks::masks_of(of_f, of_g);
-    let both = question::vectors_of(s, scene, all.f, all.g);
     let cells = table::matrix(of_f, of_g, both.f, both.g, f.count == 0, g.count == 0);
     Explored {
         number: 0,
@@ -56,8 +55,8 @@ fn taken(s: &[u8], scene: Scene) -> Explored
 pub fn explore(s: &[u8]) -> Explored
     ensures { λ r. ⌜ (r ≡ exploredOf (now (s .entry))) × NoCellWrong (now (s .entry)) (cellsOf r) ⌝ }
 {
-    match checks::check_scene(s) {
-        CheckedScene::Refused(r) => refused(r),
-        CheckedScene::Taken(scene) => taken(s, scene),
+    match question::answer(s, 0, 0) {
+        Answer::Refused(r) => refused(r),
+        Answer::Taken { scene, vectors } => taken(scene, vectors),
     }
 }

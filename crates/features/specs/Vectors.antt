@@ -6,6 +6,7 @@ use Rattle.scene.specs.declared.CheckedScene.{CheckedScene}
 use Rattle.scene.specs.Conditions.{Rule, rule, sceneRules, checkSceneBy}
 use Rattle.features.specs.declared.Vectors.{Vectors}
 use Rattle.features.specs.declared.Explored.{Explored}
+use Rattle.features.specs.declared.Answer.{Answer}
 use Rattle.features.specs.Wanted.{strayWanted, vectorOfF, vectorOfG}
 use Rattle.flags.specs.Walk.{elementsOf}
 
@@ -21,12 +22,20 @@ sceneVectors s sc wantF wantG =
 abbrev pub vectorsRules : ℕ → ℕ → List (Rule Scene)
 vectorsRules wantF wantG = sceneRules (rule 9 (strayWanted wantF wantG) ∷ []) []
 
-abbrev pub explored : List ℕ → ℕ → ℕ → CheckedScene → Explored
-explored s wantF wantG (CheckedScene.Refused r) = Explored.Refused r
-explored s wantF wantG (CheckedScene.Taken sc) = Explored.Taken (sceneVectors s sc wantF wantG)
+-- the answer with the scene that was read, and the vectors alone
+abbrev pub answered : List ℕ → ℕ → ℕ → CheckedScene → Answer
+answered s wantF wantG (CheckedScene.Refused r) = Answer.Refused r
+answered s wantF wantG (CheckedScene.Taken sc) = Answer.Taken sc (sceneVectors s sc wantF wantG)
+
+unfoldable pub answerOf : List ℕ → ℕ → ℕ → Answer
+answerOf s wantF wantG = answered s wantF wantG (checkSceneBy (vectorsRules wantF wantG) s)
+
+abbrev pub explored : Answer → Explored
+explored (Answer.Refused r) = Explored.Refused r
+explored (Answer.Taken sc v) = Explored.Taken v
 
 unfoldable pub vectorsOf : List ℕ → ℕ → ℕ → Explored
-vectorsOf s wantF wantG = explored s wantF wantG (checkSceneBy (vectorsRules wantF wantG) s)
+vectorsOf s wantF wantG = explored (answerOf s wantF wantG)
 
 -- "Where an answer is an enum, a definition states this paper's number and values for every one of its cases." What is taken has number 0;
 -- "Every refusal has vectors .. 0".

@@ -1,5 +1,6 @@
 // The topological feature vectors of two objects.
 use scene::Refusal;
+use scene::Scene;
 
 // A 16-bit vector for each object.
 pub struct Vectors {
@@ -9,6 +10,12 @@ pub struct Vectors {
 
 pub enum Explored {
     Taken(Vectors),
+    Refused(Refusal),
+}
+
+// The same with the scene that was read.
+pub enum Answer {
+    Taken { scene: Scene, vectors: Vectors },
     Refused(Refusal),
 }
 

@@ -1,8 +1,10 @@
 // The vectors question.
+use crate::Answer;
 use crate::Explored;
 use crate::Vectors;
 use crate::masks;
 use crate::walk;
+use checks::Noting;
 use checks::Verdict;
 use flags::collected;
 use scene::CheckedScene;
@@ -12,10 +14,13 @@ use scene::Scene;
 ghost use mathlib.Core.Path.{_≡_};
 ghost use Rattle.scene.specs.declared.CheckedScene.{CheckedScene as Checked};
 ghost use Rattle.scene.specs.Conditions.{checkScene};
-ghost use Rattle.features.specs.Vectors.{sceneVectors, vectorsOf};
+ghost use Prim.Native.Nat.{_≤_};
+ghost use lib.ListN.{length};
+ghost use Rattle.sweep.specs.Noted.{Noted};
+ghost use Rattle.features.specs.Vectors.{sceneVectors, answerOf, vectorsOf};
 
 // The wanted flags of both objects of a scene that is taken.
-pub fn vectors_of(s: &[u8], scene: Scene, want_f: u16, want_g: u16) -> Vectors
+fn vectors_of(s: &[u8], scene: Scene, want_f: u16, want_g: u16) -> Vectors
     requires { ⌜ checkScene (now s) ≡ Checked.Taken scene ⌝ }
     ensures { λ r. ⌜ r ≡ sceneVectors (now (s .entry)) scene «want_f» «want_g» ⌝ }
 {
@@ -34,26 +39,68 @@ pub fn vectors_of(s: &[u8], scene: Scene, want_f: u16, want_g: u16) -> Vectors
     }
 }
 
-// A scene and two wanted masks: taken, with a vector for each object, or refused with one number and one place.
-pub fn vectors(s: &[u8], want_f: u16, want_g: u16) -> Explored
-    ensures { λ r. ⌜ r ≡ vectorsOf (now (s .entry)) «want_f» «want_g» ⌝ }
+// The same, from what the sweep noted.
+fn swept_vectors(s: &[u8], scene: Scene, want_f: u16, want_g: u16, notes: &[u8]) -> Vectors
+    requires { ⌜ (checkScene (now s) ≡ Checked.Taken scene) × (2048 ≤ length (now notes)) × Noted (now s) scene (now notes) ⌝ }
+    ensures { λ r. ⌜ r ≡ sceneVectors (now (s .entry)) scene «want_f» «want_g» ⌝ }
+{
+    let f = scene.f;
+    let g = scene.g;
+    let of_f = f.shape;
+    let of_g = g.shape;
+    let all = masks::masks_of(of_f, of_g);
+    let mask_f = masks::wanted(all.f, want_f, want_g);
+    let mask_g = masks::wanted(all.g, want_g, want_f);
+    let met = meetings::meetings(s, scene, notes);
+    let beside = classes::classes_of(s, scene, notes);
+    let flags_f = gathered::flags_of_f(of_f, of_g, met, beside.f);
+    let flags_g = gathered::flags_of_g(of_f, of_g, met, beside.g);
+    Vectors {
+        f: collected::packed(collected::masked(collected::unpacked(mask_f), flags_f)),
+        g: collected::packed(collected::masked(collected::unpacked(mask_g), flags_g)),
+    }
+}
+
+// A scene and two wanted masks: taken, with the scene and a vector for each object, or refused with one number and one place.
+pub fn answer(s: &[u8], want_f: u16, want_g: u16) -> Answer
+    ensures { λ r. ⌜ r ≡ answerOf (now (s .entry)) «want_f» «want_g» ⌝ }
 {
     match reading::read_scene(s) {
-        CheckedScene::Refused(r) => Explored::Refused(r),
+        CheckedScene::Refused(r) => Answer::Refused(r),
         CheckedScene::Taken(scene) => match checks::types_fault(scene) {
-            Fault::At(place) => Explored::Refused(Refusal { number: 8, place }),
+            Fault::At(place) => Answer::Refused(Refusal { number: 8, place }),
             Fault::Nothing => {
                 if masks::any_stray(scene, want_f, want_g) {
-                    return Explored::Refused(Refusal {
+                    return Answer::Refused(Refusal {
                         number: 9,
                         place: 0,
                     });
                 }
-                match checks::geometry_verdict(s, scene) {
-                    Verdict::Refused(r) => Explored::Refused(r),
-                    Verdict::Sound => Explored::Taken(vectors_of(s, scene, want_f, want_g)),
+                let mut notes = [0u8; 2048];
+                match checks::noted_verdict(s, scene, &mut notes) {
+                    Noting::Swept => Answer::Taken {
+                        scene,
+                        vectors: swept_vectors(s, scene, want_f, want_g, &notes),
+                    },
+                    Noting::Plain(v) => match v {
+                        Verdict::Refused(r) => Answer::Refused(r),
+                        Verdict::Sound => Answer::Taken {
+                            scene,
+                            vectors: vectors_of(s, scene, want_f, want_g),
+                        },
+                    },
                 }
             }
         },
+    }
+}
+
+// The same without the scene.
+pub fn vectors(s: &[u8], want_f: u16, want_g: u16) -> Explored
+    ensures { λ r. ⌜ r ≡ vectorsOf (now (s .entry)) «want_f» «want_g» ⌝ }
+{
+    match answer(s, want_f, want_g) {
+        Answer::Refused(r) => Explored::Refused(r),
+        Answer::Taken { scene: _, vectors } => Explored::Taken(vectors),
     }
 }

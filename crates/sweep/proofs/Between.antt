@@ -1,13 +1,13 @@
 -- Two segments, one the lower of the two at the left and at the right: at every point between their ends it passes strictly under the other, but
 -- for common ends. So what passes over a point, or under it, goes on from one to the next.
-use mathlib.Core.Path.{_≡_, refl, sym, ap, ap₂, _∙_, subst}
+use mathlib.Core.Path.{_≡_, sym, ap, _∙_, subst}
 use mathlib.Core.Logic.{_⊎_, inl, inr, ⊎-elim}
 use mathlib.Core.Bool.{_&&_, _||_}
 use mathlib.Core.List.{[], _∷_}
 use lib.Dec.{T}
-use lib.IntN.{ℤ, pos, negℤ, _+ℤ_, _-ℤ_, _*ℤ_}
+use lib.IntN.{ℤ, pos, negℤ, _-ℤ_, _*ℤ_}
 use Rattle.whole.proofs.Solver.{var, con, opp, _:+_, _:-_, _:*_, solve}
-use Rattle.whole.proofs.Sign.{Pos, NonNeg, Neg, Weak, weak-zero, weak-plus, weak, Half, at-least, under, half, pos-nonneg, zero-nonneg, neg-pos, pos-neg, neg-zero, neg-of-pos, pos-of-neg, pos-clash, nonneg-clash, zero-pos, zero-neg, nonneg-both, nonneg-add, nonneg-add-pos, pos-add-nonneg, nonneg-mul, mul-zero-right, cancel-zero, cancel-nonneg, sub-zero-eq, ltZ0-pos, pos-ltZ0, ltZ0-neg, neg-ltZ0}
+use Rattle.whole.proofs.Sign.{Pos, NonNeg, Neg, Weak, weak-zero, weak-plus, weak, Half, at-least, under, half, pos-nonneg, zero-nonneg, neg-pos, pos-neg, neg-zero, neg-of-pos, pos-of-neg, pos-clash, nonneg-clash, zero-pos, zero-neg, nonneg-both, nonneg-add, nonneg-add-pos, pos-add-nonneg, nonneg-mul, cancel-zero, cancel-nonneg, sub-zero-eq, ltZ0-pos, pos-ltZ0, ltZ0-neg, neg-ltZ0}
 use Rattle.whole.proofs.Logic.{and-left, and-right, or-cases}
 use Rattle.plane.specs.declared.Point.{Point}
 use Rattle.plane.specs.declared.Segment.{Segment}

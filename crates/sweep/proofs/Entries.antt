@@ -19,7 +19,6 @@ use Rattle.scene.specs.declared.Scene.{Scene}
 use Rattle.scene.specs.Read.{place, segmentAt, iaAt, IsScene}
 use Rattle.scene.specs.Conditions.{hasSegments, isRegion}
 use Rattle.scene.proofs.Taken.{TakenScene, taken-scene, scene-short}
-use Rattle.scene.proofs.Flags.{upheld}
 use Rattle.scene.proofs.Given.{GoodHalfsegment, good-halfsegment, ia-there}
 use Rattle.sweep.specs.declared.event.Step.the-variants.{On, Stop}
 use Rattle.sweep.specs.Swept.{objectOf, isFirst, strandOf, strandAt, Entry}

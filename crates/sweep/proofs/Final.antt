@@ -7,7 +7,7 @@ use mathlib.Core.Bool.{Bool, true, false, not, _&&_, cond, Bool·beq, true≢fal
 use mathlib.Core.List.{List, [], _∷_, map}
 use lib.Dec.{T}
 use Rattle.whole.specs.Count.{_∈_, bit, odd, some, count}
-use Rattle.whole.proofs.Logic.{in-nil, in-map, map-in, some-find, some-make, none-of, refute, true-is, is-true, and-make, beq-refl, beq-same}
+use Rattle.whole.proofs.Logic.{in-nil, map-in, some-find, some-make, none-of, refute, true-is, is-true, and-make, beq-refl, beq-same}
 use Rattle.whole.proofs.Parity.{_⊻_, parity, parity-same, parity-xor, xor-false, odd-count}
 use Rattle.plane.specs.declared.Point.{Point}
 use Rattle.plane.specs.declared.Segment.{Segment}
@@ -23,7 +23,7 @@ use Rattle.scene.specs.declared.Fault.the-variants.{Nothing}
 use Rattle.scene.specs.Read.{place, segmentAt, iaAt}
 use Rattle.scene.specs.Conditions.{elements, keep, hasSegments, isRegion, half, ia, isLeft, segments, partner, isUnpaired, unpaired, isTouching, touching, touchingItself, endsOddly, oddEnd, hasWrongIa, wrongIa, touchingAcross}
 use Rattle.whole.proofs.Counted.{count-none, count-same}
-use Rattle.segments.proofs.Indices.{element-in, in-element, keep-in, in-keep, no-fault}
+use Rattle.segments.proofs.Indices.{element-in, in-element, keep-in, no-fault}
 use Rattle.sweep.specs.Lower.{under}
 use Rattle.sweep.specs.Evenly.{EndsEvenly, dominatedBy}
 use Rattle.sweep.specs.Kept.{Strand, NoneEqual, Kept}

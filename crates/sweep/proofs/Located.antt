@@ -3,14 +3,13 @@
 use Prim.Native.Nat.{ℕ, _<_, _≤_}
 use native.Mathlib.Nat.{not-suc-le-zero}
 use native.Mathlib.Omega.{arith}
-use mathlib.Core.Path.{_≡_, refl, sym, ap, ap₂, _∙_, subst}
-use mathlib.Core.Logic.{_⊎_, inl, inr, ⊎-elim}
+use mathlib.Core.Path.{_≡_, sym, ap, ap₂, _∙_, subst}
 use mathlib.Core.Bool.{Bool, true, false, not, _&&_, _||_, cond, true≢false}
 use mathlib.Core.List.{List, [], _∷_, map}
-use lib.Dec.{T, T-not, ltb}
-use lib.IntN.{ℤ, pos, _-ℤ_}
+use lib.Dec.{T, ltb}
+use lib.IntN.{ℤ, _-ℤ_}
 use lib.ListN.{length, getD, take}
-use Rattle.whole.specs.Count.{_∈_, eqZ, bit, odd, some, count}
+use Rattle.whole.specs.Count.{_∈_, bit, odd, some, count}
 use Rattle.whole.proofs.Solver.{var, _:-_, opp, solve}
 use Rattle.whole.proofs.Sign.{NonNeg, nonneg-both, sub-zero-eq, pos-ltZ0}
 use Rattle.whole.proofs.Logic.{and-left, and-right, or-left, or-right, refute, same-test, and-follows, true-is, is-true, in-map, some-find, some-make, none-of}
@@ -24,7 +23,7 @@ use Rattle.plane.proofs.Equal.{point-eq, samePoint-refl}
 use Rattle.plane.proofs.Machine.{isStraight, straight-is}
 use Rattle.plane.proofs.Grid.{on-grid, end-grid}
 use Rattle.scene.specs.declared.Scene.{Scene}
-use Rattle.scene.specs.Read.{place, segmentAt}
+use Rattle.scene.specs.Read.{segmentAt}
 use Rattle.scene.specs.Conditions.{hasSegments, isRegion, segments}
 use Rattle.sweep.specs.Lower.{passesUnder}
 use Rattle.sweep.specs.Kept.{Strand, Kept}

@@ -1,26 +1,24 @@
 -- The sweep over the bytes of a scene, from event to event. What it keeps holds of every run that ends with no segment active: each active segment
 -- then ends at a later event, so that it reaches as far as the events do.
-use Prim.Native.Nat.{ℕ, zero, suc, _+_, _<_, _≤_}
+use Prim.Native.Nat.{ℕ, suc, _+_, _<_, _≤_}
 use native.Mathlib.Nat.{le-refl, not-suc-le-zero}
 use native.Mathlib.Omega.{arith}
-use mathlib.Core.Path.{_≡_, refl, sym, ap, ap₂, _∙_, subst}
+use mathlib.Core.Path.{_≡_, refl, sym, ap, _∙_, subst}
 use mathlib.Core.Logic.{⊎-elim}
-use mathlib.Core.Bool.{Bool, true, false, not, _&&_, _||_, cond, Bool·beq}
+use mathlib.Core.Bool.{Bool, true, false, not, _&&_, _||_, Bool·beq}
 use mathlib.Core.List.{List, [], _∷_, _++_, map}
-use lib.Dec.{T, ltb}
-use lib.ListN.{length, getD, take, drop, take-append-drop}
+use lib.Dec.{T}
+use lib.ListN.{getD, take, drop, take-append-drop}
 use lib.Seq.{split-at}
-use Rattle.whole.specs.Count.{_∈_, here, there, odd, count}
+use Rattle.whole.specs.Count.{_∈_, there, odd, count}
 use Rattle.whole.proofs.Logic.{sorted-nil, in-nil, in-at, map-in, or-cases, and-left, and-right, false-is, true-is, beq-same}
 use Rattle.plane.specs.declared.Point.{Point}
-use Rattle.plane.specs.declared.Segment.{Segment}
 use Rattle.plane.specs.Plane.{before, ordered, samePoint, sameSegment, dominating, choose}
 use Rattle.plane.proofs.OnSegment.{ordered-read}
 use Rattle.plane.proofs.Equal.{samePoint-read, sameSegment-read}
-use Rattle.scene.specs.declared.Layout.{Layout}
 use Rattle.scene.specs.declared.Scene.{Scene}
 use Rattle.scene.specs.Read.{segmentAt, halfsegmentAt, iaAt, place}
-use Rattle.scene.specs.Conditions.{hasSegments, isRegion}
+use Rattle.scene.specs.Conditions.{isRegion}
 use Rattle.sweep.specs.Lower.{passesUnder, passesOver, lowerAtRight}
 use Rattle.sweep.specs.Kept.{Strand, isOf, sameObject, Kept}
 use Rattle.sweep.specs.Swept.{underBeginning, objectOf, strandOf, isFirst, strandAt, isBeginning, Began, Ended, Taken, it-began, it-ended, total}

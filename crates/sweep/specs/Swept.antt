@@ -5,9 +5,8 @@ use mathlib.Core.Path.{_≡_}
 use mathlib.Core.Bool.{Bool, true, false, not, _&&_, _||_, cond, Bool·beq}
 use mathlib.Core.List.{List, [], _∷_, _++_}
 use lib.Dec.{T, ltb}
-use lib.ListN.{length, getD, take, drop}
-use Rattle.whole.specs.Count.{_∈_, bit, odd, count}
-use Rattle.plane.specs.declared.Point.{Point}
+use lib.ListN.{length, getD, take}
+use Rattle.whole.specs.Count.{bit, odd, count}
 use Rattle.plane.specs.declared.Segment.{Segment}
 use Rattle.plane.specs.Plane.{samePoint, sameSegment, comesBefore}
 use Rattle.scene.specs.declared.Layout.{Layout}

@@ -1,5 +1,5 @@
 // The sweep over the halfsegments of a scene, from left to right: where it accepts, the conditions 11 to 15 hold, and how many of the other
-// object's segments pass under each segment is noted, as a parity. Where it does not, nothing is said.
+// object's segments pass under each segment, or under each point, is noted, as a parity. Where it does not, nothing is said.
 use event::Step;
 use scene::Layout;
 use scene::Scene;

@@ -1,6 +1,6 @@
 -- `sweep::event::end` meets its contract: what was tested of the entries above its own and of the neighbours that meet, and the entry's element is
 -- of the same object.
-use Prim.Native.Nat.{ℕ, suc, _+_, _-_, _<_, _≤_}
+use Prim.Native.Nat.{ℕ, suc, _+_, _-_, _<_}
 use native.Mathlib.Omega.{arith}
 use mathlib.Core.Path.{_≡_, refl, sym, ap, subst, _∙_}
 use mathlib.Core.List.{List}
@@ -15,7 +15,7 @@ use Rattle.plane.proofs.Machine.{right-in-range}
 use Rattle.scene.specs.Read.{segmentAt}
 use Rattle.sweep.specs.Lower.{passesOver, lowerAtRight}
 use Rattle.sweep.specs.Kept.{Strand}
-use Rattle.sweep.specs.Swept.{objectOf, strandOf, strandAt, isFirst, Ended}
+use Rattle.sweep.specs.Swept.{objectOf, strandOf, strandAt, Ended}
 use Rattle.sweep.specs.Ready.{Placed}
 use Rattle.sweep.proofs.Entries.{entry-readable, entry-placed, in-range-at, ready-readable, ready-entry, ready-fewer, not-on, same-on}
 use Rattle.sweep.proofs.event.end.Statement.{statement}

@@ -3,8 +3,7 @@
 use Prim.Native.Nat.{ℕ, _-_, _≤_}
 use native.Mathlib.Omega.{arith}
 use mathlib.Core.Path.{_≡_, sym, ap, _∙_}
-use mathlib.Core.Bool.{Bool, not, Bool·beq}
-use borrow.Author.Needs.{needs}
+use mathlib.Core.Bool.{Bool, Bool·beq}
 use lib.Dec.{ltb}
 use lib.ListN.{take}
 use Rattle.whole.proofs.Parity.{parity, parity-nil, odd-count}

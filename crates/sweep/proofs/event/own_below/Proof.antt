@@ -9,7 +9,6 @@ use Rattle.whole.proofs.Logic.{is-true}
 use Rattle.plane.proofs.Equal.{sameSegment-read}
 use Rattle.scene.specs.Read.{segmentAt}
 use Rattle.scene.proofs.Flags.{upheld}
-use Rattle.scene.proofs.Given.{GoodHalfsegment}
 use Rattle.sweep.specs.Swept.{strandAt, Entry}
 use Rattle.sweep.proofs.Entries.{entry-readable, ready-entry, one-lower}
 use Rattle.sweep.proofs.event.own_below.Statement.{statement}

@@ -1,5 +1,5 @@
 -- `sweep::place::fits_over` meets its contract, by its two tests.
-use Prim.Native.Nat.{ℕ, suc, _-_, _<_}
+use Prim.Native.Nat.{ℕ, suc, _-_}
 use native.Mathlib.Omega.{arith}
 use mathlib.Core.Path.{_≡_, subst, ap, _∙_}
 use mathlib.Core.Bool.{Bool, not, _&&_, _||_, Bool·beq}

@@ -1,7 +1,7 @@
 -- `sweep::points::is_point_next` meets its contract: the tests of the definition, in its order.
 use Prim.Native.Nat.{ℕ, _<_}
 use native.Mathlib.Omega.{arith}
-use mathlib.Core.Path.{_≡_, sym, ap, ap₂, _∙_}
+use mathlib.Core.Path.{sym, ap, ap₂, _∙_}
 use mathlib.Core.Bool.{Bool, false, not}
 use mathlib.Core.List.{List}
 use borrow.Author.Needs.{needs}

@@ -1,8 +1,8 @@
 -- `sweep::points::note_points` meets its contract. The loop's invariant: the points from `i` to `k` have been noted. The measure is the number of points
 -- that are left.
-use Prim.Native.Nat.{ℕ, _-_, _<_, _≤_}
+use Prim.Native.Nat.{_-_, _<_, _≤_}
 use native.Mathlib.Omega.{arith}
-use mathlib.Core.Path.{_≡_, sym, ap, _∙_}
+use mathlib.Core.Path.{sym, _∙_}
 use lib.Dec.{T}
 use lib.ListN.{length, take}
 use Rattle.whole.proofs.Logic.{is-true}

@@ -5,7 +5,7 @@ use native.Mathlib.Omega.{arith}
 use mathlib.Core.Path.{_≡_, refl, sym, subst, _∙_}
 use mathlib.Core.Bool.{Bool, true, false}
 use mathlib.Core.List.{List, []}
-use lib.Dec.{T, eqb→eq}
+use lib.Dec.{eqb→eq}
 use lib.ListN.{length, take, set, length-set}
 use lib.Seq.{getD-set-other}
 use borrow.Author.Needs.{needs}

@@ -1,0 +1,98 @@
+-- `features::question::swept_vectors` meets its contract: the masks, the flags by meetings and classes, and the wanted ones packed.
+use mathlib.Core.Path.{_≡_, sym, ap, ap₂, _∙_}
+use mathlib.Core.List.{List}
+use Prim.Native.Nat.{ℕ}
+use borrow.Author.Needs.{needs}
+use Rattle.checks.proofs.Laws.{SoundScene}
+use Rattle.flags.specs.Walk.{masked, allFlags}
+use Rattle.gathered.specs.Table.{flagsOfFBy, flagsOfGBy}
+use Rattle.gathered.proofs.Theorem.{flags-of-f, flags-of-g}
+use Rattle.features.proofs.Answered.{accepted, vector-f, vector-g}
+use Rattle.features.proofs.question.swept_vectors.Statement.{statement}
+use Rattle.features.proofs.question.swept_vectors.Tie as tie
+
+taken : (z : tie.Start) → SoundScene (z .args .s .now) (z .args .scene)
+taken z = accepted (z .args .s .now) (z .args .scene) (z .pre .0)
+
+abbrev start : tie.After-wanted2 → tie.Start
+start c = c .before .before .before .before .before .before .before
+
+masks-of-requires : tie.Need-masks-of-requires
+masks-of-requires c κs = search needs
+
+wanted-requires : tie.Need-wanted-requires
+wanted-requires c κs = search needs
+
+wanted-requires-2 : tie.Need-wanted-requires-2
+wanted-requires-2 c κs = search needs
+
+meetings-requires : tie.Need-meetings-requires
+meetings-requires c κs =
+    let z = start c in
+    let o = taken z in
+    (o .f-sound .read, o .g-sound .read, o .f-sound .order, o .g-sound .order, z .pre .1)
+
+classes-of-requires : tie.Need-classes-of-requires
+classes-of-requires c κs = let z = start (c .before) in (z .pre .0, z .pre .1)
+
+flags-of-f-requires : tie.Need-flags-of-f-requires
+flags-of-f-requires c κs = search needs
+
+flags-of-g-requires : tie.Need-flags-of-g-requires
+flags-of-g-requires c κs = search needs
+
+unpacked-requires : tie.Need-unpacked-requires
+unpacked-requires c κs = search needs
+
+masked-requires : tie.Need-masked-requires
+masked-requires c κs = search needs
+
+packed-requires : tie.Need-packed-requires
+packed-requires c κs = search needs
+
+unpacked-requires-2 : tie.Need-unpacked-requires-2
+unpacked-requires-2 c κs = search needs
+
+masked-requires-2 : tie.Need-masked-requires-2
+masked-requires-2 c κs = search needs
+
+packed-requires-2 : tie.Need-packed-requires-2
+packed-requires-2 c κs = search needs
+
+returns : tie.Need-returns
+returns c =
+    let classed = c .before .before .before .before .before .before .before .before in
+    let met = classed .before in
+    let wanted = met .before in
+    let z = start wanted in
+    let a = z .args in
+    let m = wanted .before .before .masks-of .ensures in
+    λ i. record {
+      f =
+          vector-f (a .s .now) (a .scene) (a .want-f) (a .want-g) (c .before .before .before .before .before .unpacked .ensures) (c .before .before .before .packed .ensures) (m .0) (wanted .before .wanted .ensures)
+          (c .before .before .before .before .masked .ensures
+          ∙ ap (masked (c .before .before .before .before .before .unpacked .result)) (c .before .before .before .before .before .before .before .flags-of-f .ensures ∙ ap₂ (flagsOfFBy (a .scene .f .shape) (a .scene .g .shape)) (met .meetings .ensures) (classed .classes-of .ensures .0) ∙ sym (flags-of-f (taken z) (z .pre .2)))) i;
+      g =
+          vector-g (a .s .now) (a .scene) (a .want-f) (a .want-g) (c .before .before .unpacked2 .ensures) (c .packed2 .ensures) (m .1) (wanted .wanted2 .ensures)
+          (c .before .masked2 .ensures
+          ∙ ap (masked (c .before .before .unpacked2 .result)) (c .before .before .before .before .before .before .flags-of-g .ensures ∙ ap₂ (flagsOfGBy (a .scene .f .shape) (a .scene .g .shape)) (met .meetings .ensures) (classed .classes-of .ensures .1) ∙ sym (flags-of-g (taken z) (z .pre .2)))) i;
+    }
+
+pub swept-vectors-spec : {M : Type 1} → statement M
+swept-vectors-spec =
+    tie.close
+    (tie.spec
+    masks-of-requires
+    wanted-requires
+    wanted-requires-2
+    meetings-requires
+    classes-of-requires
+    flags-of-f-requires
+    flags-of-g-requires
+    unpacked-requires
+    masked-requires
+    packed-requires
+    unpacked-requires-2
+    masked-requires-2
+    packed-requires-2
+    returns)
