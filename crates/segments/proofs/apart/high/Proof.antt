@@ -1,4 +1,4 @@
--- `segments::boxes::high` meets its contract: the higher of the two ends.
+-- `segments::apart::high` meets its contract: the higher of the two ends.
 use mathlib.Core.Path.{_≡_, sym, ap₂, _∙_}
 use mathlib.Core.Bool.{Bool, true, false}
 use lib.Signed.{ltZ}
@@ -7,9 +7,9 @@ use mir.Val.{toZ, ofZ}
 use mir.Facts.{toZ-ofZ}
 use borrow.Author.Needs.{needs}
 use Rattle.plane.proofs.Machine.{Held}
-use Rattle.segments.proofs.Apart.{same-at-most, less-at-most, not-less-at-most}
-use Rattle.segments.proofs.boxes.high.Statement.{statement}
-use Rattle.segments.proofs.boxes.high.Tie as tie
+use Rattle.segments.proofs.Parted.{same-at-most, less-at-most, not-less-at-most}
+use Rattle.segments.proofs.apart.high.Statement.{statement}
+use Rattle.segments.proofs.apart.high.Tie as tie
 
 module _ (z : tie.Start) where
   left-held : Held (z .args .t .left)
