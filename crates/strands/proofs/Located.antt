@@ -1,60 +1,88 @@
 -- A point that the sweep has reached and that is no end of G's segments: of these only the active ones can have the point on them or count below it,
 -- and they do where the sweep's tests of their lines say so. So what the sweep notes is what is defined.
-use Prim.Native.Nat.{ℕ, _<_, _≤_}
+use Prim.Native.Nat.{ℕ, suc, _<_, _≤_}
 use native.Mathlib.Nat.{not-suc-le-zero}
 use native.Mathlib.Omega.{arith}
-use mathlib.Core.Path.{_≡_, sym, ap, ap₂, _∙_, subst}
+use mathlib.Core.Path.{_≡_, refl, sym, ap, ap₂, _∙_, subst}
+use mathlib.Core.Logic.{⊎-elim}
 use mathlib.Core.Bool.{Bool, true, false, not, _&&_, _||_, cond, true≢false}
 use mathlib.Core.List.{List, [], _∷_, map}
 use lib.Dec.{T, ltb}
-use lib.IntN.{ℤ, _-ℤ_}
-use lib.ListN.{length, getD, take}
-use Rattle.whole.specs.Count.{_∈_, bit, odd, some, count}
+use lib.IntN.{ℤ, pos, _-ℤ_}
+use lib.Signed.{ltZ}
+use lib.ListN.{length, getD, take, drop, take-append-drop}
+use lib.Seq.{length-take-le, getD-take}
+use Rattle.whole.specs.Count.{_∈_, here, there, bit, odd, some, count}
 use Rattle.whole.proofs.Solver.{var, _:-_, opp, solve}
-use Rattle.whole.proofs.Sign.{NonNeg, nonneg-both, sub-zero-eq, pos-ltZ0}
-use Rattle.whole.proofs.Logic.{and-left, and-right, or-left, or-right, refute, same-test, and-follows, true-is, is-true, in-map, some-find, some-make, none-of}
-use Rattle.whole.proofs.Parity.{parity, odd-count}
-use Rattle.whole.proofs.Counted.{count-none, count-same, some-count}
+use Rattle.whole.proofs.Sign.{NonNeg, nonneg-both, sub-zero-eq, zero-pos, zero-neg, pos-clash, ltZ0-pos, pos-ltZ0, ltZ0-neg, neg-ltZ0, Half, at-least, under, half, Weak, weak-zero, weak-plus, weak}
+use Rattle.whole.proofs.Logic.{and-left, and-right, or-left, or-right, refute, same-test, and-follows, true-is, in-map, in-at, in-append, some-find, some-make, none-of}
+use Rattle.whole.proofs.Counted.{count-append, count-none, count-same, some-count}
 use Rattle.plane.specs.declared.Point.{Point}
 use Rattle.plane.specs.declared.Segment.{Segment}
 use Rattle.plane.specs.Plane.{side, turn, samePoint, before, grid, on, isEnd, endsAt, onSome, countsBelow}
 use Rattle.plane.proofs.OnSegment.{Ordered, ordered-read}
 use Rattle.plane.proofs.Equal.{point-eq, samePoint-refl}
-use Rattle.plane.proofs.Machine.{isStraight, straight-is}
+use Rattle.plane.proofs.Machine.{isStraight, straight-is, eqZ-no}
 use Rattle.plane.proofs.Grid.{on-grid, end-grid}
 use Rattle.scene.specs.declared.Scene.{Scene}
 use Rattle.scene.specs.Read.{segmentAt}
 use Rattle.scene.specs.Conditions.{hasSegments, isRegion, segments}
-use Rattle.strands.specs.Lower.{passesUnder}
+use Rattle.strands.specs.Lower.{passesUnder, passesOver}
 use Rattle.strands.specs.Kept.{Strand, Kept}
 use Rattle.strands.specs.Noted.{pointNote}
-use Rattle.strands.specs.Located.{onLine, located}
+use Rattle.strands.specs.Located.{onLine, NearNote, on-entry, between}
 use Rattle.strands.specs.Swept.{objectOf, strandAt, isBeginning, strandsBy, total}
 use Rattle.strands.proofs.Under.{NotBefore, after-x, after-y, counts-under, counts-make, counts-ended, counts-later}
+use Rattle.strands.proofs.Between.{Spans, under-next}
+use Rattle.strands.proofs.Linked.{Linked, linked-sorted, downwards}
+use Rattle.strands.proofs.Neighbours.{all-over}
 use Rattle.strands.proofs.Events.{Reached}
 use Rattle.strands.proofs.Begun.{strandBy, reached, strands, find-by}
-use Rattle.strands.proofs.Entries.{member, of-rest}
 use Rattle.strands.proofs.Counts.{count-first, count-segments, in-segments}
-use Rattle.strands.proofs.Run.{count-map, Orderly, Run, AllEndLater, pointOf, left-point, reaches}
+use Rattle.strands.proofs.Run.{count-map, isRegionOf, Orderly, Run, AllEndLater, pointOf, left-point, reaches}
 
 -- ---- the note, by places
 
 module _ (s status : List ℕ) (n : ℕ) (v : Point) (room : n ≤ length status) where
-  abbrev lineAt : ℕ → Bool
-  lineAt e = onLine (segmentAt s e) v
+  whole-length : length (take n status) ≡ n
+  whole-length = length-take-le n status room
 
-  pub located-on : (k : ℕ) → k < n → lineAt (getD status k 0) ≡ true → located s (take n status) v ≡ 2
-  located-on k h e = rw (true-is (some lineAt (take n status)) (some-make lineAt (member status n k room h) (is-true (lineAt (getD status k 0)) e)))
+  pub near-on : {note : ℕ} (k : ℕ) → k < n → T (onLine (segmentAt s (getD status k 0)) v) → note ≡ 2 → NearNote s (take n status) v note
+  near-on k h t e = on-entry k (omega (arith, whole-length)) (subst (λ (m : ℕ). T (onLine (segmentAt s m) v)) (sym (getD-take n status k 0 h)) t) e
 
-  pub located-off : ((i : ℕ) → i < n → lineAt (getD status i 0) ≡ false) → located s (take n status) v ≡ bit (parity (λ e. passesUnder (segmentAt s e) v) (take n status))
-  located-off none =
-      ap (λ b. cond b 2 (bit (odd (count (λ e. passesUnder (segmentAt s e) v) (take n status))))) no-line
-      ∙ ap bit (odd-count (λ e. passesUnder (segmentAt s e) v) (take n status))
-    where
-      no-line : some lineAt (take n status) ≡ false
-      no-line =
-          refute (some lineAt (take n status))
-          (λ t. let w = some-find lineAt (take n status) t in true≢false (sym (true-is (lineAt (w .0)) (w .2)) ∙ of-rest (λ e. lineAt e ≡ false) status n 0 room (λ i l h. none i h) (w .0) (w .1)))
+  pub near-between : {note : ℕ} (k : ℕ) → k ≤ n → ((i : ℕ) → suc i ≡ k → T (passesUnder (segmentAt s (getD status i 0)) v))
+      → (k < n → T (passesOver (segmentAt s (getD status k 0)) v)) → note ≡ bit (odd k) → NearNote s (take n status) v note
+  near-between k h below above e =
+      between k (omega (arith, whole-length)) (λ i q. subst (λ (m : ℕ). T (passesUnder (segmentAt s m) v)) (sym (getD-take n status i 0 (omega arith))) (below i q))
+      (λ l. let g : k < n = omega (arith, whole-length) in subst (λ (m : ℕ). T (passesOver (segmentAt s m) v)) (sym (getD-take n status k 0 g)) (above g)) e
+
+-- ---- the line of a segment passes under a point, over it or through it
+
+module _ (t : Segment) (v : Point) where
+  under-off : T (passesUnder t v) → onLine t v ≡ false
+  under-off u = eqZ-no (side (t .left) (t .right) v) (pos 0) (λ e. zero-pos e (ltZ0-pos (side (t .left) (t .right) v) u))
+
+  over-off : T (passesOver t v) → onLine t v ≡ false
+  over-off u = eqZ-no (side (t .left) (t .right) v) (pos 0) (λ e. zero-neg e (ltZ0-neg (side (t .left) (t .right) v) u))
+
+  over-not-under : T (passesOver t v) → passesUnder t v ≡ false
+  over-not-under u = refute (passesUnder t v) (λ w. pos-clash (ltZ0-pos (side (t .left) (t .right) v) w) (ltZ0-neg (side (t .left) (t .right) v) u))
+
+-- a value that is neither zero nor positive
+pub over-else : (x : ℤ) → (x ≡ pos 0 → ⊥) → ltZ (pos 0) x ≡ false → T (ltZ x (pos 0))
+over-else x off none = go (half x)
+  where
+    go : Half x → T (ltZ x (pos 0))
+    go (under k) = neg-ltZ0 x k
+    go (at-least k) = by-weak (weak k)
+      where
+        by-weak : Weak x → T (ltZ x (pos 0))
+        by-weak (weak-zero e) = absurd (off e)
+        by-weak (weak-plus w) = absurd (true≢false (sym (true-is (ltZ (pos 0) x) (pos-ltZ0 x w)) ∙ none))
+
+count-all : {A : Type 0} (f : A → Bool) (l : List A) → ((a : A) → a ∈ l → T (f a)) → count f l ≡ length l
+count-all f [] h = refl
+count-all f (a ∷ l) h = omega (arith, ap bit (true-is (f a) (h a here)), count-all f l (λ b m. h b (there m)))
 
 -- ---- one segment beside a point that is no end of it
 
@@ -157,7 +185,12 @@ module _ (s : List ℕ) (sc : Scene) (o : Orderly s sc) (points : hasSegments (s
       F : Strand → Bool
       F a = f (a .segment)
 
-  pub located-is : located s entries v ≡ pointNote (segments s (sc .g)) v
+  -- ---- from the neighbours to all
+
+  abbrev located : ℕ
+  located = cond (some (λ e. onLine (segmentAt s e) v) entries) 2 (bit (odd (count (λ e. passesUnder (segmentAt s e) v) entries)))
+
+  located-is : located ≡ pointNote (segments s (sc .g)) v
   unfolding onSome
   located-is =
       sym (ap₂ (λ (b : Bool) (n : ℕ). cond b 2 (bit (odd n)))
@@ -165,3 +198,52 @@ module _ (s : List ℕ) (sc : Scene) (o : Orderly s sc) (points : hasSegments (s
       ∙ ap (ltb 0) (counted (λ t. on t (grid v)) (λ t. onLine t v) (λ t o a. off-later t v a) (λ t a. off-ended t v a) (λ t o. on-active t v))
       ∙ sym (some-count (λ e. onLine (segmentAt s e) v) entries))
       (counted (countsBelow (grid v)) (λ t. passesUnder t v) (λ t o a. counts-later v t o) (λ t a. counts-ended v t) (λ t. counts-active t v)))
+
+  spans : (e : ℕ) → e ∈ entries → Spans v (segmentAt s e)
+  spans e m =
+      let i = in-map (strandAt s sc) m in
+      let b = kept .active-begun (strandAt s sc e) i in
+      record { in-order = ordered-read (segmentAt s e) (kept .sound (strandAt s sc e) b); begun = reach .begun-before (strandAt s sc e) b; not-ended = reach .active-on (strandAt s sc e) i }
+
+  under-down : Linked (λ e f. T (passesUnder (segmentAt s f) v) → T (passesUnder (segmentAt s e) v)) entries
+  under-down =
+      linked-sorted (strandAt s sc) entries (run .linked) (kept .rising)
+      (λ e f m h q o u. ⊎-elim (λ p. subst (λ (t : Segment). T (passesUnder t v)) (sym p) u) (λ l. under-next (segmentAt s e) (segmentAt s f) v (spans e m) (spans f h) l q u) o)
+
+  -- those below the place pass under v, and those from there on over it
+  module _ (k : ℕ) (within-entries : k ≤ length entries) (below : (i : ℕ) → suc i ≡ k → T (passesUnder (segmentAt s (getD entries i 0)) v))
+      (above : k < length entries → T (passesOver (segmentAt s (getD entries k 0)) v)) where
+    all-under : (e : ℕ) → e ∈ take k entries → T (passesUnder (segmentAt s e) v)
+    all-under = downwards (λ e. T (passesUnder (segmentAt s e) v)) 0 entries under-down k within-entries below
+
+    over-all : (e : ℕ) → e ∈ drop k entries → T (passesOver (segmentAt s e) v)
+    over-all = all-over (isRegionOf s sc) (strandAt s sc) 0 entries kept (run .linked) reach k above
+
+    count-place : count (λ e. passesUnder (segmentAt s e) v) entries ≡ k
+    count-place =
+        ap (count (λ e. passesUnder (segmentAt s e) v)) (sym (take-append-drop k entries))
+        ∙ omega (
+          arith,
+          count-append (λ e. passesUnder (segmentAt s e) v) (take k entries) (drop k entries),
+          count-all (λ e. passesUnder (segmentAt s e) v) (take k entries) all-under,
+          length-take-le k entries within-entries,
+          count-none (λ e. passesUnder (segmentAt s e) v) (drop k entries) (λ e m. over-not-under (segmentAt s e) v (over-all e m)),
+        )
+
+    no-line : some (λ e. onLine (segmentAt s e) v) entries ≡ false
+    no-line =
+        refute (some (λ e. onLine (segmentAt s e) v) entries)
+        (λ t. let w = some-find (λ e. onLine (segmentAt s e) v) entries t in true≢false (sym (true-is _ (w .2)) ∙ off (w .0) (w .1)))
+      where
+        off : (e : ℕ) → e ∈ entries → onLine (segmentAt s e) v ≡ false
+        off e m =
+            ⊎-elim (λ h. under-off (segmentAt s e) v (all-under e h)) (λ h. over-off (segmentAt s e) v (over-all e h))
+            (in-append (take k entries) (subst (λ (l : List ℕ). e ∈ l) (sym (take-append-drop k entries)) m))
+
+  pub near-is : {note : ℕ} → NearNote s entries v note → note ≡ pointNote (segments s (sc .g)) v
+  near-is (on-entry k h t e) =
+      e
+      ∙ sym (ap (λ (b : Bool). cond b 2 (bit (odd (count (λ e. passesUnder (segmentAt s e) v) entries)))) (true-is (some (λ e. onLine (segmentAt s e) v) entries) (some-make (λ e. onLine (segmentAt s e) v) (in-at entries 0 k h) t)))
+      ∙ located-is
+  near-is (between k h below above e) =
+      e ∙ sym (ap₂ (λ (b : Bool) (n : ℕ). cond b 2 (bit (odd n))) (no-line k h below above) (count-place k h below above)) ∙ located-is

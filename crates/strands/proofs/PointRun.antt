@@ -22,7 +22,7 @@ use Rattle.scene.specs.Conditions.{hasSegments, segments, outOfOrder}
 use Rattle.segments.proofs.Indices.{points-rise}
 use Rattle.strands.specs.Swept.{objectOf, total}
 use Rattle.strands.specs.Noted.{pointNote, PointsNoted}
-use Rattle.strands.specs.Located.{located, pointBy, isPointNext, PointsTaken}
+use Rattle.strands.specs.Located.{NearNote, pointBy, isPointNext, PointsTaken}
 use Rattle.strands.proofs.Under.{NotBefore}
 use Rattle.strands.proofs.Entries.{one-more}
 use Rattle.strands.proofs.Objects.{read}
@@ -30,7 +30,7 @@ use Rattle.strands.proofs.Ordered.{orderly}
 use Rattle.strands.proofs.Run.{pointOf, Orderly, AllEndLater, Run}
 use Rattle.strands.proofs.Notes.{AllNoted}
 use Rattle.strands.proofs.Chosen.{none-left, one-left, both-left, not-before-trans, from-one, Chosen, chosen}
-use Rattle.strands.proofs.Located.{located-is}
+use Rattle.strands.proofs.Located.{near-is}
 
 module _ (s : List ℕ) (sc : Scene) where
   -- a point that comes next is there
@@ -53,13 +53,13 @@ module _ (s : List ℕ) (sc : Scene) where
         }
 
     pub points-more : (k : ℕ) {new : List ℕ} {note : ℕ} → PointsTaken s sc j entries i k old new → T (isPointNext s sc k j) → k < length new
-        → note ≡ located s entries (pointBy s sc k) → PointsTaken s sc j entries i (k + 1) old (set new k note)
+        → NearNote s entries (pointBy s sc k) note → PointsTaken s sc j entries i (k + 1) old (set new k note)
     points-more k {new} {note} p t room is =
         record {
           onward = omega (arith, p .onward);
           same-length = simp length-set (p .same-length);
           next = λ m a b. one-more {P = λ m. i ≤ m → T (isPointNext s sc m j)} k (λ m b a. p .next m a b) (λ a. t) m b a;
-          notes = λ m a b. one-more {P = λ m. i ≤ m → getD (set new k note) m 0 ≡ located s entries (pointBy s sc m)} k (λ m b a. still m (λ e. omega arith) ∙ p .notes m a b) (λ a. getD-set-same new k note 0 room ∙ is) m b a;
+          notes = λ m a b. one-more {P = λ m. i ≤ m → NearNote s entries (pointBy s sc m) (getD (set new k note) m 0)} k (λ m b a. subst (NearNote s entries (pointBy s sc m)) (sym (still m (λ e. omega arith))) (p .notes m a b)) (λ a. subst (NearNote s entries (pointBy s sc k)) (sym (getD-set-same new k note 0 room)) is) m b a;
           others = λ m h. ⊎-elim (λ b. still m (λ e. omega (arith, p .onward)) ∙ p .others m (inl b)) (λ b. still m (λ e. omega arith) ∙ p .others m (inr (omega arith))) h;
         }
       where
@@ -125,7 +125,7 @@ module _ (s : List ℕ) (sc : Scene) where
       passed-points =
           record {
             in-time = λ p k a b h. passed .in-time p k (omega (arith, taken .onward)) b h;
-            noted = λ later p h away. ⊎-elim (λ l. taken .others p (inl l) ∙ passed .noted later p l away) (λ l. taken .notes p l h ∙ located-is s sc start no-segments (true-is (hasSegments (sc .g .shape)) has) run within later (pointBy s sc p) (λ k g. passed .in-time p k l (omega arith) g) (before-next p j (taken .next p l h)) away) (below-or p i);
+            noted = λ later p h away. ⊎-elim (λ l. taken .others p (inl l) ∙ passed .noted later p l away) (λ l. near-is s sc start no-segments (true-is (hasSegments (sc .g .shape)) has) run within later (pointBy s sc p) (λ k g. passed .in-time p k l (omega arith) g) (before-next p j (taken .next p l h)) away (taken .notes p l h)) (below-or p i);
           }
         where
           below-or : (p i : ℕ) → (p < i) ⊎ (i ≤ p)

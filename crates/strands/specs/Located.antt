@@ -1,29 +1,30 @@
--- What the sweep notes of a point of F, by the entries that are active there, and which points it takes before the next halfsegment of G.
-use Prim.Native.Nat.{ℕ, _<_, _≤_}
+-- What the sweep notes of a point of F, by its neighbours among the entries that are active there, and which points it takes before the next halfsegment of G.
+use Prim.Native.Nat.{ℕ, suc, _<_, _≤_}
 use mathlib.Core.Path.{_≡_}
 use mathlib.Core.Logic.{_⊎_}
-use mathlib.Core.Bool.{Bool, false, not, _&&_, _||_, cond}
+use mathlib.Core.Bool.{Bool, false, not, _&&_, _||_}
 use mathlib.Core.List.{List}
 use lib.Dec.{T, ltb}
 use lib.IntN.{pos}
 use lib.ListN.{length, getD}
-use Rattle.whole.specs.Count.{eqZ, bit, odd, some, count}
+use Rattle.whole.specs.Count.{eqZ, bit, odd}
 use Rattle.plane.specs.declared.Point.{Point}
 use Rattle.plane.specs.declared.Segment.{Segment}
 use Rattle.plane.specs.Plane.{side, before, dominating}
 use Rattle.scene.specs.declared.Scene.{Scene}
 use Rattle.scene.specs.Read.{pointAt, segmentAt, halfsegmentAt, place}
-use Rattle.strands.specs.Lower.{passesUnder}
+use Rattle.strands.specs.Lower.{passesUnder, passesOver}
 use Rattle.strands.specs.Swept.{total}
 
 -- the line of t passes through v: neither under it nor over it
 abbrev pub onLine : Segment → Point → Bool
 onLine t v = eqZ (side (t .left) (t .right) v) (pos 0)
 
--- 2 where the line of an entry passes through v, else 1 where an odd number pass under it
-abbrev pub located : List ℕ → List ℕ → Point → ℕ
-located s entries v =
-    cond (some (λ e. onLine (segmentAt s e) v) entries) 2 (bit (odd (count (λ e. passesUnder (segmentAt s e) v) entries)))
+-- what the sweep finds of v: an entry whose line passes through it, or a place where the entry just below passes under it and the one there over it
+pub data NearNote (s entries : List ℕ) (v : Point) (note : ℕ) : Type 0 where
+  on-entry : (k : ℕ) → k < length entries → T (onLine (segmentAt s (getD entries k 0)) v) → note ≡ 2 → NearNote s entries v note
+  between : (k : ℕ) → k ≤ length entries → ((i : ℕ) → suc i ≡ k → T (passesUnder (segmentAt s (getD entries i 0)) v))
+      → (k < length entries → T (passesOver (segmentAt s (getD entries k 0)) v)) → note ≡ bit (odd k) → NearNote s entries v note
 
 module _ (s : List ℕ) (sc : Scene) where
   abbrev pub pointBy : ℕ → Point
@@ -39,5 +40,5 @@ module _ (s : List ℕ) (sc : Scene) where
     pub onward : i ≤ i′
     pub same-length : length new ≡ length old
     pub next : (k : ℕ) → i ≤ k → k < i′ → T (isPointNext k j)
-    pub notes : (k : ℕ) → i ≤ k → k < i′ → getD new k 0 ≡ located s entries (pointBy k)
+    pub notes : (k : ℕ) → i ≤ k → k < i′ → NearNote s entries (pointBy k) (getD new k 0)
     pub others : (k : ℕ) → (k < i) ⊎ (i′ ≤ k) → getD new k 0 ≡ getD old k 0

@@ -10,36 +10,38 @@ ghost use mathlib.Core.Path.{_≡_};
 ghost use mathlib.Core.Bool.{Bool, false};
 ghost use Prim.Native.Nat.{ℕ, _<_, _≤_};
 ghost use lib.Dec.{T};
-ghost use lib.ListN.{length, getD, take};
+ghost use lib.ListN.{length, take};
 ghost use Rattle.whole.specs.Count.{_∈_};
 ghost use Rattle.plane.specs.Plane.{inRange};
 ghost use Rattle.scene.specs.declared.Shape.the-variants.{Points};
 ghost use Rattle.scene.specs.declared.Fault.the-variants.{Nothing};
 ghost use Rattle.scene.specs.Read.{IsScene};
 ghost use Rattle.scene.specs.Conditions.{hasSegments, outOfOrder};
-ghost use Rattle.scene.proofs.Given.{GoodHalfsegment};
-ghost use Rattle.strands.specs.Located.{located, pointBy, isPointNext, PointsTaken};
+ghost use Rattle.strands.specs.Ready.{Readable};
+ghost use Rattle.strands.specs.Located.{NearNote, pointBy, isPointNext, PointsTaken};
 ghost use Rattle.strands.specs.Evenly.{RegionsEndEvenly};
 ghost use Rattle.strands.specs.Noted.{Noted};
 ghost use Rattle.strands.specs.Swept.{objectOf, total, Entry, Passes};
 
-// The note of a point by the first n entries.
+// The note of a point by the first n entries. In order, those that pass under it come first, and those that pass over it last: the one just below
+// these decides. The search promises an entry that passes over it, and not the first, so the loop steps below any more of them.
 fn locate(s: &[u8], status: &[u16], n: usize, v: Point) -> u8
-    requires { ⌜ (n ≤ length (now status)) × ((i : ℕ) → i < n → GoodHalfsegment (now s) (getD (now status) i 0)) × T (inRange v) ⌝ }
-    ensures { λ r. ⌜ r ≡ located (now (s .entry)) (take n (now (status .entry))) v ⌝ }
+    requires { ⌜ Readable (now s) (now status) n × T (inRange v) ⌝ }
+    ensures { λ r. ⌜ NearNote (now (s .entry)) (take n (now (status .entry))) v r ⌝ }
 {
-    let mut odd = false;
-    let mut k: usize = 0;
-    while k < n {
-        let u = bytes::segment(s, place::wide(status[k]));
+    let mut k = place::first_over(s, v, status, n);
+    while k > 0 {
+        let u = bytes::segment(s, place::wide(status[k - 1]));
         let value = plane::side(u.left, u.right, v);
         if value == 0 {
             return 2;
         }
-        odd = odd != (value > 0);
-        k += 1;
+        if value > 0 {
+            return (k % 2 == 1) as u8;
+        }
+        k -= 1;
     }
-    odd as u8
+    0
 }
 
 // Does F's point i come before G's halfsegment j?
@@ -63,7 +65,7 @@ fn is_point_next(s: &[u8], scene: Scene, i: usize, j: usize) -> bool
 // The note of F's point i.
 fn note_of(s: &[u8], scene: Scene, i: usize, status: &[u16], n: usize) -> u8
     requires { ⌜ IsScene (now s) scene × (scene .f .shape ≡ Points) × (i < scene .f .count) × (n ≤ length (now status)) × ((e : ℕ) → e ∈ take n (now status) → Entry (now s) scene e) ⌝ }
-    ensures { λ r. ⌜ r ≡ located (now (s .entry)) (take n (now (status .entry))) (pointBy (now (s .entry)) scene i) ⌝ }
+    ensures { λ r. ⌜ NearNote (now (s .entry)) (take n (now (status .entry))) (pointBy (now (s .entry)) scene i) r ⌝ }
 {
     let f = scene.f;
     locate(s, status, n, bytes::point(s, records::place(f, i)))

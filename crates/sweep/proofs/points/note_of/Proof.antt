@@ -7,7 +7,7 @@ use Rattle.plane.specs.declared.Point.{Point}
 use Rattle.plane.specs.Plane.{inRange}
 use Rattle.scene.specs.Read.{place, pointAt}
 use Rattle.scene.proofs.Given.{GoodPoint}
-use Rattle.strands.specs.Located.{located, pointBy}
+use Rattle.strands.specs.Located.{NearNote, pointBy}
 use Rattle.strands.proofs.Entries.{entry-readable, member}
 use Rattle.strands.proofs.Objects.{point-good}
 use Rattle.sweep.proofs.points.note_of.Statement.{statement}
@@ -34,15 +34,17 @@ locate-requires : tie.Need-locate-requires
 locate-requires c κs =
     let a = z c .args in
     let p = z c .pre in (
-      p .3,
-      λ i h. entry-readable (a .s .now) (a .scene) (p .0) (p .4 (getD (a .status .now) i 0) (member (a .status .now) (a .n) i (p .3) h)),
+      record {
+        room = p .3;
+        entries = λ i h. entry-readable (a .s .now) (a .scene) (p .0) (p .4 (getD (a .status .now) i 0) (member (a .status .now) (a .n) i (p .3) h));
+      },
       subst (λ (v : Point). T (inRange v)) (sym (point-is c)) (good-f (z c) .in-range),
     )
 
 returns : tie.Need-returns
 returns c =
     let p = c .before in
-    c .locate .ensures ∙ ap (located (z p .args .s .now) (take (z p .args .n) (z p .args .status .now))) (point-is p)
+    subst (λ (v : Point). NearNote (z p .args .s .now) (take (z p .args .n) (z p .args .status .now)) v (c .locate .result)) (point-is p) (c .locate .ensures)
 
 pub note-of-spec : {M : Type 1} → statement M
 note-of-spec = tie.close (tie.spec place-requires point-requires locate-requires returns)
