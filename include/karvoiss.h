@@ -72,11 +72,11 @@ extern "C" {
 
 /* The stack that each call needs at most, in bytes. No call recurses, and each
  * was measured on scenes of full size, of every pair of types, to need about
- * 3,200 bytes; the numbers leave room for other compilers.
+ * 5,600 bytes; the numbers leave room for other compilers.
  */
-#define KARVOISS_VECTORS_STACK 6400
-#define KARVOISS_CELLS_STACK 6400
-#define KARVOISS_OVERLAP_STACK 6400
+#define KARVOISS_VECTORS_STACK 11200
+#define KARVOISS_CELLS_STACK 11200
+#define KARVOISS_OVERLAP_STACK 11200
 
 /* The topological feature vectors of F and G.
  *

@@ -5,17 +5,16 @@ use native.Mathlib.Nat.{eq-or-lt-of-le}
 use native.Mathlib.Omega.{arith}
 use mathlib.Core.Path.{_≡_, refl, sym, ap, subst, subst₂, _∙_}
 use mathlib.Core.Logic.{⊎-elim}
-use mathlib.Core.Bool.{Bool, true, false, not, _&&_, cond, Bool·beq}
+use mathlib.Core.Bool.{Bool, true, false, not, cond, Bool·beq}
 use mathlib.Core.List.{List, [], _∷_, _++_, map}
 use lib.Dec.{T, leb, ltb, leb→le}
 use borrow.Author.Tests.{lt-ltb, not-false}
-use Rattle.whole.specs.Count.{odd, some, _∈_, here, there}
-use Rattle.whole.proofs.Logic.{beq-same, and-left, and-right, is-true, true-is, in-nil, in-cons, some-find, none-of, in-map, map-in, Sorted, sorted-nil, sorted-cons, sorted-map, rising}
+use Rattle.whole.specs.Count.{odd, _∈_, here, there}
+use Rattle.whole.proofs.Logic.{beq-same, and-left, and-right, is-true, true-is, in-nil, in-cons, none-of, in-map, map-in, Sorted, sorted-nil, sorted-cons, sorted-map, rising}
 use Rattle.plane.specs.declared.Point.{Point}
 use Rattle.plane.specs.declared.Segment.{Segment}
 use Rattle.plane.specs.declared.Halfsegment.{Halfsegment}
-use Rattle.plane.specs.Plane.{inRange, segmentInRange, before, sameSegment, ordered, dominating, comesBefore, grid, endsAt, interiorAbove, touch}
-use Rattle.plane.proofs.Equal.{sameSegment-read}
+use Rattle.plane.specs.Plane.{inRange, segmentInRange, before, ordered, dominating, comesBefore, grid, endsAt, interiorAbove, touch}
 use Rattle.plane.proofs.Order.{before-irreflexive, before-trans, comes-irreflexive, comes-trans, LeftBefore, halfOf}
 use Rattle.plane.proofs.Accepted.{Split, Regular, Across, AllOrdered, across-from-touch, split-from-order, even-from-ends}
 use Rattle.scene.specs.declared.Layout.{Layout}
@@ -25,10 +24,11 @@ use Rattle.scene.specs.declared.Fault.the-variants.{At, Nothing}
 use Rattle.scene.specs.declared.CheckedObject.{CheckedObject}
 use Rattle.scene.specs.declared.CheckedScene.{CheckedScene}
 use Rattle.scene.specs.Read.{pointAt, shapeNumber, place, unless, IsObject}
-use Rattle.scene.specs.Conditions.{indices, elements, keep, hasSegments, isRegion, half, ia, isLeft, segments, earliest, inOrder, isMisplaced, outOfOrder, partner, isUnpaired, unpaired, isTouching, touching, touchingItself, endsOddly, oddEnd, hasWrongIa, wrongIa, Rule, rule, objectRules, orElse, overBoth, touchingAcross, sceneRules, checkSceneBy, checkObject}
+use Rattle.scene.specs.Conditions.{indices, elements, keep, hasSegments, isRegion, half, ia, isLeft, segments, earliest, inOrder, isMisplaced, outOfOrder, unpaired, isTouching, touching, touchingItself, endsOddly, oddEnd, hasWrongIa, wrongIa, Rule, rule, objectRules, orElse, overBoth, touchingAcross, sceneRules, checkSceneBy, checkObject}
 use Rattle.scene.proofs.Taken.{TakenScene}
 use Rattle.scene.proofs.Given.{NoFault, checked-scene, checked-object}
 use Rattle.segments.proofs.Elements.{point-good, half-good, order-of-points, order-of-halves}
+use Rattle.segments.proofs.Partners.{Partner, partner-there}
 use Rattle.segments.proofs.Indices.{indices-in, element-in, in-element, keep-in, in-keep, kept-rise, not-nothing, none-wrong, halves-rise, points-rise}
 
 -- ---- an object that 10 to 14 do not refuse
@@ -49,39 +49,6 @@ module _ (s : List ℕ) (l : Layout) (i : ℕ) where
   left-segments : isLeft s l i ≡ true → (hasSegments (l .shape) ≡ true) × (half s l i .«is_left» ≡ true)
   left-segments e =
       (true-is _ (and-left (hasSegments (l .shape)) (half s l i .«is_left») (is-true (isLeft s l i) e)), true-is _ (and-right (hasSegments (l .shape)) (half s l i .«is_left») (is-true (isLeft s l i) e)))
-
--- the halfsegment "of opposite d, equal ends and ia"
-pub record Partner (s : List ℕ) (l : Layout) (i : ℕ) : Type 0 where
-  pub index : ℕ
-  pub there : index < l .count
-  pub other-side : half s l index .«is_left» ≡ not (half s l i .«is_left»)
-  pub same-segment : half s l index .segment ≡ half s l i .segment
-  pub same-ia : ia s l index ≡ ia s l i
-
-beq-not : (a b : Bool) → T (not (Bool·beq a b)) → b ≡ not a
-beq-not true true t = absurd t
-beq-not true false t = refl
-beq-not false true t = refl
-beq-not false false t = absurd t
-
-as-partner : (s : List ℕ) (l : Layout) (i j : ℕ) → j < l .count → T (partner s l i j) → Partner s l i
-unfolding partner
-as-partner s l i j h t = record {
-  index = j;
-  there = h;
-  other-side = beq-not (half s l i .«is_left») (half s l j .«is_left») (and-left sides segments′ both);
-  same-segment = sym (sameSegment-read (half s l i .segment) (half s l j .segment) (and-right sides segments′ both));
-  same-ia = sym (beq-same (ia s l i) (ia s l j) (true-is _ (and-right (sides && segments′) (Bool·beq (ia s l i) (ia s l j)) t)));
-}
-  where
-    sides : Bool
-    sides = not (Bool·beq (half s l i .«is_left») (half s l j .«is_left»))
-
-    segments′ : Bool
-    segments′ = sameSegment (half s l i .segment) (half s l j .segment)
-
-    both : T (sides && segments′)
-    both = and-left (sides && segments′) (Bool·beq (ia s l i) (ia s l j)) t
 
 module _ {s : List ℕ} {l : Layout} (o : SoundObject s l) where
   -- 10: each element comes before every later one
@@ -149,13 +116,7 @@ module _ {s : List ℕ} {l : Layout} (o : SoundObject s l) where
 
   -- 11: every halfsegment has its partner
   pub partner-of : hasSegments (l .shape) ≡ true → (i : ℕ) → i < l .count → Partner s l i
-  unfolding unpaired
-  partner-of e i h =
-      let w = some-find (partner s l i) (elements l) (is-true (some (partner s l i) (elements l)) found) in
-      as-partner s l i (w .0) (in-element l (w .0) (w .1)) (w .2)
-    where
-      found : some (partner s l i) (elements l) ≡ true
-      found = not-false (some (partner s l i) (elements l)) (rw e at (none-wrong l (isUnpaired s l) (o .paired) i h))
+  partner-of = partner-there s l (o .paired)
 
   -- so the segment of a right halfsegment is one of the list too
   pub segment-in : hasSegments (l .shape) ≡ true → (i : ℕ) → i < l .count → half s l i .segment ∈ segments s l
@@ -246,7 +207,7 @@ across {s} {sc} o =
         subst (λ (t : Segment). touch t u ≡ false) (w .3)
         (none-of (touch (half s (sc .f) (w .0) .segment)) (rw (w .2) at (none-wrong (sc .f) (isTouching s (sc .f) (segments s (sc .g))) (o .apart) (w .0) (w .1))) k)
 
-neither : (a b : Fault) → orElse a b ≡ Nothing → (a ≡ Nothing) × (b ≡ Nothing)
+pub neither : (a b : Fault) → orElse a b ≡ Nothing → (a ≡ Nothing) × (b ≡ Nothing)
 neither (At p) b e = absurd (not-nothing e)
 neither Nothing b e = (refl, e)
 

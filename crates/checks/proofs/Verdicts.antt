@@ -1,7 +1,7 @@
 -- Verdicts: the conditions of a list one after the other by their numbers, and how the check of a question is put together from the verdicts of its
 -- parts, whatever conditions of its own it has.
 use Prim.Native.Nat.{ℕ, _+_, _<_, _≤_}
-use mathlib.Core.Path.{_≡_, refl, ap, _∙_}
+use mathlib.Core.Path.{_≡_, refl, sym, ap, ap₂, _∙_}
 use mathlib.Core.Bool.{Bool, true, false}
 use mathlib.Core.List.{List, [], _∷_, _++_, map}
 use Rattle.scene.specs.declared.Layout.{Layout}
@@ -11,13 +11,16 @@ use Rattle.scene.specs.declared.Fault.{Fault}
 use Rattle.scene.specs.declared.Fault.the-variants.{At, Nothing}
 use Rattle.scene.specs.declared.CheckedObject.{CheckedObject}
 use Rattle.scene.specs.declared.CheckedScene.{CheckedScene}
-use Rattle.scene.specs.Read.{Condition, condition, decide, judge, readScene, readAlone, IsScene}
-use Rattle.scene.specs.Conditions.{outOfOrder, unpaired, touching, touchingItself, oddEnd, wrongIa, typesDescend, Rule, conditions, sceneRules, checkedScene, checkSceneBy, checkedObject, checkObject, objectRules}
-use Rattle.sweep.specs.Swept.{objectOf, Passes}
+use Rattle.scene.specs.Read.{Condition, condition, decide, judge, readScene, readAlone, IsObject, IsScene}
+use Rattle.scene.specs.Conditions.{outOfOrder, unpaired, touchingItself, oddEnd, wrongIa, orElse, touchingAcross, typesDescend, Rule, conditions, sceneRules, checkedScene, checkSceneBy, checkedObject, checkObject, objectRules}
+use Rattle.strands.specs.Swept.{objectOf, Passes}
+use Rattle.checks.specs.declared.Verdict.{Verdict}
 use Rattle.checks.specs.declared.Verdict.the-variants.{Sound, Refused}
 use Rattle.conditions.specs.Faults.{faultUnder}
 use Rattle.checks.specs.Refusals.{sceneFaultUnder, verdict, settle, objectVerdict, geometryRules, geometryVerdict}
 use Rattle.segments.proofs.Walk.{between, between-next, between-none}
+use Rattle.conditions.proofs.Earliest.{fault-11, fault-12, fault-13, fault-14, fault-15}
+use Rattle.checks.proofs.Laws.{neither}
 
 -- ---- by number
 
@@ -36,13 +39,36 @@ module _ (fault : ℕ → Fault) where
     pub sound : n ≤ i → verdict (numbered i n) ≡ Sound
     sound h = rw (between-none i n h)
 
-pub object-numbered : (s : List ℕ) (l : Layout) → objectVerdict s l ≡ verdict (numbered (faultUnder s l l) 10 15)
-unfolding objectVerdict outOfOrder unpaired touchingItself touching oddEnd wrongIa
-object-numbered s l = refl
+-- equal faults refuse alike, and where there is none what follows decides
+decide-alike : (n : ℕ) (f g : Fault) (a b : Verdict) → f ≡ g → (f ≡ Nothing → a ≡ b) → decide Refused n f a ≡ decide Refused n g b
+decide-alike n f g a b e then = go f refl ∙ ap (λ (h : Fault). decide Refused n h b) e
+  where
+    go : (h : Fault) → f ≡ h → decide Refused n h a ≡ decide Refused n h b
+    go (At p) q = refl
+    go Nothing q = then q
 
-pub geometry-numbered : (s : List ℕ) (sc : Scene) → geometryVerdict s sc ≡ verdict (numbered (sceneFaultUnder s sc) 10 16)
-unfolding geometryVerdict outOfOrder unpaired touchingItself touching oddEnd wrongIa
-geometry-numbered s sc = refl
+-- each test rests on the conditions before it
+pub object-numbered : (s : List ℕ) (l : Layout) → IsObject s l → objectVerdict s l ≡ verdict (numbered (faultUnder s l l) 10 15)
+unfolding objectVerdict outOfOrder
+object-numbered s l is =
+    decide-alike 10 (outOfOrder s l) (faultUnder s l l 10) _ _ refl (λ order.
+    decide-alike 11 (unpaired s l) (faultUnder s l l 11) _ _ (sym (fault-11 s l is order)) (λ paired.
+    decide-alike 12 (touchingItself s l) (faultUnder s l l 12) _ _ (sym (fault-12 s l is order)) (λ _.
+    decide-alike 13 (oddEnd s l) (faultUnder s l l 13) _ _ (sym (fault-13 s l)) (λ _.
+    decide-alike 14 (wrongIa s l) (faultUnder s l l 14) _ _ (sym (fault-14 s l is order paired)) (λ _. refl)))))
+
+pub geometry-numbered : (s : List ℕ) (sc : Scene) → IsObject s (sc .f) → IsObject s (sc .g)
+    → geometryVerdict s sc ≡ verdict (numbered (sceneFaultUnder s sc) 10 16)
+unfolding geometryVerdict outOfOrder
+geometry-numbered s sc is-f is-g =
+    decide-alike 10 (orElse (outOfOrder s (sc .f)) (outOfOrder s (sc .g))) (sceneFaultUnder s sc 10) _ _ refl (λ order.
+    let o = neither (outOfOrder s (sc .f)) (outOfOrder s (sc .g)) order in
+    decide-alike 11 (orElse (unpaired s (sc .f)) (unpaired s (sc .g))) (sceneFaultUnder s sc 11) _ _ (ap₂ orElse (sym (fault-11 s (sc .f) is-f (o .0))) (sym (fault-11 s (sc .g) is-g (o .1)))) (λ paired.
+    let p = neither (unpaired s (sc .f)) (unpaired s (sc .g)) paired in
+    decide-alike 12 (orElse (touchingItself s (sc .f)) (touchingItself s (sc .g))) (sceneFaultUnder s sc 12) _ _ (ap₂ orElse (sym (fault-12 s (sc .f) is-f (o .0))) (sym (fault-12 s (sc .g) is-g (o .1)))) (λ _.
+    decide-alike 13 (orElse (oddEnd s (sc .f)) (oddEnd s (sc .g))) (sceneFaultUnder s sc 13) _ _ (ap₂ orElse (sym (fault-13 s (sc .f))) (sym (fault-13 s (sc .g)))) (λ _.
+    decide-alike 14 (orElse (wrongIa s (sc .f)) (wrongIa s (sc .g))) (sceneFaultUnder s sc 14) _ _ (ap₂ orElse (sym (fault-14 s (sc .f) is-f (o .0) (p .0))) (sym (fault-14 s (sc .g) is-g (o .1) (p .1)))) (λ _.
+    decide-alike 15 (touchingAcross s sc) (sceneFaultUnder s sc 15) _ _ (sym (fault-15 s (sc .g) is-g (o .1) (sc .f) is-f)) (λ _. refl))))))
 
 -- ---- by the sweep
 

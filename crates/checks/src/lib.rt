@@ -15,7 +15,7 @@ ghost use lib.Dec.{T};
 ghost use lib.ListN.{length};
 ghost use Rattle.scene.specs.Read.{IsObject, IsScene};
 ghost use Rattle.scene.specs.Conditions.{typesDescend, checkScene, checkObject};
-ghost use Rattle.sweep.specs.Noted.{Noted};
+ghost use Rattle.strands.specs.Noted.{Noted};
 ghost use Rattle.checks.specs.Refusals.{sceneFaultUnder, objectVerdict, geometryVerdict};
 
 // The first refusal under several conditions, if any.

@@ -1,5 +1,6 @@
 // The conditions 10 to 15 as tests of one element, by its index, and the earliest element at fault under each.
 use plane::Halfsegment;
+use plane::Point;
 use plane::Segment;
 use scene::Fault;
 use scene::Layout;
@@ -7,16 +8,15 @@ use scene::Shape;
 use scene::bytes;
 use scene::records;
 ghost use mathlib.Core.Path.{_≡_};
-ghost use mathlib.Core.Bool.{_&&_};
+ghost use mathlib.Core.Bool.{not, _&&_};
 ghost use Prim.Native.Nat.{_+_, _<_, _≤_};
 ghost use lib.ListN.{length};
 ghost use lib.Dec.{T};
-ghost use Rattle.whole.specs.Count.{some};
-ghost use Rattle.plane.specs.Plane.{segmentInRange, interiorAbove};
+ghost use Rattle.plane.specs.Plane.{segmentInRange, dominating};
 ghost use Rattle.scene.specs.Read.{halfsegmentAt, iaAt, size, IsObject};
-ghost use Rattle.scene.specs.Conditions.{elements, hasSegments, isRegion, segments, inOrder, isMisplaced, partner, isUnpaired, isTouching, endsOddly, hasWrongIa};
+ghost use Rattle.scene.specs.Conditions.{hasSegments, isRegion, half, inOrder, isMisplaced};
 ghost use Rattle.segments.specs.Walked.{partners};
-ghost use Rattle.conditions.specs.Faults.{isAtFault, faultUnder};
+ghost use Rattle.conditions.specs.Faults.{placeFor, hasPartner, touchesAny, isFirstAt, beginsOddly, interiorBy, isMismarked, isAtFault, faultUnder};
 
 // ---- 10: element not strictly after the one before
 
@@ -72,30 +72,44 @@ fn is_partner_at(s: &[u8], k: Shape, at: usize, h: Halfsegment, ia: bool) -> boo
     ia == ia_at(s, k, at)
 }
 
+// Where h stands among the elements, or would.
+fn place_for(s: &[u8], l: Layout, h: Halfsegment) -> usize
+    requires { ⌜ IsObject (now s) l × T (hasSegments (l .shape)) × T (segmentInRange (h .segment)) ⌝ }
+    ensures { λ r. ⌜ r ≡ placeFor (now (s .entry)) l h ⌝ }
+{
+    let mut low: usize = 0;
+    let mut high = l.count;
+    while low < high {
+        let middle = (low + high) / 2;
+        if geometry::comes_before(bytes::halfsegment(s, records::place(l, middle)), h) {
+            low = middle + 1;
+        } else {
+            high = middle;
+        }
+    }
+    low
+}
+
 fn has_partner(s: &[u8], l: Layout, i: usize) -> bool
     requires { ⌜ IsObject (now s) l × (i < l .count) × T (hasSegments (l .shape)) ⌝ }
-    ensures { λ r. ⌜ r ≡ some (partner (now (s .entry)) l i) (elements l) ⌝ }
+    ensures { λ r. ⌜ r ≡ hasPartner (now (s .entry)) l i ⌝ }
 {
     let k = l.shape;
-    let size = records::size(k);
     let own = records::place(l, i);
     let h = bytes::halfsegment(s, own);
-    let ia = ia_at(s, k, own);
-    let mut at = l.start + 2;
-    let mut j: usize = 0;
-    while j < l.count {
-        if is_partner_at(s, k, at, h, ia) {
-            return true;
-        }
-        at += size;
-        j += 1;
+    let segment = h.segment;
+    let is_left = !h.is_left;
+    let j = place_for(s, l, Halfsegment { segment, is_left });
+    if j < l.count {
+        is_partner_at(s, k, records::place(l, j), h, ia_at(s, k, own))
+    } else {
+        false
     }
-    false
 }
 
 fn is_unpaired(s: &[u8], l: Layout, i: usize) -> bool
     requires { ⌜ IsObject (now s) l × (i < l .count) ⌝ }
-    ensures { λ r. ⌜ r ≡ isUnpaired (now (s .entry)) l i ⌝ }
+    ensures { λ r. ⌜ r ≡ (hasSegments (l .shape) && not (hasPartner (now (s .entry)) l i)) ⌝ }
 {
     let k = l.shape;
     if !segments::has_segments(k) {
@@ -104,58 +118,78 @@ fn is_unpaired(s: &[u8], l: Layout, i: usize) -> bool
     !has_partner(s, l, i)
 }
 
-// ---- 12 and 15: a segment that shares with one of other's a point that is not an end of both
+// ---- 12 and 15: a segment that shares with one of other's, from the element k on, a point that is not an end of both
 
-fn is_touching(s: &[u8], l: Layout, other: Layout, i: usize) -> bool
-    requires { ⌜ IsObject (now s) l × IsObject (now s) other × (i < l .count) ⌝ }
-    ensures { λ r. ⌜ r ≡ isTouching (now (s .entry)) l (segments (now (s .entry)) other) i ⌝ }
+fn is_touching(s: &[u8], l: Layout, other: Layout, k: usize, i: usize) -> bool
+    requires { ⌜ IsObject (now s) l × IsObject (now s) other × (k ≤ other .count) × (i < l .count) ⌝ }
+    ensures { λ r. ⌜ r ≡ touchesAny (now (s .entry)) l other k i ⌝ }
 {
-    let k = l.shape;
-    if !segments::has_segments(k) {
+    let shape = l.shape;
+    if !segments::has_segments(shape) {
         return false;
     }
     let h = bytes::halfsegment(s, records::place(l, i));
-    h.is_left && segments::touches_some(s, other, h.segment)
+    h.is_left && segments::touches_from(s, other, h.segment, k)
 }
 
-// ---- 13: region end in an odd number of its segments
+// ---- 13: region end in an odd number of its segments, by the first element that has it
+
+fn point_at(s: &[u8], l: Layout, i: usize) -> Point
+    requires { ⌜ IsObject (now s) l × (i < l .count) × T (hasSegments (l .shape)) ⌝ }
+    ensures { λ r. ⌜ r ≡ dominating (half (now (s .entry)) l i) ⌝ }
+{
+    geometry::dominating_point(bytes::halfsegment(s, records::place(l, i)))
+}
+
+fn is_first_at(s: &[u8], l: Layout, i: usize) -> bool
+    requires { ⌜ IsObject (now s) l × (i < l .count) × T (hasSegments (l .shape)) ⌝ }
+    ensures { λ r. ⌜ r ≡ isFirstAt (now (s .entry)) l i ⌝ }
+{
+    if i == 0 {
+        return true;
+    }
+    !plane::is_same_point(point_at(s, l, i - 1), point_at(s, l, i))
+}
 
 fn ends_oddly(s: &[u8], l: Layout, i: usize) -> bool
     requires { ⌜ IsObject (now s) l × (i < l .count) ⌝ }
-    ensures { λ r. ⌜ r ≡ endsOddly (now (s .entry)) l i ⌝ }
+    ensures { λ r. ⌜ r ≡ beginsOddly (now (s .entry)) l i ⌝ }
 {
     let k = l.shape;
     if !segments::is_region(k) {
         return false;
     }
-    let p = geometry::dominating_point(bytes::halfsegment(s, records::place(l, i)));
+    if !is_first_at(s, l, i) {
+        return false;
+    }
+    let p = point_at(s, l, i);
     segments::count_ends(s, l, p) % 2 == 1
 }
 
 // ---- 14: wrong ia
 
 fn interior_above(s: &[u8], l: Layout, t: Segment) -> bool
-    requires { ⌜ IsObject (now s) l × T (segmentInRange t) ⌝ }
-    ensures { λ r. ⌜ r ≡ interiorAbove (segments (now (s .entry)) l) t ⌝ }
+    requires { ⌜ IsObject (now s) l × T (hasSegments (l .shape)) × T (segmentInRange t) ⌝ }
+    ensures { λ r. ⌜ r ≡ interiorBy (now (s .entry)) l t ⌝ }
 {
-    let m = geometry::doubled_midpoint(t);
     if t.left.x == t.right.x {
-        segments::count_below_left(s, l, m) % 2 == 1
+        segments::count_for_ia(s, l, t) % 2 == 1
     } else {
-        segments::count_below(s, l, m) % 2 != 1
+        segments::count_for_ia(s, l, t) % 2 != 1
     }
 }
 
 fn has_wrong_ia(s: &[u8], l: Layout, i: usize) -> bool
     requires { ⌜ IsObject (now s) l × (i < l .count) ⌝ }
-    ensures { λ r. ⌜ r ≡ hasWrongIa (now (s .entry)) l i ⌝ }
+    ensures { λ r. ⌜ r ≡ isMismarked (now (s .entry)) l i ⌝ }
 {
     let k = l.shape;
     if !segments::is_region(k) {
         return false;
     }
     let at = records::place(l, i);
-    bytes::ia(s, at) != interior_above(s, l, bytes::segment(s, at))
+    let h = bytes::halfsegment(s, at);
+    h.is_left && bytes::ia(s, at) != interior_above(s, l, h.segment)
 }
 
 // ---- by number
@@ -167,10 +201,10 @@ fn is_at_fault(s: &[u8], l: Layout, other: Layout, number: u8, i: usize) -> bool
     match number {
         10 => is_misplaced(s, l, i),
         11 => is_unpaired(s, l, i),
-        12 => is_touching(s, l, l, i),
+        12 => is_touching(s, l, l, i + 1, i),
         13 => ends_oddly(s, l, i),
         14 => has_wrong_ia(s, l, i),
-        _ => is_touching(s, l, other, i),
+        _ => is_touching(s, l, other, 0, i),
     }
 }
 

@@ -16,7 +16,7 @@ ghost use Rattle.scene.specs.declared.CheckedScene.{CheckedScene as Checked};
 ghost use Rattle.scene.specs.Conditions.{checkScene};
 ghost use Prim.Native.Nat.{_≤_};
 ghost use lib.ListN.{length};
-ghost use Rattle.sweep.specs.Noted.{Noted};
+ghost use Rattle.strands.specs.Noted.{Noted};
 ghost use Rattle.features.specs.Vectors.{sceneVectors, answerOf, vectorsOf};
 
 // The wanted flags of both objects of a scene that is taken.

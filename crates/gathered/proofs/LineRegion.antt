@@ -11,7 +11,7 @@ use Rattle.plane.specs.Plane.{grid, midpoint, inside}
 use Rattle.scene.specs.declared.Shape.the-variants.{Line, Region}
 use Rattle.scene.specs.declared.Scene.{Scene}
 use Rattle.scene.specs.Conditions.{hasSegments, isRegion, segments}
-use Rattle.sweep.specs.Noted.{Noted}
+use Rattle.strands.specs.Noted.{Noted}
 use Rattle.checks.proofs.Laws.{SoundScene, across}
 use Rattle.flags.specs.Flags.{hasSegment, onObject, isBound, joins, segShared, segUnshared, segInside, segOutside, poiJoins, boundJoins, boundInside, boundOutside}
 use Rattle.flags.specs.Walk.{found, allFlags}

@@ -26,9 +26,9 @@ use Rattle.scene.specs.declared.Layout.{Layout}
 use Rattle.scene.specs.declared.Scene.{Scene}
 use Rattle.scene.specs.Conditions.{hasSegments, isRegion, half, segments}
 use Rattle.segments.proofs.Elements.{region-segments}
-use Rattle.sweep.specs.Lower.{under}
-use Rattle.sweep.specs.Noted.{segmentNote, pointNote, Noted}
-use Rattle.sweep.proofs.Start.{start-inside}
+use Rattle.strands.specs.Lower.{under}
+use Rattle.strands.specs.Noted.{segmentNote, pointNote, Noted}
+use Rattle.strands.proofs.Start.{start-inside}
 use Rattle.checks.proofs.Laws.{SoundObject, segment-in, all-ordered, regular}
 use Rattle.flags.specs.Flags.{hasSegment, onObject}
 use Rattle.flags.specs.Walk.{pointOf}

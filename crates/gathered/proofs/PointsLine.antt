@@ -10,7 +10,7 @@ use Rattle.plane.specs.declared.Segment.{Segment}
 use Rattle.scene.specs.declared.Shape.the-variants.{Points, Line}
 use Rattle.scene.specs.declared.Scene.{Scene}
 use Rattle.scene.specs.Conditions.{hasSegments, segments}
-use Rattle.sweep.specs.Noted.{Noted}
+use Rattle.strands.specs.Noted.{Noted}
 use Rattle.checks.proofs.Laws.{SoundScene}
 use Rattle.flags.specs.Flags.{hasPoint, onObject, isBound, poiOff, poiOnInterior, poiOnBound, boundPoiDisjoint}
 use Rattle.flags.specs.Walk.{pointsOf, found, allFlags}

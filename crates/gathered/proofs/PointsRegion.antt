@@ -11,7 +11,7 @@ use Rattle.plane.specs.Plane.{grid, inside}
 use Rattle.scene.specs.declared.Shape.the-variants.{Points, Region}
 use Rattle.scene.specs.declared.Scene.{Scene}
 use Rattle.scene.specs.Conditions.{hasSegments, segments}
-use Rattle.sweep.specs.Noted.{Noted}
+use Rattle.strands.specs.Noted.{Noted}
 use Rattle.checks.proofs.Laws.{SoundScene}
 use Rattle.flags.specs.Flags.{onObject, poiInside, poiOnOutline, poiOutside}
 use Rattle.flags.specs.Walk.{pointsOf, found, allFlags}

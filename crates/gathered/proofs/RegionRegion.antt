@@ -11,7 +11,7 @@ use Rattle.scene.specs.declared.Shape.the-variants.{Region}
 use Rattle.scene.specs.declared.Layout.{Layout}
 use Rattle.scene.specs.declared.Scene.{Scene}
 use Rattle.scene.specs.Conditions.{elements, hasSegments, isRegion, half, ia, isLeft, segments}
-use Rattle.sweep.specs.Noted.{Noted}
+use Rattle.strands.specs.Noted.{Noted}
 use Rattle.checks.proofs.Laws.{SoundObject, SoundScene, across}
 use Rattle.flags.specs.Flags.{outline, joins, someEnd}
 use Rattle.flags.specs.Walk.{edgeOf, edges, elementsAs, hasEdge, found, given, gather, atEnd, edgeTests, tested, flagsAs, allFlags}

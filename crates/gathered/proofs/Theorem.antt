@@ -6,7 +6,7 @@ use mathlib.Core.List.{List}
 use Rattle.scene.specs.declared.Shape.{Shape}
 use Rattle.scene.specs.declared.Shape.the-variants.{Points, Line, Region}
 use Rattle.scene.specs.declared.Scene.{Scene}
-use Rattle.sweep.specs.Noted.{Noted}
+use Rattle.strands.specs.Noted.{Noted}
 use Rattle.checks.proofs.Laws.{SoundScene}
 use Rattle.flags.specs.Walk.{allFlags}
 use Rattle.meetings.specs.Met.{meetings}

@@ -20,7 +20,7 @@ use Rattle.scene.specs.Read.{pointAt, place, IsObject}
 use Rattle.scene.specs.Conditions.{hasSegments, half, outOfOrder}
 use Rattle.segments.proofs.Elements.{point-good, half-good}
 use Rattle.segments.proofs.Indices.{halves-rise, points-rise}
-use Rattle.sweep.proofs.Ordered.{not-after}
+use Rattle.strands.proofs.Ordered.{not-after}
 use Rattle.meetings.specs.Met.{pointAs, elementPoint}
 use Rattle.meetings.specs.Keyed.{pointIn, keys}
 use Rattle.meetings.proofs.Keys.{key-below, key-less}

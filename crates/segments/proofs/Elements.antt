@@ -6,16 +6,14 @@ use mathlib.Core.Bool.{Bool, true, false, _&&_, true≢false, false≢true}
 use mathlib.Core.List.{List}
 use lib.ListN.{length}
 use lib.Dec.{T}
-use Rattle.whole.specs.Count.{some}
 use Rattle.whole.proofs.Logic.{is-true}
-use Rattle.plane.specs.declared.Segment.{Segment}
 use Rattle.plane.specs.declared.Halfsegment.{Halfsegment}
-use Rattle.plane.specs.Plane.{segmentInRange, before, comesBefore, touch}
+use Rattle.plane.specs.Plane.{segmentInRange, before, comesBefore}
 use Rattle.scene.specs.declared.Shape.{Shape}
 use Rattle.scene.specs.declared.Shape.the-variants.{Points, Line, Region}
 use Rattle.scene.specs.declared.Layout.{Layout}
 use Rattle.scene.specs.Read.{pointAt, halfsegmentAt, iaAt, size, place, IsObject}
-use Rattle.scene.specs.Conditions.{hasSegments, isRegion, half, ia, inOrder, partner, isTouching}
+use Rattle.scene.specs.Conditions.{hasSegments, isRegion, half, ia, inOrder, partner}
 use Rattle.scene.proofs.Taken.{TakenObject, taken-object}
 use Rattle.scene.proofs.Given.{GoodPoint, good-point, GoodHalfsegment, good-halfsegment, ia-there}
 use Rattle.segments.specs.Walked.{partners}
@@ -78,8 +76,3 @@ module _ (s : List ℕ) (l : Layout) (i j : ℕ) where
       ap (λ (h : Halfsegment). partners h a (halfsegmentAt s at) (isRegion (l .shape) && iaAt s at)) e
       ∙ ap (λ (a : Bool). partners (half s l i) a (halfsegmentAt s at) (isRegion (l .shape) && iaAt s at)) f
       ∙ ap (λ (at : ℕ). partners (half s l i) (ia s l i) (halfsegmentAt s at) (isRegion (l .shape) && iaAt s at)) p
-
--- 12 and 15: the test of a left halfsegment, as the code makes it
-pub touching-is : (s : List ℕ) (l : Layout) (others : List Segment) (i : ℕ) {h : Halfsegment} → hasSegments (l .shape) ≡ true → h ≡ half s l i
-    → h .«is_left» && some (touch (h .segment)) others ≡ isTouching s l others i
-touching-is s l others i has e = ap (λ (h : Halfsegment). h .«is_left» && some (touch (h .segment)) others) e ∙ rw has

@@ -1,5 +1,8 @@
 -- Laws of the elements of an object and of the walks over them, that the proofs of the functions and of other crates cite.
-mod Apart
+pub mod Parted
 pub mod Elements
 pub mod Indices
+pub mod Partners
 pub mod Walk
+pub mod Until
+pub mod Beyond

@@ -13,9 +13,11 @@ use borrow.Author.Tests.{eq-eqb, ne-eqb}
 use Rattle.whole.specs.Count.{bit, some, count}
 use Rattle.plane.specs.declared.Segment.{Segment}
 use Rattle.plane.specs.Plane.{segmentInRange, ordered}
+use Rattle.scene.specs.declared.Shape.{Shape}
+use Rattle.scene.specs.declared.Shape.the-variants.{Points, Line, Region}
 use Rattle.scene.specs.declared.Layout.{Layout}
 use Rattle.scene.specs.declared.Fault.the-variants.{At, Nothing}
-use Rattle.scene.specs.Read.{byte, segmentAt, size, place, after, IsObject}
+use Rattle.scene.specs.Read.{byte, segmentAt, size, place, after, most, IsObject}
 use Rattle.scene.specs.Conditions.{indices, elements, keep, hasSegments, half, isLeft, segments, earliest}
 use Rattle.scene.proofs.Taken.{taken-object}
 use Rattle.segments.specs.Walked.{Readable, leftWith}
@@ -129,6 +131,17 @@ module _ (s : List ℕ) (l : Layout) where
 
 pub object-fits : (s : List ℕ) (l : Layout) → IsObject s l → after l ≤ length s
 object-fits s l is = taken-object s (l .start) l is .ends
+
+pub few-elements : (s : List ℕ) (l : Layout) → IsObject s l → l .count ≤ most
+few-elements s l is = taken-object s (l .start) l is .few
+
+pub place-fits : (l : Layout) (k : ℕ) → k ≤ l .count → place l k < after l
+place-fits l k h = go (l .shape)
+  where
+    go : (shape : Shape) → place (record { shape = shape; start = l .start; count = l .count }) k < after (record { shape = shape; start = l .start; count = l .count })
+    go Points = omega arith
+    go Line = omega arith
+    go Region = omega arith
 
 -- ---- one step of a walk over the segments: the element i, whose record stands at an offset
 

@@ -1,4 +1,5 @@
-// Searches over the segments of an object in the bytes. Each walks the records by offset, once, and reads the left halfsegments.
+// Searches over the segments of an object in the bytes. Each walks the records by offset, once, or until no later one can count, and reads the left
+// halfsegments.
 use plane::Point;
 use plane::Segment;
 use scene::Layout;
@@ -6,15 +7,15 @@ use scene::Shape;
 use scene::bytes;
 use scene::records;
 ghost use mathlib.Core.Path.{_≡_};
-ghost use Prim.Native.Nat.{_*_};
+ghost use Prim.Native.Nat.{_*_, _≤_};
 ghost use lib.Dec.{T};
-ghost use Rattle.whole.specs.Count.{some, count};
-ghost use Rattle.plane.specs.Plane.{limit, within, segmentInRange, ordered, grid, halved, isEnd, endsAt, countsBelow, countsBelowLeft, touch};
+ghost use Rattle.whole.specs.Count.{count};
+ghost use Rattle.plane.specs.Plane.{limit, within, segmentInRange, ordered, grid, halved, midpoint, isEnd, endsAt, countsBelow, countsBelowLeft, touch};
 ghost use Rattle.scene.specs.Read.{segmentAt, IsObject};
 ghost use Rattle.scene.specs.Conditions.{hasSegments, isRegion, segments};
-ghost use Rattle.segments.specs.Walked.{Readable, leftWith};
+ghost use Rattle.segments.specs.Walked.{Readable, leftWith, beyond, isBelow, touchesFrom, countBelow};
 
-mod boxes;
+mod apart;
 
 pub fn has_segments(k: Shape) -> bool
     ensures { λ r. ⌜ r ≡ hasSegments k ⌝ }
@@ -38,6 +39,13 @@ pub fn is_region(k: Shape) -> bool
 
 // ---- the tests on the record at an offset
 
+fn is_beyond(s: &[u8], at: usize, t: Segment) -> bool
+    requires { ⌜ Readable (now s) at ⌝ }
+    ensures { λ r. ⌜ r ≡ leftWith (beyond t) (now (s .entry)) at ⌝ }
+{
+    s[at + 17] == 1 && t.right.x < bytes::coordinate(s, at + 1)
+}
+
 fn is_touched_at(s: &[u8], at: usize, t: Segment) -> bool
     requires { ⌜ Readable (now s) at × T (ordered (segmentAt (now s) at)) × T (segmentInRange t) × T (ordered t) ⌝ }
     ensures { λ r. ⌜ r ≡ leftWith (touch t) (now (s .entry)) at ⌝ }
@@ -46,7 +54,7 @@ fn is_touched_at(s: &[u8], at: usize, t: Segment) -> bool
         return false;
     }
     let u = bytes::segment(s, at);
-    if boxes::are_apart(t, u) {
+    if apart::are_apart(t, u) {
         return false;
     }
     geometry::touches(t, u)
@@ -73,21 +81,36 @@ fn counts_below_left_at(s: &[u8], at: usize, m: Point) -> bool
     s[at + 17] == 1 && geometry::counts_below_left(bytes::segment(s, at), m)
 }
 
+// Does it count for the ia of t, the doubled coordinates of whose midpoint are m's?
+fn is_below_at(s: &[u8], at: usize, t: Segment, m: Point) -> bool
+    requires { ⌜ Readable (now s) at × T (within (2 * limit) m) × (halved m ≡ midpoint t) ⌝ }
+    ensures { λ r. ⌜ r ≡ leftWith (isBelow t) (now (s .entry)) at ⌝ }
+{
+    if t.left.x == t.right.x {
+        counts_below_left_at(s, at, m)
+    } else {
+        counts_below_at(s, at, m)
+    }
+}
+
 // ---- the searches
 
-// Does t touch some segment of l?
-pub fn touches_some(s: &[u8], l: Layout, t: Segment) -> bool
-    requires { ⌜ IsObject (now s) l × T (segmentInRange t) × T (ordered t) ⌝ }
-    ensures { λ r. ⌜ r ≡ some (touch t) (segments (now (s .entry)) l) ⌝ }
+// Does t touch a segment of l, by its left halfsegments from the element k on? The search ends where one begins right of t's end.
+pub fn touches_from(s: &[u8], l: Layout, t: Segment, k: usize) -> bool
+    requires { ⌜ IsObject (now s) l × T (segmentInRange t) × T (ordered t) × (k ≤ l .count) ⌝ }
+    ensures { λ r. ⌜ r ≡ touchesFrom (now (s .entry)) l t k ⌝ }
 {
-    let k = l.shape;
-    if !has_segments(k) {
+    let shape = l.shape;
+    if !has_segments(shape) {
         return false;
     }
-    let size = records::size(k);
-    let mut at = l.start + 2;
-    let mut i: usize = 0;
+    let size = records::size(shape);
+    let mut at = records::place(l, k);
+    let mut i = k;
     while i < l.count {
+        if is_beyond(s, at, t) {
+            return false;
+        }
         if is_touched_at(s, at, t) {
             return true;
         }
@@ -139,21 +162,22 @@ pub fn count_below(s: &[u8], l: Layout, m: Point) -> usize
     n
 }
 
-// The same count for the points just left of it.
-pub fn count_below_left(s: &[u8], l: Layout, m: Point) -> usize
-    requires { ⌜ IsObject (now s) l × T (within (2 * limit) m) ⌝ }
-    ensures { λ r. ⌜ r ≡ count (countsBelowLeft (halved m)) (segments (now (s .entry)) l) ⌝ }
+// How many segments of l count for the ia of t? The search ends where one begins right of t's end.
+pub fn count_for_ia(s: &[u8], l: Layout, t: Segment) -> usize
+    requires { ⌜ IsObject (now s) l × T (hasSegments (l .shape)) × T (segmentInRange t) ⌝ }
+    ensures { λ r. ⌜ r ≡ countBelow (now (s .entry)) l t ⌝ }
 {
-    let k = l.shape;
-    if !has_segments(k) {
-        return 0;
-    }
-    let size = records::size(k);
+    let shape = l.shape;
+    let size = records::size(shape);
+    let m = geometry::doubled_midpoint(t);
     let mut n: usize = 0;
     let mut at = l.start + 2;
     let mut i: usize = 0;
     while i < l.count {
-        n += counts_below_left_at(s, at, m) as usize;
+        if is_beyond(s, at, t) {
+            return n;
+        }
+        n += is_below_at(s, at, t, m) as usize;
         at += size;
         i += 1;
     }

@@ -5,6 +5,7 @@ use scene::Layout;
 use scene::Scene;
 use scene::bytes;
 use scene::records;
+use status::note;
 ghost use mathlib.Core.Path.{_≡_};
 ghost use mathlib.Core.Bool.{Bool, true, false, not, _&&_, cond};
 ghost use Prim.Native.Nat.{ℕ, _<_, _≤_};
@@ -14,16 +15,11 @@ ghost use Rattle.whole.specs.Count.{_∈_};
 ghost use Rattle.scene.specs.declared.Fault.the-variants.{Nothing};
 ghost use Rattle.scene.specs.Read.{IsScene};
 ghost use Rattle.scene.specs.Conditions.{hasSegments, outOfOrder};
-ghost use Rattle.sweep.specs.Evenly.{RegionsEndEvenly};
-ghost use Rattle.sweep.specs.Swept.{objectOf, total, takesFirst, Taken, Entry, Passes};
-ghost use Rattle.sweep.specs.Noted.{SegmentsNoted, Noted};
+ghost use Rattle.strands.specs.Evenly.{RegionsEndEvenly};
+ghost use Rattle.strands.specs.Swept.{objectOf, total, takesFirst, Taken, Entry, Passes};
+ghost use Rattle.strands.specs.Noted.{SegmentsNoted, Noted};
 
-pub mod evenly;
-pub mod event;
-pub mod note;
-pub mod place;
 pub mod points;
-pub mod status;
 
 // How many events an object has.
 fn event_count(l: Layout) -> usize

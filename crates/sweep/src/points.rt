@@ -1,11 +1,11 @@
 // The points of F where F has points and G segments: the sweep over G's halfsegments takes each before the first halfsegment that does not come
 // before it, and notes it by the segments that are active there.
-use crate::event::Step;
-use crate::place;
+use event::Step;
 use plane::Point;
 use scene::Scene;
 use scene::bytes;
 use scene::records;
+use status::place;
 ghost use mathlib.Core.Path.{_≡_};
 ghost use mathlib.Core.Bool.{Bool, false};
 ghost use Prim.Native.Nat.{ℕ, _<_, _≤_};
@@ -18,10 +18,10 @@ ghost use Rattle.scene.specs.declared.Fault.the-variants.{Nothing};
 ghost use Rattle.scene.specs.Read.{IsScene};
 ghost use Rattle.scene.specs.Conditions.{hasSegments, outOfOrder};
 ghost use Rattle.scene.proofs.Given.{GoodHalfsegment};
-ghost use Rattle.sweep.specs.Located.{located, pointBy, isPointNext, PointsTaken};
-ghost use Rattle.sweep.specs.Evenly.{RegionsEndEvenly};
-ghost use Rattle.sweep.specs.Noted.{Noted};
-ghost use Rattle.sweep.specs.Swept.{objectOf, total, Entry, Passes};
+ghost use Rattle.strands.specs.Located.{located, pointBy, isPointNext, PointsTaken};
+ghost use Rattle.strands.specs.Evenly.{RegionsEndEvenly};
+ghost use Rattle.strands.specs.Noted.{Noted};
+ghost use Rattle.strands.specs.Swept.{objectOf, total, Entry, Passes};
 
 // The note of a point by the first n entries.
 fn locate(s: &[u8], status: &[u16], n: usize, v: Point) -> u8

@@ -10,7 +10,7 @@ use Rattle.scene.specs.declared.Fault.the-variants.{At, Nothing}
 use Rattle.scene.specs.Conditions.{orElse, outOfOrder}
 use Rattle.scene.proofs.Taken.{taken-scene}
 use Rattle.segments.proofs.Indices.{not-nothing}
-use Rattle.sweep.specs.Swept.{objectOf}
+use Rattle.strands.specs.Swept.{objectOf}
 use Rattle.checks.specs.Refusals.{sceneFaultUnder}
 use Rattle.checks.proofs.Verdicts.{swept}
 use Rattle.checks.proofs.is_swept.Statement.{statement}

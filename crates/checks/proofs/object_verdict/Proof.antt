@@ -17,7 +17,7 @@ abbrev μ-loop : tie.MeasureT-loop
 μ-loop s l number₀ number = 15 - number
 
 loop-holds : tie.Need-loop-holds Inv-loop μ-loop
-loop-holds c = let z = c .before .args in (omega arith, omega arith, object-numbered (z .s .now) (z .l))
+loop-holds c = let z = c .before in (omega arith, omega arith, object-numbered (z .args .s .now) (z .args .l) (z .pre))
 
 fault-under-requires : tie.Need-fault-under-requires Inv-loop μ-loop
 fault-under-requires c κs = search needs

@@ -16,7 +16,7 @@ abbrev μ-loop : tie.MeasureT-loop
 μ-loop s scene number₀ number = 16 - number
 
 loop-holds : tie.Need-loop-holds Inv-loop μ-loop
-loop-holds c = let z = c .before .args in (omega arith, omega arith, geometry-numbered (z .s .now) (z .scene))
+loop-holds c = let z = c .before in (omega arith, omega arith, geometry-numbered (z .args .s .now) (z .args .scene) (z .pre .0) (z .pre .1))
 
 scene-fault-requires : tie.Need-scene-fault-requires Inv-loop μ-loop
 scene-fault-requires c κs = search needs

@@ -1,132 +1,101 @@
--- `conditions::has_partner` meets its contract. The loop's invariant: `at` is where the element `j` stands, and the answer is that of the
--- search from there on. The measure is the number of elements that are left.
-use Prim.Native.Nat.{ℕ, _-_, _≤_}
+-- `conditions::has_partner` meets its contract: the element at the partner's place is tested.
+use Prim.Native.Nat.{ℕ, _<_}
 use native.Mathlib.Omega.{arith}
 use mathlib.Core.Path.{_≡_, sym, ap, _∙_}
-use mathlib.Core.Bool.{Bool, true, _&&_}
-use borrow.Author.Needs.{needs}
-use Rattle.whole.specs.Count.{some}
+use mathlib.Core.Bool.{true, not, _&&_}
+use borrow.Author.Tests.{lt-ltb, le-ltb}
 use Rattle.whole.proofs.Logic.{true-is}
+use Rattle.plane.specs.declared.Halfsegment.{Halfsegment}
 use Rattle.scene.specs.Read.{iaAt, place}
-use Rattle.scene.specs.Conditions.{elements, hasSegments, isRegion, half, ia, partner}
-use Rattle.segments.proofs.Elements.{fits, half-good, half-is, partner-is}
-use Rattle.segments.proofs.Walk.{between, all-between, some-found, some-passed, some-none, Step, step, object-fits}
+use Rattle.scene.specs.Conditions.{hasSegments, isRegion, half}
+use Rattle.scene.proofs.Given.{GoodHalfsegment}
+use Rattle.segments.proofs.Elements.{fits, half-good, half-is, half-in-range, partner-is}
+use Rattle.conditions.specs.Faults.{placeFor, turned}
 use Rattle.conditions.proofs.has_partner.Statement.{statement}
 use Rattle.conditions.proofs.has_partner.Tie as tie
 
-abbrev Inv-loop : tie.InvT-loop
-Inv-loop s l i k _ _ h a at₀ j₀ at j = (at ≡ place l j) × (j ≤ l .count) × (some (partner s l i) (elements l) ≡ some (partner s l i) (between j (l .count)))
+module _ (z : tie.Start) where
+  has : hasSegments (z .args .l .shape) ≡ true
+  has = true-is (hasSegments (z .args .l .shape)) (z .pre .2)
 
-abbrev μ-loop : tie.MeasureT-loop
-μ-loop s l i k _ _ h a at₀ j₀ at j = l .count - j
+  good : (j : ℕ) → j < z .args .l .count → GoodHalfsegment (z .args .s .now) (place (z .args .l) j)
+  good j h = half-good (z .args .s .now) (z .args .l) (z .pre .0) j h has
 
-has : (z : tie.Start Inv-loop μ-loop) → hasSegments (z .args .l .shape) ≡ true
-has z = true-is (hasSegments (z .args .l .shape)) (z .pre .2)
+-- the halfsegment whose partner is sought
+half-own : (c : tie.After-halfsegment) → let z = c .before .before .before .args in c .halfsegment .result ≡ half (z .s .now) (z .l) (z .i)
+half-own c =
+    let z = c .before .before .before .args in
+    half-is (z .s .now) (z .l) (z .i) (c .halfsegment .ensures) (c .before .place .ensures)
 
--- a turn
-module _ (c : tie.Then1 Inv-loop μ-loop) where
-  abbrev own : tie.After-ia-at Inv-loop μ-loop
-  own = c .before .before .before .before
+-- and the place where it would stand
+module _ (c : tie.After-place-for) where
+  abbrev start : tie.Start
+  start = c .before .before .before .before .before .before
 
-  abbrev z : tie.Start Inv-loop μ-loop
-  z = own .before .before .before .before .before
+  abbrev sought : ℕ
+  sought = placeFor (start .args .s .now) (start .args .l) (turned (start .args .s .now) (start .args .l) (start .args .i))
 
-  abbrev j : ℕ
-  j = c .before .before .loop .j
+  is-place : c .place-for .result ≡ sought
+  is-place =
+      c .place-for .ensures
+      ∙ ap (λ (h : Halfsegment). placeFor (start .args .s .now) (start .args .l) (record { segment = h .segment; «is_left» = not (h .«is_left») })) (half-own (c .before .before .before))
 
-  abbrev test : ℕ → Bool
-  test = partner (z .args .s .now) (z .args .l) (z .args .i)
+place-requires : tie.Need-place-requires
+place-requires c κs = let z = c .before in omega (arith, good z (z .args .i) (z .pre .1) .there, z .good .0)
 
-  here : Step (z .args .s .now) (z .args .l) (c .before .before .loop .at) j
-  here = step (z .pre .0) (has z) (c .before .before .loop .inv .0) (c .if1 .taken)
+halfsegment-requires : tie.Need-halfsegment-requires
+halfsegment-requires c κs = let z = c .before .before in omega (arith, good z (z .args .i) (z .pre .1) .there, c .place .ensures)
 
-  -- the halfsegment whose partner is sought
-  half-own : own .before .halfsegment .result ≡ half (z .args .s .now) (z .args .l) (z .args .i)
-  half-own = half-is (z .args .s .now) (z .args .l) (z .args .i) (own .before .halfsegment .ensures) (own .before .before .place .ensures)
-
-  ia-own : own .ia-at .result ≡ ia (z .args .s .now) (z .args .l) (z .args .i)
-  ia-own = own .ia-at .ensures ∙ ap (λ (at : ℕ). isRegion (z .args .l .shape) && iaAt (z .args .s .now) at) (own .before .before .place .ensures)
-
--- and once its record was tested
-tested : (c : tie.After-is-partner-at Inv-loop μ-loop) → test (c .before) (j (c .before)) ≡ c .is-partner-at .result
-tested c =
-    let d = c .before in
-    sym (c .is-partner-at .ensures ∙ partner-is (z d .args .s .now) (z d .args .l) (z d .args .i) (j d) (half-own d) (ia-own d) (d .before .before .loop .inv .0))
-
-size-requires : tie.Need-size-requires Inv-loop μ-loop
-size-requires c κs = search needs
-
-place-requires : tie.Need-place-requires Inv-loop μ-loop
-place-requires c κs = let z = c .before .before in omega (arith, fits (z .args .s .now) (z .args .l) (z .pre .0) (z .args .i) (z .pre .1))
-
-halfsegment-requires : tie.Need-halfsegment-requires Inv-loop μ-loop
-halfsegment-requires c κs =
-    let z = c .before .before .before in
-    omega (arith, half-good (z .args .s .now) (z .args .l) (z .pre .0) (z .args .i) (z .pre .1) (has z) .there, c .place .ensures)
-
-ia-at-requires : tie.Need-ia-at-requires Inv-loop μ-loop
-ia-at-requires c κs =
-    let z = c .before .before .before .before in
-    omega (arith, fits (z .args .s .now) (z .args .l) (z .pre .0) (z .args .i) (z .pre .1), c .before .place .ensures)
-
-add-at : tie.Need-add-at Inv-loop μ-loop
-add-at c =
-    let z = c .before .before .before .before .before .before in
-    omega (arith, object-fits (z .args .s .now) (z .args .l) (z .pre .0))
-
-loop-holds : tie.Need-loop-holds Inv-loop μ-loop
-loop-holds c =
-    let z = c .before .before .before .before .before .before .args in
-    (omega arith, omega arith, ap (some (partner (z .s .now) (z .l) (z .i))) (all-between (z .l .count)))
-
-is-partner-at-requires : tie.Need-is-partner-at-requires Inv-loop μ-loop
-is-partner-at-requires c κs = (here c .fits, here c .readable .0)
-
-returns : tie.Need-returns Inv-loop μ-loop
-returns c =
+place-for-requires : tie.Need-place-for-requires
+place-for-requires c κs =
     let d = c .before .before in
-    sym (d .before .before .loop .inv .2 ∙ some-found (test d) (j d) (z d .args .l .count) (d .if1 .taken) (tested (c .before) ∙ c .if2 .taken))
+    let z = d .before .before .before in
+    (z .pre .0, z .pre .2, half-in-range (z .args .s .now) (z .args .l) (z .args .i) (half-own d) (good z (z .args .i) (z .pre .1)))
 
-add-at-2 : tie.Need-add-at-2 Inv-loop μ-loop
-add-at-2 c = let d = c .before .before in omega (arith, here d .fits, own d .before .before .before .size .ensures, z d .good .0)
+place-requires-2 : tie.Need-place-requires-2
+place-requires-2 c κs = let d = c .before .before in omega (arith, good (start d) (d .place-for .result) (c .if1 .taken) .there, start d .good .0)
 
-add-j : tie.Need-add-j Inv-loop μ-loop
-add-j c = omega arith
+ia-at-requires : tie.Need-ia-at-requires
+ia-at-requires c κs =
+    let d = c .before .before .before in
+    let z = start d in
+    omega (arith, fits (z .args .s .now) (z .args .l) (z .pre .0) (z .args .i) (z .pre .1), d .before .before .before .before .place .ensures)
 
-loop-less : tie.Need-loop-less Inv-loop μ-loop
-loop-less c = omega arith
+is-partner-at-requires : tie.Need-is-partner-at-requires
+is-partner-at-requires c κs =
+    let t = c .before .before in
+    let d = t .before .before in
+    let z = start d in
+    let j = d .place-for .result in
+    (omega (arith, fits (z .args .s .now) (z .args .l) (z .pre .0) j (t .if1 .taken), c .before .place2 .ensures), omega (arith, good z j (t .if1 .taken) .there, c .before .place2 .ensures))
 
-loop-again : tie.Need-loop-again Inv-loop μ-loop
-loop-again c =
-    let d = c .before .before in (
-      omega (arith, own d .before .before .before .size .ensures),
-      omega arith,
-      d .before .before .loop .inv .2
-          ∙ some-passed (test d) (j d) (z d .args .l .count) (d .if1 .taken) (tested (c .before) ∙ c .if2 .left),
-    )
+returns : tie.Need-returns
+returns c =
+    let o = c .before in
+    let t = o .before .before in
+    let d = t .before .before in
+    let z = start d in
+    let own = d .before .before .before in
+    let at = o .before .place2 .ensures ∙ ap (place (z .args .l)) (is-place d) in
+    let same-ia = o .ia-at .ensures ∙ ap (λ (at : ℕ). isRegion (z .args .l .shape) && iaAt (z .args .s .now) at) (own .before .place .ensures) in
+    c .is-partner-at .ensures
+    ∙ partner-is (z .args .s .now) (z .args .l) (z .args .i) (sought d) (half-own own) same-ia at
+    ∙ sym (rw (lt-ltb (sought d) (z .args .l .count) (omega (arith, t .if1 .taken, is-place d))))
 
-returns-2 : tie.Need-returns-2 Inv-loop μ-loop
+returns-2 : tie.Need-returns-2
 returns-2 c =
     let d = c .before .before in
-    let z = d .before .before .before .before .before .before .before .args in
-    sym (d .loop .inv .2 ∙ some-none (partner (z .s .now) (z .l) (z .i)) (d .loop .j) (z .l .count) (c .if1 .left))
+    sym (rw (le-ltb (sought d) (start d .args .l .count) (omega (arith, c .if1 .left, is-place d))))
 
 pub has-partner-spec : {M : Type 1} → statement M
 has-partner-spec =
     tie.close
     (tie.spec
-    Inv-loop
-    μ-loop
-    size-requires
     place-requires
     halfsegment-requires
+    place-for-requires
+    place-requires-2
     ia-at-requires
-    add-at
-    loop-holds
     is-partner-at-requires
     returns
-    add-at-2
-    add-j
-    loop-less
-    loop-again
     returns-2)

@@ -1,6 +1,8 @@
 -- `conditions::is_at_fault` meets its contract: each number has its test.
+use native.Mathlib.Omega.{arith}
 use borrow.Author.Needs.{needs}
 use borrow.Author.Tests.{ne-eqb}
+use Rattle.segments.proofs.Walk.{few-elements}
 use Rattle.conditions.proofs.is_at_fault.Statement.{statement}
 use Rattle.conditions.proofs.is_at_fault.Tie as tie
 
@@ -10,8 +12,11 @@ is-misplaced-requires c κs = search needs
 is-unpaired-requires : tie.Need-is-unpaired-requires
 is-unpaired-requires c κs = search needs
 
+add-is-touching : tie.Need-add-is-touching
+add-is-touching c = let z = c .before .before in omega (arith, few-elements (z .args .s .now) (z .args .l) (z .pre .0))
+
 is-touching-requires : tie.Need-is-touching-requires
-is-touching-requires c κs = search needs
+is-touching-requires c κs = let z = c .before .before in (z .pre .0, z .pre .0, omega arith, z .pre .2)
 
 ends-oddly-requires : tie.Need-ends-oddly-requires
 ends-oddly-requires c κs = search needs
@@ -20,7 +25,7 @@ has-wrong-ia-requires : tie.Need-has-wrong-ia-requires
 has-wrong-ia-requires c κs = search needs
 
 is-touching-requires-2 : tie.Need-is-touching-requires-2
-is-touching-requires-2 c κs = search needs
+is-touching-requires-2 c κs = let z = c .before .before in (z .pre .0, z .pre .1, omega arith, z .pre .2)
 
 returns : tie.Need-returns
 returns c = rw (c .before .match .keys1) (c .is-misplaced .ensures)
@@ -50,6 +55,7 @@ is-at-fault-spec =
     (tie.spec
     is-misplaced-requires
     is-unpaired-requires
+    add-is-touching
     is-touching-requires
     ends-oddly-requires
     has-wrong-ia-requires

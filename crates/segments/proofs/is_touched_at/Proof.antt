@@ -1,4 +1,4 @@
--- `segments::is_touched_at` meets its contract: the flag, a quick no where the boxes are apart, then the touch test on the record's segment.
+-- `segments::is_touched_at` meets its contract: the flag, a quick no where the two are apart, then the touch test on the record's segment.
 use mathlib.Core.Path.{sym}
 use borrow.Author.Needs.{needs}
 use borrow.Author.Tests.{ne-eqb}
@@ -22,7 +22,7 @@ segment-requires : tie.Need-segment-requires
 segment-requires c κs = search needs
 
 are-apart-requires : tie.Need-are-apart-requires
-are-apart-requires c κs = let z = c .before .before .before .before in (z .pre .3, in-order-at (c .segment .ensures) (z .pre .1))
+are-apart-requires c κs = let z = c .before .before .before .before in (z .pre .2, z .pre .3, in-range-at (c .segment .ensures) (z .pre .0 .1), in-order-at (c .segment .ensures) (z .pre .1))
 
 returns-2 : tie.Need-returns-2
 returns-2 c =

@@ -8,7 +8,7 @@ use Rattle.whole.proofs.Logic.{is-true, is-false, true-is, false-is, and-left, 
 use Rattle.scene.specs.declared.Shape.the-variants.{Points}
 use Rattle.scene.specs.Conditions.{hasSegments}
 use Rattle.segments.proofs.Elements.{no-segments-points}
-use Rattle.sweep.specs.Evenly.{RegionsEndEvenly}
+use Rattle.strands.specs.Evenly.{RegionsEndEvenly}
 use Rattle.sweep.proofs.accepts.Statement.{statement}
 use Rattle.sweep.proofs.accepts.Tie as tie
 

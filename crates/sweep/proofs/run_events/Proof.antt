@@ -9,14 +9,14 @@ use mathlib.Core.List.{List, []}
 use lib.Dec.{T, eqb→eq}
 use lib.ListN.{length, take, set, length-set}
 use borrow.Author.Needs.{needs}
-use Rattle.sweep.specs.Swept.{slot, total, Taken}
-use Rattle.sweep.proofs.Begun.{reached}
-use Rattle.sweep.proofs.Run.{Run, Orderly, run-start, advance}
-use Rattle.sweep.proofs.Notes.{AllNoted, noted-start, noted-next, slot-room}
-use Rattle.sweep.proofs.Objects.{few-events}
-use Rattle.sweep.proofs.Ordered.{orderly}
-use Rattle.sweep.proofs.Final.{passes, notes-hold}
-use Rattle.sweep.proofs.Chosen.{Chosen, chosen, further, next-by, both-within, entries-are}
+use Rattle.strands.specs.Swept.{slot, total, Taken}
+use Rattle.strands.proofs.Begun.{reached}
+use Rattle.strands.proofs.Run.{Run, Orderly, run-start, advance}
+use Rattle.strands.proofs.Notes.{AllNoted, noted-start, noted-next, slot-room}
+use Rattle.strands.proofs.Objects.{few-events}
+use Rattle.strands.proofs.Ordered.{orderly}
+use Rattle.strands.proofs.Final.{passes, notes-hold}
+use Rattle.strands.proofs.Chosen.{Chosen, chosen, further, next-by, both-within, entries-are}
 use Rattle.sweep.proofs.run_events.Statement.{statement}
 use Rattle.sweep.proofs.run_events.Tie as tie
 

@@ -10,9 +10,9 @@ use lib.Dec.{eqb}
 use lib.ListN.{length, take}
 use Rattle.scene.specs.declared.Layout.{Layout}
 use Rattle.scene.specs.Read.{byte, place}
-use Rattle.sweep.specs.Ready.{Ready}
-use Rattle.sweep.specs.Swept.{objectOf, isFirst, Entry, Began, Ended, it-began, it-ended}
-use Rattle.sweep.proofs.Objects.{good, owned, entry}
+use Rattle.strands.specs.Ready.{Ready}
+use Rattle.strands.specs.Swept.{objectOf, isFirst, Entry, Began, Ended, it-began, it-ended}
+use Rattle.strands.proofs.Objects.{good, owned, entry}
 use Rattle.sweep.proofs.take_event.Statement.{statement}
 use Rattle.sweep.proofs.take_event.Tie as tie
 

@@ -11,9 +11,9 @@ use Rattle.scene.specs.Read.{place}
 use Rattle.scene.specs.Conditions.{half}
 use Rattle.scene.proofs.Given.{GoodHalfsegment}
 use Rattle.segments.proofs.Elements.{half-is, half-in-range}
-use Rattle.sweep.specs.Swept.{total}
-use Rattle.sweep.proofs.Objects.{good}
-use Rattle.sweep.proofs.Chosen.{none-left, one-left, both-left}
+use Rattle.strands.specs.Swept.{total}
+use Rattle.strands.proofs.Objects.{good}
+use Rattle.strands.proofs.Chosen.{none-left, one-left, both-left}
 use Rattle.sweep.proofs.takes_first.Statement.{statement}
 use Rattle.sweep.proofs.takes_first.Tie as tie
 

@@ -19,10 +19,10 @@ use Rattle.plane.proofs.Machine.{turn-asks, small-fits, bits-eq, eqZ-yes, eqZ-n
 use Rattle.scene.specs.Read.{segmentAt}
 use Rattle.scene.proofs.Given.{GoodHalfsegment}
 use Rattle.segments.proofs.Walk.{byte-bit}
-use Rattle.sweep.specs.Lower.{passesUnder}
-use Rattle.sweep.specs.Located.{onLine}
-use Rattle.sweep.proofs.Entries.{in-range-at, one-more, parity-one}
-use Rattle.sweep.proofs.Located.{located-on, located-off}
+use Rattle.strands.specs.Lower.{passesUnder}
+use Rattle.strands.specs.Located.{onLine}
+use Rattle.strands.proofs.Entries.{in-range-at, one-more, parity-one}
+use Rattle.strands.proofs.Located.{located-on, located-off}
 use Rattle.sweep.proofs.points.locate.Statement.{statement}
 use Rattle.sweep.proofs.points.locate.Tie as tie
 

@@ -7,9 +7,9 @@ use Rattle.plane.specs.declared.Point.{Point}
 use Rattle.plane.specs.Plane.{inRange}
 use Rattle.scene.specs.Read.{place, pointAt}
 use Rattle.scene.proofs.Given.{GoodPoint}
-use Rattle.sweep.specs.Located.{located, pointBy}
-use Rattle.sweep.proofs.Entries.{entry-readable, member}
-use Rattle.sweep.proofs.Objects.{point-good}
+use Rattle.strands.specs.Located.{located, pointBy}
+use Rattle.strands.proofs.Entries.{entry-readable, member}
+use Rattle.strands.proofs.Objects.{point-good}
 use Rattle.sweep.proofs.points.note_of.Statement.{statement}
 use Rattle.sweep.proofs.points.note_of.Tie as tie
 

@@ -10,15 +10,15 @@ use lib.ListN.{length, take, set, length-set}
 use lib.Seq.{getD-set-other}
 use borrow.Author.Needs.{needs}
 use Rattle.whole.specs.Count.{_∈_}
-use Rattle.sweep.specs.Swept.{total, Taken, Entry}
-use Rattle.sweep.specs.Located.{isPointNext}
-use Rattle.sweep.proofs.Begun.{reached, Next}
-use Rattle.sweep.proofs.Run.{Run, Orderly, run-start, later-taken, advance}
-use Rattle.sweep.proofs.Notes.{AllNoted, noted-start, noted-next}
-use Rattle.sweep.proofs.Objects.{few-elements, few-events}
-use Rattle.sweep.proofs.Final.{passes, notes-hold}
-use Rattle.sweep.proofs.Chosen.{Chosen, next-by, both-within, entries-are}
-use Rattle.sweep.proofs.PointRun.{Passed, passed-none, still-noted, start, no-events, only-second, passed-points, passed-event, all-noted}
+use Rattle.strands.specs.Swept.{total, Taken, Entry}
+use Rattle.strands.specs.Located.{isPointNext}
+use Rattle.strands.proofs.Begun.{reached, Next}
+use Rattle.strands.proofs.Run.{Run, Orderly, run-start, later-taken, advance}
+use Rattle.strands.proofs.Notes.{AllNoted, noted-start, noted-next}
+use Rattle.strands.proofs.Objects.{few-elements, few-events}
+use Rattle.strands.proofs.Final.{passes, notes-hold}
+use Rattle.strands.proofs.Chosen.{Chosen, next-by, both-within, entries-are}
+use Rattle.strands.proofs.PointRun.{Passed, passed-none, still-noted, start, no-events, only-second, passed-points, passed-event, all-noted}
 use Rattle.sweep.proofs.points.run_points.Statement.{statement}
 use Rattle.sweep.proofs.points.run_points.Tie as tie
 

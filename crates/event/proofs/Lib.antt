@@ -1,0 +1,2 @@
+-- What follows from the answer of an event.
+pub mod Answers

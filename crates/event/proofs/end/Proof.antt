@@ -1,0 +1,182 @@
+-- `event::end` meets its contract: what was tested of the entries above its own and of the neighbours that meet, and the entry's element is
+-- of the same object.
+use Prim.Native.Nat.{ℕ, suc, _+_, _-_, _<_}
+use native.Mathlib.Omega.{arith}
+use mathlib.Core.Path.{_≡_, refl, sym, ap, subst, _∙_}
+use mathlib.Core.List.{List}
+use borrow.Author.Needs.{needs}
+use borrow.Author.Tests.{not-false}
+use lib.Dec.{T}
+use lib.ListN.{length, getD, take}
+use lib.Seq.{length-take-le, getD-take}
+use Rattle.whole.proofs.Logic.{is-true}
+use Rattle.plane.specs.declared.Segment.{Segment}
+use Rattle.plane.proofs.Machine.{right-in-range}
+use Rattle.scene.specs.Read.{segmentAt}
+use Rattle.strands.specs.Lower.{passesOver, lowerAtRight}
+use Rattle.strands.specs.Kept.{Strand}
+use Rattle.strands.specs.Swept.{objectOf, strandOf, strandAt, Ended}
+use Rattle.strands.specs.Ready.{Placed}
+use Rattle.strands.proofs.Entries.{entry-readable, entry-placed, in-range-at, ready-readable, ready-entry, ready-fewer}
+use Rattle.event.proofs.Answers.{not-on, same-on}
+use Rattle.event.proofs.end.Statement.{statement}
+use Rattle.event.proofs.end.Tie as tie
+
+-- its own entry was found
+module _ (c : tie.Else1) where
+  abbrev found : tie.After-own-below
+  found = c .before
+
+  abbrev over : tie.After-first-over
+  over = found .before .before
+
+  abbrev z : tie.Start
+  z = over .before .before .before .before .before .before
+
+  abbrev k : ℕ
+  k = found .own-below .result
+
+  abbrev top : ℕ
+  top = over .first-over .result
+
+  below-top : k < top
+  below-top = omega (arith, found .own-below .ensures .0, c .if1 .left)
+
+  in-use : k < z .args .n
+  in-use = omega (arith, below-top, over .first-over .ensures .0)
+
+  own : strandAt (z .args .s .now) (z .args .scene) (getD (z .args .status .now) k 0) ≡ strandOf (z .args .s .now) (z .args .scene) (z .args .first) (z .args .at)
+  own = found .own-below .ensures .1 below-top .0
+
+  placed : (s : List ℕ) → Placed (objectOf s (z .args .scene) (z .args .first)) (getD (z .args .status .now) k 0)
+  placed s = entry-placed (z .args .s .now) (z .args .scene) (z .pre .0 .scene) (ap (λ (a : Strand). a .first) own) (ready-entry (z .pre .0) k in-use) s
+
+-- the segment has ended
+module _ (c : tie.After-remove) where
+  abbrev told : tie.After-note-at
+  told = c .before .before
+
+  abbrev meet : tie.Else2
+  meet = told .before .before .before
+
+  abbrev there : tie.Else1
+  there = meet .before .before .before
+
+  abbrev a : tie.Start
+  a = z there
+
+  abbrev s : List ℕ
+  s = a .args .s .now
+
+  abbrev status : List ℕ
+  status = a .args .status .now
+
+  abbrev old : List ℕ
+  old = take (a .args .n) status
+
+  size : length old ≡ a .args .n
+  size = length-take-le (a .args .n) status (a .pre .0 .room)
+
+  same : (i : ℕ) → i < a .args .n → getD old i 0 ≡ getD status i 0
+  same i h = getD-take (a .args .n) status i 0 h
+
+  ended : Ended s (a .args .scene) (a .args .first) (a .args .at) (a .args .notes .now) old (take (a .args .n - 1) (c .remove .last .0)) (told .note-at .result)
+  ended =
+      record {
+        position = k there;
+        there = omega (arith, size, in-use there);
+        own = ap (strandAt s (a .args .scene)) (same (k there) (in-use there)) ∙ own there;
+        new-is = c .remove .ensures .1;
+        top = top there;
+        equals = λ i h l. ap (segmentAt s) (same i (omega (arith, over there .first-over .ensures .0))) ∙ found there .own-below .ensures .1 (below-top there) .1 i h l;
+        over-it = λ h. let b : top there < a .args .n = omega (arith, size) in
+            subst (λ (m : ℕ). T (passesOver (segmentAt s m) (segmentAt s (a .args .at) .right))) (sym (same (top there) b))
+            (subst (λ (t : Segment). T (passesOver (segmentAt s (getD status (top there) 0)) (t .right))) (over there .before .before .segment .ensures) (over there .first-over .ensures .1 b));
+        meeting = λ i e h. let b : suc (k there) < a .args .n = omega (arith, size) in
+            subst (λ (m : ℕ). T (lowerAtRight (segmentAt s (getD old i 0)) (segmentAt s m))) (sym (same (suc (k there)) b))
+            (subst (λ (m : ℕ). T (lowerAtRight (segmentAt s m) (segmentAt s (getD status (suc (k there)) 0)))) (sym (same i (omega arith)))
+            (meet .before .can-meet .ensures (is-true _ (not-false (meet .before .can-meet .result) (meet .if2 .left))) i e b));
+        noted = λ i is. told .note-at .ensures s i (told .before .wide .ensures ∙ sym (same (k there) (in-use there)) ∙ is);
+      }
+
+segment-requires : tie.Need-segment-requires
+segment-requires c κs = let z = c .before .before .before in entry-readable (z .args .s .now) (z .args .scene) (z .pre .0 .scene) (z .pre .0 .event) .there
+
+first-over-requires : tie.Need-first-over-requires
+first-over-requires c κs =
+    let z = c .before .before .before .before .before in
+    let u = c .before .segment in
+    (right-in-range (u .result) (in-range-at (entry-readable (z .args .s .now) (z .args .scene) (z .pre .0 .scene) (z .pre .0 .event)) (u .ensures)), ready-readable (z .pre .0))
+
+own-below-requires : tie.Need-own-below-requires
+own-below-requires c κs = let z = c .before .before .before .before .before .before .before in ready-fewer (z .pre .0) (c .before .first-over .result) (c .before .first-over .ensures .0)
+
+same-length : tie.Need-same-length
+same-length c = search needs
+
+returns : tie.Need-returns
+returns c = (refl, λ m v e. absurd (not-on e))
+
+can-meet-requires : tie.Need-can-meet-requires
+can-meet-requires c κs = (in-use (c .before), ready-readable (z (c .before) .pre .0))
+
+same-length-2 : tie.Need-same-length-2
+same-length-2 c = search needs
+
+returns-2 : tie.Need-returns-2
+returns-2 c = (refl, λ m v e. absurd (not-on e))
+
+mul-wide : tie.Need-mul-wide
+mul-wide c = search needs
+
+slice-read-wide : tie.Need-slice-read-wide
+slice-read-wide c = let e = c .before .before .before .before in omega (arith, in-use e, z e .pre .0 .room)
+
+wide-requires : tie.Need-wide-requires
+wide-requires c κs = search needs
+
+note-at-requires : tie.Need-note-at-requires
+note-at-requires c κs =
+    let e = c .before .before .before .before .before in
+    (λ s. subst (Placed (objectOf s (z e .args .scene) (z e .args .first))) (sym (c .wide .ensures)) (placed e s), z e .pre .1)
+
+remove-requires : tie.Need-remove-requires
+remove-requires c κs = search needs
+
+sub-t21 : tie.Need-sub-t21
+sub-t21 c = search needs
+
+same-length-3 : tie.Need-same-length-3
+same-length-3 c = search needs
+
+returns-3 : tie.Need-returns-3
+returns-3 c =
+    let r = c .before .before in
+    let x = a r .args in (
+      r .remove .ensures .0,
+      λ m v e.
+          subst (λ (v : ℕ). (m + 1 ≡ x .n) × Ended (x .s .now) (x .scene) (x .first) (x .at) (x .notes .now) (take (x .n) (x .status .now)) (take m (r .remove .last .0)) v) (same-on e .1)
+          (subst (λ (m : ℕ). (m + 1 ≡ x .n) × Ended (x .s .now) (x .scene) (x .first) (x .at) (x .notes .now) (take (x .n) (x .status .now)) (take m (r .remove .last .0)) (told r .note-at .result)) (same-on e .0)
+          (omega (arith, in-use (there r)), ended r)),
+    )
+
+pub end-spec : {M : Type 1} → statement M
+end-spec =
+    tie.close
+    (tie.spec
+    segment-requires
+    first-over-requires
+    own-below-requires
+    same-length
+    returns
+    can-meet-requires
+    same-length-2
+    returns-2
+    mul-wide
+    slice-read-wide
+    wide-requires
+    note-at-requires
+    remove-requires
+    sub-t21
+    same-length-3
+    returns-3)

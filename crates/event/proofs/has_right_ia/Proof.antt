@@ -1,0 +1,32 @@
+-- `event::has_right_ia` meets its contract: the number of own entries below is odd exactly if ia is not set.
+use mathlib.Core.Path.{ap, subst, _∙_}
+use mathlib.Core.Bool.{not, Bool·beq}
+use borrow.Author.Needs.{needs}
+use lib.Dec.{T}
+use Rattle.whole.proofs.Logic.{is-true, false-is, beq-other}
+use Rattle.scene.proofs.Flags.{upheld, refuted}
+use Rattle.strands.proofs.Entries.{entry-ia}
+use Rattle.event.proofs.has_right_ia.Statement.{statement}
+use Rattle.event.proofs.has_right_ia.Tie as tie
+
+has-region-requires : tie.Need-has-region-requires
+has-region-requires c κs = search needs
+
+returns : tie.Need-returns
+returns c =
+    let a = c .before .before .before .args in
+    λ yes region. absurd (subst T (refuted (c .before .has-region .ensures (a .s .now)) (c .if1 .taken)) region)
+
+ia-requires : tie.Need-ia-requires
+ia-requires c κs =
+    let z = c .before .before .before in
+    entry-ia (z .args .s .now) (z .args .scene) (z .pre .0) (z .pre .2) (z .pre .1)
+    (is-true _ (upheld (c .before .has-region .ensures (z .args .s .now)) (c .if1 .left)))
+
+returns-2 : tie.Need-returns-2
+returns-2 c =
+    let own = c .before .before .before .before .args .own in
+    λ yes region. beq-other own (c .ia .result) (false-is (Bool·beq own (c .ia .result)) yes) ∙ ap not (c .ia .ensures)
+
+pub has-right-ia-spec : {M : Type 1} → statement M
+has-right-ia-spec = tie.close (tie.spec has-region-requires returns ia-requires returns-2)

@@ -1,0 +1,165 @@
+// One event of the sweep: a segment that begins goes into the status between those under its left end and those over it; one that ends goes out.
+// Where an entry stands in neither place, or an ia is wrong, the sweep stops.
+use scene::Scene;
+use scene::bytes;
+use status::note;
+use status::place;
+ghost use mathlib.Core.Path.{_≡_};
+ghost use mathlib.Core.Bool.{not, Bool·beq};
+ghost use mathlib.Core.List.{List};
+ghost use Prim.Native.Nat.{ℕ, _+_, _<_, _≤_};
+ghost use lib.Dec.{T, ltb};
+ghost use lib.ListN.{length, getD, take};
+ghost use Rattle.whole.specs.Count.{bit, odd, count};
+ghost use Rattle.scene.specs.Read.{segmentAt, iaAt, IsScene};
+ghost use Rattle.scene.specs.Conditions.{isRegion};
+ghost use Rattle.strands.specs.Swept.{objectOf, strandOf, isFirst, strandAt, Began, Ended, Entry};
+ghost use Rattle.strands.specs.Ready.{Ready};
+
+// The number of entries that are now in use, and the note of the element; or the sweep gives up.
+pub enum Step {
+    On(usize, u8),
+    Stop,
+}
+
+// ---- a segment begins
+
+// Are an odd number of the first k entries of F, or not of F? G starts at an offset.
+fn has_odd_own(start: u16, first: bool, status: &[u16], k: usize) -> bool
+    requires { ⌜ k ≤ length (now status) ⌝ }
+    ensures { λ r. ⌜ r ≡ odd (count (λ e. Bool·beq first (ltb e start)) (take k (now (status .entry)))) ⌝ }
+{
+    let mut odd = false;
+    let mut i: usize = 0;
+    while i < k {
+        odd = odd != (first == (status[i] < start));
+        i += 1;
+    }
+    odd
+}
+
+fn has_region(scene: Scene, first: bool) -> bool
+    ensures { λ r. ⌜ ((s : List ℕ) → r ≡ isRegion (objectOf s scene first .shape)) ⌝ }
+{
+    if first {
+        let f = scene.f;
+        let k = f.shape;
+        segments::is_region(k)
+    } else {
+        let g = scene.g;
+        let k = g.shape;
+        segments::is_region(k)
+    }
+}
+
+// A region's interior is above a segment where an even number of its own pass under it.
+fn has_right_ia(s: &[u8], scene: Scene, first: bool, at: usize, own: bool) -> bool
+    requires { ⌜ IsScene (now s) scene × Entry (now s) scene at × (isFirst (now s) scene at ≡ first) ⌝ }
+    ensures { λ r. ⌜ (T r → T (isRegion (objectOf (now (s .entry)) scene first .shape)) → own ≡ not (iaAt (now (s .entry)) at)) ⌝ }
+{
+    if !has_region(scene, first) {
+        return true;
+    }
+    own != bytes::ia(s, at)
+}
+
+// The note of a segment over k entries, of which an odd number are its own object's, or not: 1 where an odd number are the other's.
+fn other_note(k: usize, own: bool) -> u8
+    ensures { λ r. ⌜ ((a b : ℕ) → a + b ≡ k → own ≡ odd a → r ≡ bit (odd b)) ⌝ }
+{
+    (own != (k % 2 == 1)) as u8
+}
+
+// The left halfsegment at an offset.
+pub fn begin(s: &[u8], scene: Scene, first: bool, at: usize, status: &mut [u16], n: usize) -> Step
+    requires { ⌜ Ready (now s) scene first at (now status) n ⌝ }
+    ensures { λ r. ⌜ (length (now (status .exit)) ≡ length (now (status .entry))) × ((m v : ℕ) → r ≡ Step.On m v → (m ≡ n + 1) × (m ≤ length (now (status .exit))) × Began (now (s .entry)) scene first at (take n (now (status .entry))) (take m (now (status .exit))) v) ⌝ }
+{
+    if n == status.len() {
+        return Step::Stop;
+    }
+    let t = bytes::segment(s, at);
+    let k = place::first_over(s, t.left, status, n);
+    if !place::fits_over(s, scene, first, at, status, k) {
+        return Step::Stop;
+    }
+    if !place::fits_under(s, at, status, k, n) {
+        return Step::Stop;
+    }
+    let g = scene.g;
+    let own = has_odd_own(g.start as u16, first, status, k);
+    if !has_right_ia(s, scene, first, at, own) {
+        return Step::Stop;
+    }
+    status::insert(status, n, k, at as u16);
+    Step::On(n + 1, other_note(k, own))
+}
+
+// ---- a segment ends
+
+// Is the entry e the strand of the record at an offset: the same segment of the same object, with its ia?
+fn is_own(s: &[u8], scene: Scene, first: bool, at: usize, e: usize) -> bool
+    requires { ⌜ IsScene (now s) scene × Entry (now s) scene at × (isFirst (now s) scene at ≡ first) × Entry (now s) scene e ⌝ }
+    ensures { λ r. ⌜ (T r → strandAt (now (s .entry)) scene e ≡ strandOf (now (s .entry)) scene first at) ⌝ }
+{
+    let g = scene.g;
+    if first != (e < g.start) {
+        return false;
+    }
+    let u = bytes::segment(s, e);
+    if !plane::is_same_segment(u, bytes::segment(s, at)) {
+        return false;
+    }
+    if !has_region(scene, first) {
+        return true;
+    }
+    bytes::ia(s, e) == bytes::ia(s, at)
+}
+
+// The place of the entry that the right halfsegment at an offset ends: just below the place top, or below entries of the same segment; else top.
+fn own_below(s: &[u8], scene: Scene, first: bool, at: usize, status: &[u16], top: usize) -> usize
+    requires { ⌜ Ready (now s) scene first at (now status) top ⌝ }
+    ensures { λ r. ⌜ (r ≤ top) × (r < top → (strandAt (now (s .entry)) scene (getD (now (status .entry)) r 0) ≡ strandOf (now (s .entry)) scene first at) × ((i : ℕ) → r < i → i < top → segmentAt (now (s .entry)) (getD (now (status .entry)) i 0) ≡ segmentAt (now (s .entry)) at)) ⌝ }
+{
+    let t = bytes::segment(s, at);
+    let mut k = top;
+    while 0 < k {
+        k -= 1;
+        let e = place::wide(status[k]);
+        if is_own(s, scene, first, at, e) {
+            return k;
+        }
+        if !plane::is_same_segment(bytes::segment(s, e), t) {
+            return top;
+        }
+    }
+    top
+}
+
+// The right halfsegment at an offset. Its note is that of the left one.
+pub fn end(
+    s: &[u8],
+    scene: Scene,
+    first: bool,
+    at: usize,
+    status: &mut [u16],
+    n: usize,
+    notes: &[u8],
+) -> Step
+    requires { ⌜ Ready (now s) scene first at (now status) n × (2048 ≤ length (now notes)) ⌝ }
+    ensures { λ r. ⌜ (length (now (status .exit)) ≡ length (now (status .entry))) × ((m v : ℕ) → r ≡ Step.On m v → (m + 1 ≡ n) × Ended (now (s .entry)) scene first at (now (notes .entry)) (take n (now (status .entry))) (take m (now (status .exit))) v) ⌝ }
+{
+    let t = bytes::segment(s, at);
+    let top = place::first_over(s, t.right, status, n);
+    let k = own_below(s, scene, first, at, status, top);
+    if k == top {
+        return Step::Stop;
+    }
+    if !place::can_meet(s, status, k, n) {
+        return Step::Stop;
+    }
+    let e = place::wide(status[k]);
+    let v = note::note_at(scene, first, notes, e);
+    status::remove(status, n, k);
+    Step::On(n - 1, v)
+}

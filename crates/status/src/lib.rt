@@ -1,0 +1,35 @@
+// The status of the sweep: the active segments from low to high, as the offsets of their records, in the first n entries of an array.
+// One goes in or out at a place, and those above it move.
+ghost use mathlib.Core.Path.{_≡_};
+ghost use Prim.Native.Nat.{_+_, _-_, _<_, _≤_};
+ghost use lib.ListN.{length, take};
+ghost use Rattle.strands.specs.Status.{inserted, removed};
+
+pub mod note;
+pub mod place;
+
+// A new entry at place k: those from k on move up by one.
+pub fn insert(status: &mut [u16], n: usize, k: usize, at: u16)
+    requires { ⌜ (k ≤ n) × (n < length (now status)) ⌝ }
+    ensures { λ r. ⌜ (length (now (status .exit)) ≡ length (now (status .entry))) × (take (n + 1) (now (status .exit)) ≡ inserted k at (take n (now (status .entry)))) ⌝ }
+{
+    let mut i = n;
+    while k < i {
+        status[i] = status[i - 1];
+        i -= 1;
+    }
+    status[k] = at;
+}
+
+// The entry at place k goes: those above it move down by one.
+pub fn remove(status: &mut [u16], n: usize, k: usize)
+    requires { ⌜ (k < n) × (n ≤ length (now status)) ⌝ }
+    ensures { λ r. ⌜ (length (now (status .exit)) ≡ length (now (status .entry))) × (take (n - 1) (now (status .exit)) ≡ removed k (take n (now (status .entry)))) ⌝ }
+{
+    let last = n - 1;
+    let mut i = k;
+    while i < last {
+        status[i] = status[i + 1];
+        i += 1;
+    }
+}
