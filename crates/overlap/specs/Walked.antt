@@ -10,7 +10,7 @@ use Rattle.scene.specs.declared.Layout.{Layout}
 use Rattle.scene.specs.declared.Scene.{Scene}
 use Rattle.scene.specs.declared.CheckedScene.{CheckedScene}
 use Rattle.scene.specs.Conditions.{indices, keep, isRegion, half, isLeft}
-use Rattle.sweep.specs.Noted.{Noted}
+use Rattle.strands.specs.Noted.{Noted}
 use Rattle.checks.proofs.Laws.{SoundScene}
 use Rattle.flags.specs.Walk.{edges}
 use Rattle.classes.proofs.Standing.{Standing}
