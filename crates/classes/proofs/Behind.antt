@@ -108,7 +108,7 @@ module _ (s : List ℕ) (own other : Layout) (p : SoundObject s other) {i : ℕ}
 
   -- none of the other's is the same
   module _ {j : ℕ} (q : Behind s other own j i) (a : Ahead s other j t) where
-    unshared : hasSegment (segments s other) t ≡ false
+    pub unshared : hasSegment (segments s other) t ≡ false
     unshared = refute (hasSegment (segments s other) t) λ r.
         let w = some-find (sameSegment t) (segments s other) r in
         let k = in-left p (w .1) in
@@ -121,21 +121,22 @@ module _ (s : List ℕ) (own other : Layout) (p : SoundObject s other) {i : ℕ}
             go (yes w) = unequal (q m w f i (omega arith) h e) (sym d)
             go (no w) = unequal (a m (omega arith) k f) d
 
+  module _ (alone : hasSegment (segments s other) t ≡ false) where
     no-edge : (above : Bool) → hasEdge (edges s other) t above ≡ false
     no-edge above =
         refute (hasEdge (edges s other) t above)
-        (λ r. true≢false (sym (true-is (hasSegment (outline (edges s other)) t) (edge-segment (edges s other) t above r)) ∙ ap (λ (l : List Segment). hasSegment l t) (outline-edges s other) ∙ unshared))
+        (λ r. true≢false (sym (true-is (hasSegment (outline (edges s other)) t) (edge-segment (edges s other) t above r)) ∙ ap (λ (l : List Segment). hasSegment l t) (outline-edges s other) ∙ alone))
 
     pub class-unshared : (note : ℕ) → classTests (ia s own i) false false false note ≡ classOf s own other note i
-    class-unshared note = sym (rw (e, unshared, no-edge true, no-edge false))
+    class-unshared note = sym (rw (e, alone, no-edge true, no-edge false))
 
   -- or the next of them is
   module _ {j : ℕ} (k : j < other .count) (f : isLeft s other j ≡ true) (d : t ≡ half s other j .segment) where
-    shared : hasSegment (segments s other) t ≡ true
+    pub shared : hasSegment (segments s other) t ≡ true
     shared =
         true-is (hasSegment (segments s other) t) (some-make (sameSegment t) (left-in p j k f) (subst (λ (u : Segment). T (sameSegment t u)) d (sameSegment-refl t)))
 
-    edge-is : (above : Bool) → hasEdge (edges s other) t above ≡ sameIa above (ia s other j)
+    pub edge-is : (above : Bool) → hasEdge (edges s other) t above ≡ sameIa above (ia s other j)
     unfolding edges
     edge-is above = same-test (hasEdge (edges s other) t above) (sameIa above (ia s other j)) to from
       where

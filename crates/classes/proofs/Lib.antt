@@ -2,4 +2,5 @@
 pub mod Comparable
 pub mod Merging
 pub mod Behind
+pub mod Standing
 pub mod Walking

@@ -1,25 +1,21 @@
 -- The walk over the left halfsegments of two objects, step by step: the classes so far and those of what is left are all.
 use Prim.Native.Nat.{ℕ, zero, suc, _+_, _-_, _<_, _≤_}
-use native.Mathlib.Decide.{decLt}
 use native.Mathlib.Omega.{arith}
 use mathlib.Core.Path.{_≡_, sym, subst, _∙_}
 use mathlib.Core.Bool.{true, false, not}
 use mathlib.Core.List.{List}
 use lib.ListN.{getD}
-use Rattle.whole.proofs.Logic.{is-true}
-use Rattle.plane.proofs.Equal.{sameSegment-read}
 use Rattle.scene.specs.declared.Layout.{Layout}
 use Rattle.scene.specs.declared.Scene.{Scene}
-use Rattle.scene.specs.Conditions.{half, ia, isLeft}
-use Rattle.checks.proofs.Laws.{SoundScene, left-in, all-ordered, across}
+use Rattle.scene.specs.Conditions.{ia, isLeft}
+use Rattle.checks.proofs.Laws.{SoundScene}
 use Rattle.flags.specs.declared.Found.{Found}
 use Rattle.flags.specs.Walk.{nothing, either}
 use Rattle.flags.proofs.Gathered.{either-nothing, Gathering, gathering, gathered-one, gathered-all}
 use Rattle.classes.specs.Classed.{classTests, classOf, classesOfF, classesOfG}
-use Rattle.classes.specs.Walked.{NextLeft, Nexts, same, earlier, NextOfF, NextOfG, NextOfBoth}
-use Rattle.classes.proofs.Comparable.{compare-across}
-use Rattle.classes.proofs.Merging.{none-yet}
-use Rattle.classes.proofs.Behind.{Ahead, Behind, behind-start, behind-passed, behind-one, left-ordered, ahead-none, ahead-first, ahead-same, class-unshared, class-shared}
+use Rattle.classes.specs.Walked.{NextLeft, Nexts, NextOfF, NextOfG, NextOfBoth}
+use Rattle.classes.proofs.Behind.{class-unshared, class-shared}
+use Rattle.classes.proofs.Standing.{Standing, standing, stands-next, one-segment, standing-f, alone-f, standing-g, alone-g, standing-both}
 
 -- ---- over right halfsegments, which have no class
 
@@ -53,23 +49,20 @@ module _ (s : List ℕ) (f g : Layout) (notes : List ℕ) where
   pub record Walking (of-f of-g : Found) (i j : ℕ) : Type 0 where
     pub found-f : Gathering classOfF (f .count) of-f i
     pub found-g : Gathering classOfG (g .count) of-g j
-    pub behind-f : Behind s f g i j
-    pub behind-g : Behind s g f j i
+    pub stands : Standing s f g i j
 
   pub walking : Walking nothing nothing 0 0
   walking = record {
     found-f = gathering classOfF (f .count);
     found-g = gathering classOfG (g .count);
-    behind-f = behind-start s f g;
-    behind-g = behind-start s g f;
+    stands = standing s f g;
   }
 
   to-next : {of-f of-g : Found} {i j a b : ℕ} → Walking of-f of-g i j → Nexts s f g i j a b → Walking of-f of-g a b
   to-next w n = record {
     found-f = gathered-left s f g (λ k. getD notes k 0) (w .found-f) (n .of-f);
     found-g = gathered-left s g f (λ k. getD notes (1024 + k) 0) (w .found-g) (n .of-g);
-    behind-f = behind-passed s f g (w .behind-f) (n .of-f .passed) (n .of-g .onwards);
-    behind-g = behind-passed s g f (w .behind-g) (n .of-g .passed) (n .of-f .onwards);
+    stands = stands-next s f g (w .stands) n;
   }
 
 -- one step, by what comes next
@@ -83,67 +76,32 @@ module _ {s : List ℕ} {sc : Scene} (o : SoundScene s sc) (notes : List ℕ) wh
   module _ {of-f of-g : Found} {i j : ℕ} (w : Walking s f g notes of-f of-g i j) where
     pub walking-f : {a b : ℕ} → NextOfF s f g i j a b → {x y : Found} → x ≡ classTests (ia s f a) false false false (getD notes a 0) → y ≡ either of-f x → Walking s f g notes y of-g (a + 1) b
     walking-f {a} {b} n e q = record {
-      found-f = gathered-one (classOfF s f g notes) (f .count) (v .found-f) (n .there) (e ∙ class-unshared s f g (o .g-sound) (n .there) left (v .behind-g) ahead (getD notes a 0)) q;
+      found-f = gathered-one (classOfF s f g notes) (f .count) (v .found-f) (n .there) (e ∙ class-unshared s f g (o .g-sound) (n .there) (n .nexts .of-f .there (n .there)) (alone-f o (w .stands) n) (getD notes a 0)) q;
       found-g = v .found-g;
-      behind-f = behind-one s f g (v .behind-f) ahead;
-      behind-g = behind-passed s g f (v .behind-g) (none-yet s g b) (omega arith);
+      stands = standing-f o (w .stands) n;
     }
       where
         v : Walking s f g notes of-f of-g a b
         v = to-next s f g notes w (n .nexts)
-
-        left : isLeft s f a ≡ true
-        left = n .nexts .of-f .there (n .there)
-
-        ahead : Ahead s g b (half s f a .segment)
-        ahead = go (decLt b (g .count))
-          where
-            go : Dec (b < g .count) → Ahead s g b (half s f a .segment)
-            go (yes k) =
-                ahead-first (o .g-sound) (half s f a .segment) k (n .nexts .of-g .there k) (left-ordered (o .f-sound) a (n .there) left)
-                (is-true (earlier s f g a b) (n .compared k .1))
-            go (no k) = ahead-none (o .g-sound) (half s f a .segment) (omega arith)
 
     pub walking-g : {a b : ℕ} → NextOfG s f g i j a b → {x y : Found} → x ≡ classTests (ia s g b) false false false (getD notes (1024 + b) 0) → y ≡ either of-g x → Walking s f g notes of-f y a (b + 1)
     walking-g {a} {b} n e q = record {
       found-f = v .found-f;
-      found-g = gathered-one (classOfG s f g notes) (g .count) (v .found-g) (n .there) (e ∙ class-unshared s g f (o .f-sound) (n .there) left (v .behind-f) ahead (getD notes (1024 + b) 0)) q;
-      behind-f = behind-passed s f g (v .behind-f) (none-yet s f a) (omega arith);
-      behind-g = behind-one s g f (v .behind-g) ahead;
+      found-g = gathered-one (classOfG s f g notes) (g .count) (v .found-g) (n .there) (e ∙ class-unshared s g f (o .f-sound) (n .there) (n .nexts .of-g .there (n .there)) (alone-g o (w .stands) n) (getD notes (1024 + b) 0)) q;
+      stands = standing-g o (w .stands) n;
     }
       where
         v : Walking s f g notes of-f of-g a b
         v = to-next s f g notes w (n .nexts)
-
-        left : isLeft s g b ≡ true
-        left = n .nexts .of-g .there (n .there)
-
-        ahead : Ahead s f a (half s g b .segment)
-        ahead = go (decLt a (f .count))
-          where
-            go : Dec (a < f .count) → Ahead s f a (half s g b .segment)
-            go (yes k) =
-                ahead-first (o .f-sound) (half s g b .segment) k left-f (left-ordered (o .g-sound) b (n .there) left)
-                (compare-across (all-ordered (o .f-sound)) (all-ordered (o .g-sound)) (across o) (half s f a .segment) (half s g b .segment) (left-in (o .f-sound) a k left-f) (left-in (o .g-sound) b (n .there) left)
-                (n .compared k .0) (n .compared k .1))
-              where
-                left-f : isLeft s f a ≡ true
-                left-f = n .nexts .of-f .there k
-            go (no k) = ahead-none (o .f-sound) (half s g b .segment) (omega arith)
 
     pub walking-both : {a b : ℕ} → NextOfBoth s f g i j a b → {x y p q : Found}
         → x ≡ classTests (ia s f a) true (ia s g b) (not (ia s g b)) (getD notes a 0) → y ≡ either of-f x
         → p ≡ classTests (ia s g b) true (ia s f a) (not (ia s f a)) (getD notes (1024 + b) 0) → q ≡ either of-g p
         → Walking s f g notes y q (a + 1) (b + 1)
     walking-both {a} {b} n e y d q = record {
-      found-f = gathered-one (classOfF s f g notes) (f .count) (v .found-f) (n .there-f) (e ∙ class-shared s f g (o .g-sound) (n .there-f) left-f (n .there-g) left-g equal (getD notes a 0)) y;
-      found-g = gathered-one (classOfG s f g notes) (g .count) (v .found-g) (n .there-g) (d ∙ class-shared s g f (o .f-sound) (n .there-g) left-g (n .there-f) left-f (sym equal) (getD notes (1024 + b) 0)) q;
-      behind-f =
-          behind-one s f g (behind-passed s f g (v .behind-f) (none-yet s f a) (omega arith))
-          (ahead-same (o .g-sound) (half s f a .segment) (n .there-g) left-g equal);
-      behind-g =
-          behind-one s g f (behind-passed s g f (v .behind-g) (none-yet s g b) (omega arith))
-          (ahead-same (o .f-sound) (half s g b .segment) (n .there-f) left-f (sym equal));
+      found-f = gathered-one (classOfF s f g notes) (f .count) (v .found-f) (n .there-f) (e ∙ class-shared s f g (o .g-sound) (n .there-f) left-f (n .there-g) left-g (one-segment n) (getD notes a 0)) y;
+      found-g = gathered-one (classOfG s f g notes) (g .count) (v .found-g) (n .there-g) (d ∙ class-shared s g f (o .f-sound) (n .there-g) left-g (n .there-f) left-f (sym (one-segment n)) (getD notes (1024 + b) 0)) q;
+      stands = standing-both o (w .stands) n;
     }
       where
         v : Walking s f g notes of-f of-g a b
@@ -154,9 +112,6 @@ module _ {s : List ℕ} {sc : Scene} (o : SoundScene s sc) (notes : List ℕ) wh
 
         left-g : isLeft s g b ≡ true
         left-g = n .nexts .of-g .there (n .there-g)
-
-        equal : half s f a .segment ≡ half s g b .segment
-        equal = sameSegment-read (half s f a .segment) (half s g b .segment) (is-true (same s f g a b) (n .compared))
 
     pub walked : Nexts s f g i j (f .count) (g .count) → (of-f ≡ classesOfF s sc notes) × (of-g ≡ classesOfG s sc notes)
     walked n =

@@ -25,7 +25,7 @@ pub struct Classes {
 }
 
 // Is the interior of a region above the segment of an element?
-fn is_above(s: &[u8], l: Layout, i: usize) -> bool
+pub fn is_above(s: &[u8], l: Layout, i: usize) -> bool
     requires { ⌜ IsObject (now s) l × (i < l .count) ⌝ }
     ensures { λ r. ⌜ r ≡ ia (now (s .entry)) l i ⌝ }
 {

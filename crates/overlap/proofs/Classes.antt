@@ -3,7 +3,7 @@
 use Prim.Native.Nat.{ℕ, _+_, _*_}
 use native.Mathlib.Omega.{arith}
 use mathlib.Core.Path.{_≡_, refl, sym, ap, ap₂, subst, _∙_}
-use mathlib.Core.Logic.{⊎-elim}
+use mathlib.Core.Logic.{inl, inr, ⊎-elim}
 use mathlib.Core.Bool.{Bool, true, false, not, _&&_, _||_, and-true, and-false, cond, true≢false}
 use mathlib.Core.List.{List, [], _∷_}
 use lib.Dec.{T, eqb}
@@ -19,16 +19,17 @@ use Rattle.scene.specs.declared.Layout.{Layout}
 use Rattle.scene.specs.declared.Scene.{Scene}
 use Rattle.scene.specs.declared.CheckedScene.{CheckedScene}
 use Rattle.scene.specs.Conditions.{elements, keep, isRegion, isLeft, segments}
-use Rattle.checks.proofs.Laws.{SoundObject, SoundScene, sound-scene, ia-is}
+use Rattle.checks.proofs.Laws.{SoundObject, ia-is}
 use Rattle.segments.proofs.Indices.{in-element}
 use Rattle.flags.specs.Flags.{Edge, Elements, region, outline, hasSegment, midInside, midOutside, class01, class10, class12, class21, class02, class20, class11, flagsOfF, flagsOfG}
 use Rattle.flags.specs.Walk.{edgeOf, edges, elementsOf, elementsAs, sameIa, sameEdge, hasEdge, Clear}
 use Rattle.flags.proofs.ByElement.{outline-edges}
-use Rattle.overlap.specs.Overlap.{merge, adjoins, byteOf, listRules, checkList}
+use Rattle.overlap.specs.Overlap.{merge, adjoins, byteOf, checkList}
+use Rattle.overlap.specs.Walked.{TwoRegions}
 use Rattle.overlap.specs.Classes.{of-f, of-g, of-both, belongs, hasByte, classesOfF, classesOfG}
 use Rattle.overlap.proofs.Members.{merge-in, in-merge-f, in-merge-g}
 use Rattle.overlap.proofs.Listing.{adjoins-own, adjoins-other}
-use Rattle.overlap.proofs.Checked.{Listable, listable}
+use Rattle.overlap.proofs.Checked.{either-clear, listable}
 
 -- ---- the edges of a region whose ia the segment decides
 
@@ -344,21 +345,17 @@ as-region s l r = go (l .shape) r
 pub class-flags-of-list : (s : List ℕ) (room : ℕ) (sc : Scene) → checkList s room ≡ CheckedScene.Taken sc
     → (take 7 (flagsOfF (elementsOf s (sc .f)) (elementsOf s (sc .g))) ≡ classesOfF (edges s (sc .f)) (edges s (sc .g)))
     × (flagsOfG (elementsOf s (sc .f)) (elementsOf s (sc .g)) ≡ classesOfG (edges s (sc .f)) (edges s (sc .g)))
-unfolding checkList
 class-flags-of-list s room sc e =
     (ap₂ (λ (x y : Elements). take 7 (flagsOfF x y)) of-f′ of-g′ ∙ flags .0, ap₂ flagsOfG of-f′ of-g′ ∙ flags .1)
   where
-    sound : SoundScene s sc
-    sound = sound-scene [] (listRules room) s sc e
-
-    good : Listable s room sc
-    good = listable s room sc e
+    good : TwoRegions s sc
+    good = listable s room sc e .taken
 
     of-f′ : elementsOf s (sc .f) ≡ region (edges s (sc .f))
-    of-f′ = as-region s (sc .f) (good .region-f)
+    of-f′ = as-region s (sc .f) (good .1)
 
     of-g′ : elementsOf s (sc .g) ≡ region (edges s (sc .g))
-    of-g′ = as-region s (sc .g) (good .region-g)
+    of-g′ = as-region s (sc .g) (good .2)
 
     own : (l : Layout) {e : Edge} → e ∈ edges s l → e .segment ∈ segments s l
     own l {e} m = subst (λ (k : List Segment). e .segment ∈ k) (outline-edges s l) (in-map (λ (e : Edge). e .segment) m)
@@ -370,6 +367,6 @@ class-flags-of-list s room sc e =
         × (flagsOfG (region (edges s (sc .f))) (region (edges s (sc .g))) ≡ classesOfG (edges s (sc .f)) (edges s (sc .g)))
     flags =
         class-flags (edges s (sc .f)) (edges s (sc .g)) (interiorAbove (segments s (sc .f))) (interiorAbove (segments s (sc .g)))
-        (marked (sound .f-sound) (good .region-f)) (marked (sound .g-sound) (good .region-g))
-        (λ f m. apart (sc .g) (f .segment) (good .clear (f .segment) (in-merge-f (segments s (sc .f)) (segments s (sc .g)) (own (sc .f) m)) .1))
-        (λ g m. apart (sc .f) (g .segment) (good .clear (g .segment) (in-merge-g (segments s (sc .f)) (segments s (sc .g)) (own (sc .g) m)) .0))
+        (marked (good .0 .f-sound) (good .1)) (marked (good .0 .g-sound) (good .2))
+        (λ f m. apart (sc .g) (f .segment) (either-clear (good .0) (f .segment) (inl (own (sc .f) m)) .1))
+        (λ g m. apart (sc .f) (g .segment) (either-clear (good .0) (g .segment) (inr (own (sc .g) m)) .0))

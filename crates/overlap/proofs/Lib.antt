@@ -3,6 +3,7 @@ pub mod Members
 pub mod Sorted
 pub mod Merging
 pub mod Listing
+pub mod Noted
 pub mod Checked
 pub mod Classes
 pub mod Beside

@@ -1,14 +1,13 @@
--- The byte of a segment from the searches, and the list of bytes as a loop writes it into a buffer.
+-- The sides of a segment from the searches, and the list of bytes as a loop writes it into a buffer.
 use Prim.Native.Nat.{ℕ, suc, _+_, _*_, _<_, _≤_}
 use native.Mathlib.Numerals.{add-one}
 use native.Mathlib.Omega.{arith}
-use mathlib.Core.Path.{_≡_, refl, sym, ap, ap₂, subst, _∙_}
+use mathlib.Core.Path.{_≡_, refl, sym, ap, ap₂, _∙_}
 use mathlib.Core.Bool.{Bool, true, false, or-false, true≢false}
 use mathlib.Core.List.{List, [], _∷_, _++_, map, append-assoc, append-nil}
 use lib.Dec.{T}
 use lib.ListN.{length, drop, set, getD, length-append, length-drop, length-map}
 use lib.Seq.{drop-cons, set-append-seam}
-use Rattle.whole.specs.Count.{_∈_}
 use Rattle.whole.proofs.Logic.{refute, true-is}
 use Rattle.plane.specs.declared.Segment.{Segment}
 use Rattle.plane.specs.Plane.{midpoint, inside}
@@ -19,11 +18,11 @@ use Rattle.scene.specs.Read.{size, after, IsObject}
 use Rattle.scene.specs.Conditions.{isRegion, segments}
 use Rattle.segments.proofs.Walk.{object-fits}
 use Rattle.flags.specs.Flags.{Edge, outline, hasSegment}
-use Rattle.flags.specs.Walk.{edges, hasEdge, Clear}
+use Rattle.flags.specs.Walk.{edges, hasEdge}
 use Rattle.flags.proofs.ByElement.{outline-edges}
 use Rattle.classes.proofs.Behind.{edge-segment}
 use Rattle.overlap.specs.Overlap.{merge, adjoins, byteOf, overlapBytes}
-use Rattle.overlap.specs.Walked.{mergedFrom, MergedClear}
+use Rattle.overlap.specs.Walked.{mergedFrom}
 use Rattle.overlap.proofs.Merging.{from-start}
 
 -- ---- the byte of a segment
@@ -67,13 +66,6 @@ module _ (s : List ℕ) (f g : Layout) where
 
   pub count-start : length allBytes ≡ length (mergedFrom s f g 0 0)
   count-start = ap length bytes-start ∙ length-map (mergedFrom s f g 0 0) (byteOf (edges s f) (edges s g))
-
-  -- the segments that are left
-  abbrev pub ClearFrom : ℕ → ℕ → Type 0
-  ClearFrom i j = (t : Segment) → t ∈ mergedFrom s f g i j → Clear (segments s f) t × Clear (segments s g) t
-
-  pub clear-start : MergedClear s f g → ClearFrom 0 0
-  clear-start h t m = h t (subst (λ (l : List Segment). t ∈ l) (sym whole) m)
 
 -- ---- the buffer
 

@@ -12,8 +12,8 @@ use Rattle.plane.specs.Plane.{midpoint, sameSegment, inside}
 use Rattle.scene.specs.declared.Scene.{Scene}
 use Rattle.scene.specs.declared.Fault.{Fault}
 use Rattle.scene.specs.declared.CheckedScene.{CheckedScene}
-use Rattle.scene.specs.Read.{unless}
-use Rattle.scene.specs.Conditions.{isRegion, Rule, rule, orElse, sceneRules, checkSceneBy}
+use Rattle.scene.specs.Read.{unless, judge}
+use Rattle.scene.specs.Conditions.{isRegion, Rule, rule, orElse, conditions, sceneRules, checkSceneBy}
 use Rattle.flags.specs.Flags.{Edge, outline, hasSegment}
 use Rattle.flags.specs.Walk.{edges, hasEdge}
 use Rattle.classes.specs.Walked.{leftBefore}
@@ -77,6 +77,10 @@ shorter room s sc = unless (leb (length (listOf s sc)) room) 0
 
 abbrev pub listRules : ℕ → List (Rule Scene)
 listRules room = rule 16 notRegions ∷ rule 17 (shorter room) ∷ []
+
+-- the two, of a scene that passes all others
+abbrev pub judged : List ℕ → Scene → ℕ → CheckedScene
+judged s sc room = judge CheckedScene.Refused (CheckedScene.Taken sc) (conditions (listRules room) s sc)
 
 unfoldable pub checkList : List ℕ → ℕ → CheckedScene
 checkList s room = checkSceneBy (sceneRules [] (listRules room)) s

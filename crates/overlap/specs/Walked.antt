@@ -1,25 +1,27 @@
--- What the walk over the different segments of two regions promises: the segments from an element on, and the next of both objects.
+-- What the walk over the different segments of two regions promises: the segments from an element on, and the next of both objects, with its byte.
 use Prim.Native.Nat.{ℕ, _+_, _-_, _<_, _≤_}
 use mathlib.Core.Path.{_≡_}
+use mathlib.Core.Bool.{Bool}
 use mathlib.Core.List.{List, [], _∷_, map}
 use lib.Dec.{T}
-use Rattle.whole.specs.Count.{_∈_}
 use Rattle.plane.specs.declared.Segment.{Segment}
 use Rattle.plane.specs.Plane.{segmentInRange}
 use Rattle.scene.specs.declared.Layout.{Layout}
-use Rattle.scene.specs.Conditions.{indices, keep, half, isLeft, segments}
-use Rattle.flags.specs.Walk.{Clear}
+use Rattle.scene.specs.declared.Scene.{Scene}
+use Rattle.scene.specs.declared.CheckedScene.{CheckedScene}
+use Rattle.scene.specs.Conditions.{indices, keep, isRegion, half, isLeft}
+use Rattle.strands.specs.Noted.{Noted}
+use Rattle.checks.proofs.Laws.{SoundScene}
+use Rattle.flags.specs.Walk.{edges}
+use Rattle.classes.proofs.Standing.{Standing}
 use Rattle.overlap.specs.declared.merged.Step.{Step}
 use Rattle.overlap.specs.declared.merged.Step.the-variants.{Next, End}
-use Rattle.overlap.specs.Overlap.{merge}
+use Rattle.overlap.specs.declared.written.ByteStep.{ByteStep}
+use Rattle.overlap.specs.Overlap.{merge, byteOf}
 
 -- the segments of the elements from i on
 unfoldable pub segmentsFrom : List ℕ → Layout → ℕ → List Segment
 segmentsFrom s l i = map (λ k. half s l k .segment) (keep (isLeft s l) (indices (l .count - i) i))
-
--- the midpoint of each of the different segments lies on a region's segments where the segment is one of them, and nowhere else
-abbrev pub MergedClear : List ℕ → Layout → Layout → Type 0
-MergedClear s f g = (t : Segment) → t ∈ merge (segments s f) (segments s g) → Clear (segments s f) t × Clear (segments s g) t
 
 module _ (s : List ℕ) (f g : Layout) where
   abbrev pub mergedFrom : ℕ → ℕ → List Segment
@@ -36,3 +38,30 @@ module _ (s : List ℕ) (f g : Layout) where
   abbrev pub Stepped : ℕ → ℕ → Step → Type 0
   Stepped i j (Next t k m) = NextIs i j t k m
   Stepped i j End = mergedFrom i j ≡ []
+
+-- ---- with the byte, by the notes where the sweep has noted
+
+abbrev pub TwoRegions : List ℕ → Scene → Type 0
+TwoRegions s sc = SoundScene s sc × T (isRegion (sc .f .shape)) × T (isRegion (sc .g .shape))
+
+module _ (swept : Bool) (s : List ℕ) where
+  abbrev pub NotedIf : Scene → List ℕ → Type 0
+  NotedIf sc notes = T swept → Noted s sc notes
+
+  abbrev pub NotedWhere : CheckedScene → List ℕ → Type 0
+  NotedWhere checked notes = (sc : Scene) → checked ≡ CheckedScene.Taken sc → NotedIf sc notes
+
+  module _ (f g : Layout) where
+    -- what is passed of either region comes before all that is left of the other
+    abbrev pub Stands : ℕ → ℕ → Type 0
+    Stands i j = T swept → Standing s f g i j
+
+    pub record NextByte (i j b k m : ℕ) : Type 0 where
+      pub segment : Segment
+      pub next : NextIs s f g i j segment k m
+      pub byte : b ≡ byteOf (edges s f) (edges s g) segment
+      pub stands : Stands k m
+
+    abbrev pub ByteStepped : ℕ → ℕ → ByteStep → Type 0
+    ByteStepped i j (ByteStep.Next b k m) = NextByte i j b k m
+    ByteStepped i j ByteStep.End = mergedFrom s f g i j ≡ []

@@ -1,21 +1,35 @@
 // The overlap list of two regions, into a lent buffer: each different segment gives one byte.
+use checks::Noting;
+use checks::Verdict;
 use scene::CheckedScene;
 use scene::Fault;
 use scene::Refusal;
 use scene::Scene;
 ghost use mathlib.Core.Path.{_≡_};
 ghost use mathlib.Core.List.{List};
-ghost use Prim.Native.Nat.{ℕ};
-ghost use Rattle.overlap.specs.Overlap.{notRegions, checkList, overlapOf, bufferAfter};
+ghost use mathlib.Core.Bool.{false};
+ghost use Prim.Native.Nat.{ℕ, _≤_};
+ghost use lib.ListN.{length};
+ghost use Rattle.scene.specs.declared.CheckedScene.{CheckedScene as AnyChecked};
+ghost use Rattle.scene.specs.Read.{IsObject};
+ghost use Rattle.overlap.specs.Overlap.{notRegions, judged, checkList, overlapOf, bufferAfter};
+ghost use Rattle.overlap.specs.Walked.{NotedWhere};
 
 pub mod listed;
 pub mod merged;
+pub mod written;
 
 // An answer: number 0 where the list was written, else that of the refusal with its place; and how many bytes were written.
 pub struct Overlap {
     pub number: u8,
     pub place: usize,
     pub count: usize,
+}
+
+// What the check of a scene gives, and whether the sweep has left its notes.
+struct Outcome {
+    scene: CheckedScene,
+    swept: bool,
 }
 
 // 16: the first type record that is not 3.
@@ -36,26 +50,58 @@ fn regions_fault(scene: Scene) -> Fault
     }
 }
 
-// A scene's bytes, checked whole, with 16, and 17 for a buffer of so many bytes.
-fn check_list(s: &[u8], room: usize) -> CheckedScene
-    ensures { λ r. ⌜ r ≡ checkList (now (s .entry)) room ⌝ }
+// 16, and 17 for a buffer of so many bytes.
+fn judge(s: &[u8], scene: Scene, room: usize) -> CheckedScene
+    requires { ⌜ IsObject (now s) (scene .f) × IsObject (now s) (scene .g) ⌝ }
+    ensures { λ r. ⌜ r ≡ judged (now (s .entry)) scene room ⌝ }
 {
-    match checks::check_scene(s) {
-        CheckedScene::Refused(r) => CheckedScene::Refused(r),
-        CheckedScene::Taken(scene) => match regions_fault(scene) {
-            Fault::At(place) => CheckedScene::Refused(Refusal { number: 16, place }),
-            Fault::Nothing => {
-                let f = scene.f;
-                let g = scene.g;
-                if room < listed::count(s, f, g) {
-                    CheckedScene::Refused(Refusal {
-                        number: 17,
-                        place: 0,
-                    })
-                } else {
-                    CheckedScene::Taken(scene)
-                }
+    match regions_fault(scene) {
+        Fault::At(place) => CheckedScene::Refused(Refusal { number: 16, place }),
+        Fault::Nothing => {
+            let f = scene.f;
+            let g = scene.g;
+            if room < listed::count(s, f, g) {
+                return CheckedScene::Refused(Refusal {
+                    number: 17,
+                    place: 0,
+                });
             }
+            CheckedScene::Taken(scene)
+        }
+    }
+}
+
+fn refused(r: Refusal) -> Outcome
+    ensures { λ k. ⌜ (k .scene ≡ AnyChecked.Refused r) × (k .swept ≡ false) ⌝ }
+{
+    Outcome {
+        scene: CheckedScene::Refused(r),
+        swept: false,
+    }
+}
+
+// A scene's bytes, checked whole, with 16 and 17 last.
+fn check_list(s: &[u8], room: usize, notes: &mut [u8]) -> Outcome
+    requires { ⌜ 2048 ≤ length (now notes) ⌝ }
+    ensures { λ r. ⌜ (length (now (notes .exit)) ≡ length (now (notes .entry))) × (r .scene ≡ checkList (now (s .entry)) room) × NotedWhere (r .swept) (now (s .entry)) (r .scene) (now (notes .exit)) ⌝ }
+{
+    match reading::read_scene(s) {
+        CheckedScene::Refused(r) => refused(r),
+        CheckedScene::Taken(scene) => match checks::types_fault(scene) {
+            Fault::At(place) => refused(Refusal { number: 8, place }),
+            Fault::Nothing => match checks::noted_verdict(s, scene, notes) {
+                Noting::Swept => Outcome {
+                    scene: judge(s, scene, room),
+                    swept: true,
+                },
+                Noting::Plain(v) => match v {
+                    Verdict::Refused(r) => refused(r),
+                    Verdict::Sound => Outcome {
+                        scene: judge(s, scene, room),
+                        swept: false,
+                    },
+                },
+            },
         },
     }
 }
@@ -64,16 +110,17 @@ fn check_list(s: &[u8], room: usize) -> CheckedScene
 pub fn overlap_list(s: &[u8], list: &mut [u8]) -> Overlap
     ensures { λ r. ⌜ (r ≡ overlapOf (now (s .entry)) (now (list .entry))) × (now (list .exit) ≡ bufferAfter (now (s .entry)) (now (list .entry))) ⌝ }
 {
-    match check_list(s, list.len()) {
+    let mut notes = [0u8; 2048];
+    let checked = check_list(s, list.len(), &mut notes);
+    let outcome = checked.scene;
+    match outcome {
         CheckedScene::Refused(r) => Overlap {
             number: r.number,
             place: r.place,
             count: 0,
         },
         CheckedScene::Taken(scene) => {
-            let f = scene.f;
-            let g = scene.g;
-            let count = listed::write(s, f, g, list);
+            let count = written::write(s, scene, checked.swept, &notes, list);
             Overlap {
                 number: 0,
                 place: 0,

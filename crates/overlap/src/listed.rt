@@ -1,4 +1,4 @@
-// The byte of each different segment of two regions: how many there are, and the list of them in a lent buffer.
+// The byte of a segment of two regions, by the sides where their interiors adjoin it; and how many different segments they have.
 use crate::merged;
 use crate::merged::Step;
 use flags::position;
@@ -6,22 +6,21 @@ use flags::searches;
 use plane::Segment;
 use scene::Layout;
 ghost use mathlib.Core.Path.{_≡_};
-ghost use mathlib.Core.List.{_++_};
-ghost use Prim.Native.Nat.{_+_, _≤_};
-ghost use lib.ListN.{length, drop};
-ghost use lib.Dec.{T};
+ghost use mathlib.Core.Bool.{not};
+ghost use Prim.Native.Nat.{_+_, _*_, _<_, _≤_};
+ghost use lib.ListN.{length};
+ghost use lib.Dec.{T, eqb};
 ghost use Rattle.whole.specs.Count.{bit};
 ghost use Rattle.plane.specs.Plane.{segmentInRange};
 ghost use Rattle.scene.specs.Read.{IsObject};
-ghost use Rattle.scene.specs.Conditions.{isRegion, segments};
+ghost use Rattle.scene.specs.Conditions.{isRegion, ia, segments};
 ghost use Rattle.flags.specs.Walk.{edges, Clear};
 ghost use Rattle.overlap.specs.Overlap.{adjoinsBelow, adjoinsAbove, byteOf, overlapBytes};
-ghost use Rattle.overlap.specs.Walked.{MergedClear};
 
 // Whether the interior of a region adjoins a segment below (right, if vertical) and above (left).
-struct Sides {
-    below: bool,
-    above: bool,
+pub struct Sides {
+    pub below: bool,
+    pub above: bool,
 }
 
 fn sides_of(s: &[u8], l: Layout, t: Segment) -> Sides
@@ -40,6 +39,29 @@ fn sides_of(s: &[u8], l: Layout, t: Segment) -> Sides
     }
 }
 
+// The same of the segment of one of its own elements, by ia.
+pub fn own_sides(s: &[u8], l: Layout, i: usize) -> Sides
+    requires { ⌜ IsObject (now s) l × (i < l .count) ⌝ }
+    ensures { λ r. ⌜ (r .below ≡ not (ia (now (s .entry)) l i)) × (r .above ≡ ia (now (s .entry)) l i) ⌝ }
+{
+    let above = classes::is_above(s, l, i);
+    Sides {
+        below: !above,
+        above,
+    }
+}
+
+// And of a segment that is none of its own, by the sweep's note of it.
+pub fn noted_sides(note: u8) -> Sides
+    ensures { λ r. ⌜ (r .below ≡ not (eqb note 0)) × (r .above ≡ not (eqb note 0)) ⌝ }
+{
+    let inside = note != 0;
+    Sides {
+        below: inside,
+        above: inside,
+    }
+}
+
 // How many of two regions.
 fn number(f: bool, g: bool) -> u8
     ensures { λ r. ⌜ (r ≡ bit f + bit g) × (r ≤ 2) ⌝ }
@@ -47,15 +69,19 @@ fn number(f: bool, g: bool) -> u8
     f as u8 + g as u8
 }
 
-fn byte(s: &[u8], f: Layout, g: Layout, t: Segment) -> u8
+pub fn coded(f: Sides, g: Sides) -> u8
+    ensures { λ r. ⌜ r ≡ 3 * (bit (f .below) + bit (g .below)) + (bit (f .above) + bit (g .above)) ⌝ }
+{
+    let m = number(f.below, g.below);
+    let n = number(f.above, g.above);
+    3 * m + n
+}
+
+pub fn byte(s: &[u8], f: Layout, g: Layout, t: Segment) -> u8
     requires { ⌜ IsObject (now s) f × IsObject (now s) g × T (isRegion (f .shape)) × T (isRegion (g .shape)) × T (segmentInRange t) × Clear (segments (now s) f) t × Clear (segments (now s) g) t ⌝ }
     ensures { λ r. ⌜ r ≡ byteOf (edges (now (s .entry)) f) (edges (now (s .entry)) g) t ⌝ }
 {
-    let of_f = sides_of(s, f, t);
-    let of_g = sides_of(s, g, t);
-    let m = number(of_f.below, of_g.below);
-    let n = number(of_f.above, of_g.above);
-    3 * m + n
+    coded(sides_of(s, f, t), sides_of(s, g, t))
 }
 
 // How many different segments the two regions have.
@@ -73,33 +99,6 @@ pub fn count(s: &[u8], f: Layout, g: Layout) -> usize
                 i: k,
                 j: m,
             } => {
-                i = k;
-                j = m;
-            }
-            Step::End => {
-                return n;
-            }
-        }
-        n += 1;
-    }
-}
-
-// Writes their bytes, from the start of a buffer with room for them.
-pub fn write(s: &[u8], f: Layout, g: Layout, list: &mut [u8]) -> usize
-    requires { ⌜ IsObject (now s) f × IsObject (now s) g × T (isRegion (f .shape)) × T (isRegion (g .shape)) × MergedClear (now s) f g × (length (overlapBytes (edges (now s) f) (edges (now s) g)) ≤ length (now list)) ⌝ }
-    ensures { λ r. ⌜ (r ≡ length (overlapBytes (edges (now (s .entry)) f) (edges (now (s .entry)) g))) × (now (list .exit) ≡ overlapBytes (edges (now (s .entry)) f) (edges (now (s .entry)) g) ++ drop (length (overlapBytes (edges (now (s .entry)) f) (edges (now (s .entry)) g))) (now (list .entry))) ⌝ }
-{
-    let mut n: usize = 0;
-    let mut i: usize = 0;
-    let mut j: usize = 0;
-    loop {
-        match merged::next_step(s, f, g, i, j) {
-            Step::Next {
-                segment,
-                i: k,
-                j: m,
-            } => {
-                list[n] = byte(s, f, g, segment);
                 i = k;
                 j = m;
             }
