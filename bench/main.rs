@@ -107,12 +107,12 @@ fn parts(bytes: &[u8]) -> [Parts; 2] {
     [(&f, &g), (&g, &f)].map(|(own, other)| Parts::with_first(own, &boundary_outside(own, other)))
 }
 
-/// A row with its best times so far: our cells, our vectors, GEOS from the bytes, GEOS relate alone.
+/// A row with its best times so far: our cells, our vectors, our check, GEOS from the bytes, GEOS relate alone.
 struct Timed {
     row: Row,
     parts: [Parts; 2],
     verdict: &'static str,
-    best: [f64; 4],
+    best: [f64; 5],
 }
 
 impl Timed {
@@ -121,7 +121,7 @@ impl Timed {
         let right = library::cells(&row.bytes).expect("cells are 0 or 1");
         assert_eq!(right.number, 0, "{} is refused", row.name());
         let verdict = if bench_geos_from_bytes(geos, &row.bytes, &parts) == Some(right.cell) { "right" } else { "wrong" };
-        Timed { row, parts, verdict, best: [f64::MAX; 4] }
+        Timed { row, parts, verdict, best: [f64::MAX; 5] }
     }
 
     fn take(&mut self, which: usize, time: f64) {
@@ -132,10 +132,11 @@ impl Timed {
         if with_ours {
             self.take(0, clock::best(|| library::cells(&self.row.bytes)));
             self.take(1, clock::best(|| library::vectors(&self.row.bytes, 0, 0)));
+            self.take(2, clock::best(|| library::overlap(&self.row.bytes, &mut [])));
         }
-        self.take(2, clock::best(|| bench_geos_from_bytes(geos, &self.row.bytes, &self.parts)));
+        self.take(3, clock::best(|| bench_geos_from_bytes(geos, &self.row.bytes, &self.parts)));
         let built = Pair::build(geos, &self.row.bytes, &self.parts);
-        self.take(3, clock::best(|| built.relate()));
+        self.take(4, clock::best(|| built.relate()));
     }
 }
 
@@ -147,8 +148,8 @@ fn time(with_ours: bool) -> bool {
     for _ in 0..PASSES {
         rows.iter_mut().for_each(|timed| timed.pass(&geos, with_ours));
     }
-    for Timed { row, verdict, best: [cells, vectors, whole, relate], .. } in &rows {
-        println!("row {} {cells:.3} {vectors:.3} {whole:.3} {relate:.3} {verdict}", row.name());
+    for Timed { row, verdict, best: [cells, vectors, check, whole, relate], .. } in &rows {
+        println!("row {} {cells:.3} {vectors:.3} {check:.3} {whole:.3} {relate:.3} {verdict}", row.name());
     }
     true
 }
