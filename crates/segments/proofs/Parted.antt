@@ -112,10 +112,10 @@ not-less-at-most a b e = is-true (leZ b a) (not-false (leZ b a) (sym (ltZ-leZ a 
 
 -- ---- by the line of one of them
 
-left-line : (t : Segment) → sideAt t (grid (t .left)) ≡ pos 0
+pub left-line : (t : Segment) → sideAt t (grid (t .left)) ≡ pos 0
 left-line t = on-line t (grid (t .left)) (first-between (grid (t .left)) (grid (t .right)))
 
-right-line : (t : Segment) → sideAt t (grid (t .right)) ≡ pos 0
+pub right-line : (t : Segment) → sideAt t (grid (t .right)) ≡ pos 0
 right-line t = on-line t (grid (t .right)) (between-swap (first-between (grid (t .right)) (grid (t .left))))
 
 -- e is an end of t

@@ -16,11 +16,11 @@ use Rattle.plane.specs.Plane.{HPoint, grid, fractions, before, samePoint, order
 use Rattle.plane.proofs.Homogeneous.{side-grid}
 use Rattle.plane.proofs.OnSegment.{Ordered, slanting, upright, Along, right-of-left, above-left, left-of-right, below-right, on-line, on-along, not-before-read, not-after-read}
 use Rattle.plane.proofs.Scale.{fractions-pos}
-use Rattle.plane.proofs.Meeting.{between-swap}
 use Rattle.plane.proofs.Equal.{samePoint-read}
 use Rattle.plane.proofs.Means.{At, left-end, right-end, end-make}
-use Rattle.plane.proofs.Touch.{sideAt-mean, sides-differ, first-between, share-swap, touch-sound}
+use Rattle.plane.proofs.Touch.{sideAt-mean, sides-differ, share-swap, touch-sound}
 use Rattle.plane.proofs.Order.{ordered-make}
+use Rattle.segments.proofs.Parted.{left-line, right-line}
 use Rattle.strands.specs.Lower.{passesUnder, passesOver, lowerAtLeft, lowerAtRight}
 
 -- ---- a sum of two numbers with weights, not negative and not both zero, that is zero
@@ -95,12 +95,6 @@ module _ (s : Segment) (p : HPoint) (h : Along s p) where
       }
 
 -- ---- the side values of the ends, where s and t pass through p
-
-left-line : (s : Segment) → sideAt s (grid (s .left)) ≡ pos 0
-left-line s = on-line s (grid (s .left)) (first-between (grid (s .left)) (grid (s .right)))
-
-right-line : (s : Segment) → sideAt s (grid (s .right)) ≡ pos 0
-right-line s = on-line s (grid (s .right)) (between-swap (first-between (grid (s .right)) (grid (s .left))))
 
 weights : {s : Segment} (p : HPoint) → Pos (p .W) → (h : Along s p) → Pos (h .a +ℤ h .b)
 weights p w h =
