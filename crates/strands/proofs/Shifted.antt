@@ -2,7 +2,7 @@
 use Prim.Native.Nat.{ℕ, zero, suc, _+_, _-_, _<_, _≤_}
 use native.Mathlib.Nat.{zero-add, suc-add}
 use native.Mathlib.Omega.{arith}
-use mathlib.Core.Path.{_≡_, sym, ap, ap₂, subst, _∙_}
+use mathlib.Core.Path.{_≡_, refl, sym, ap, ap₂, subst, _∙_}
 use mathlib.Core.Logic.{_⊎_, inl, inr, ⊎-elim}
 use mathlib.Core.List.{List, [], _∷_, _++_, append-assoc}
 use lib.ListN.{length, take, drop, set, getD, length-append, length-drop, take-append-drop, List·getD-append}
@@ -115,6 +115,41 @@ module _ {A : Type 0} (d : A) (l : List A) where
 
         all : suc k + (n - 1 - k) ≡ n
         all = omega arith
+
+-- ---- the first entries alone: what stands above them does not matter
+
+module _ {A : Type 0} where
+  inserted-first : (k m n : ℕ) (a : A) (l : List A) → k ≤ m → m ≤ n → take (suc m) (inserted k a (take n l)) ≡ inserted k a (take m l)
+  inserted-first zero m n a l h r = ap (λ (x : List A). a ∷ x) (take-take m n l r)
+  inserted-first (suc k) zero n a l h r = absurd (omega arith)
+  inserted-first (suc k) (suc m) zero a l h r = absurd (omega arith)
+  inserted-first (suc k) (suc m) (suc n) a [] h r = refl
+  inserted-first (suc k) (suc m) (suc n) a (b ∷ l) h r = ap (λ (x : List A). b ∷ x) (inserted-first k m n a l (omega arith) (omega arith))
+
+  pub inserted-fewer : (k m n : ℕ) (a : A) (l : List A) → k ≤ m → m ≤ n → take (m + 1) (inserted k a (take n l)) ≡ inserted k a (take m l)
+  inserted-fewer k m n a l h r = ap (λ (x : ℕ). take x (inserted k a (take n l))) one ∙ inserted-first k m n a l h r
+    where
+      one : m + 1 ≡ suc m
+      one = omega arith
+
+  removed-first : (k m n : ℕ) (l : List A) → k ≤ m → m ≤ n → take m (removed k (take (suc n) l)) ≡ removed k (take (suc m) l)
+  removed-first k m n [] h r = ap (take m) (none k) ∙ take-nil m ∙ sym (none k)
+    where
+      none : (k : ℕ) → removed {A = A} k [] ≡ []
+      none zero = refl
+      none (suc k) = refl
+  removed-first zero m n (b ∷ l) h r = take-take m n l r
+  removed-first (suc k) zero n (b ∷ l) h r = absurd (omega arith)
+  removed-first (suc k) (suc m) zero (b ∷ l) h r = absurd (omega arith)
+  removed-first (suc k) (suc m) (suc n) (b ∷ l) h r = ap (λ (x : List A). b ∷ x) (removed-first k m n l (omega arith) (omega arith))
+
+  pub removed-fewer : (k m n : ℕ) (l : List A) → k < m → m ≤ n → take (m - 1) (removed k (take n l)) ≡ removed k (take m l)
+  removed-fewer k zero n l h r = absurd (omega arith)
+  removed-fewer k (suc m) zero l h r = absurd (omega arith)
+  removed-fewer k (suc m) (suc n) l h r = ap (λ (x : ℕ). take x (removed k (take (suc n) l))) less ∙ removed-first k m n l (omega arith) (omega arith)
+    where
+      less : suc m - 1 ≡ m
+      less = omega arith
 
 -- ---- what is among the entries
 

@@ -1,25 +1,35 @@
--- `status::insert` meets its contract. The loop's invariant: the entries from `i` on have moved up. The measure is the place `i`.
-use Prim.Native.Nat.{ℕ, _+_, _-_, _≤_}
+-- `status::insert` meets its contract. The loop's invariant: the entries from `i` to the block's end have moved up. The measure is the place `i`.
+use Prim.Native.Nat.{ℕ, suc, _+_, _-_, _<_, _≤_}
 use native.Mathlib.Omega.{arith}
-use mathlib.Core.Path.{_≡_, refl, ap, _∙_}
+use mathlib.Core.Path.{_≡_, refl, sym, ap, _∙_}
 use mathlib.Core.List.{List}
+use borrow.Author.Needs.{needs}
 use lib.ListN.{length, take, set, getD, length-set}
-use Rattle.strands.proofs.Shifted.{raised, raised-none, raised-more, raised-inserted}
+use lib.Seq.{take-take}
+use Rattle.strands.specs.Status.{inserted}
+use Rattle.strands.proofs.Shifted.{raised, raised-none, raised-more, raised-inserted, inserted-fewer}
 use Rattle.status.proofs.insert.Statement.{statement}
 use Rattle.status.proofs.insert.Tie as tie
 
 abbrev Inv-loop : tie.InvT-loop
-Inv-loop status₀ n k at i₀ status i = (k ≤ i) × (i ≤ n) × (length status ≡ length status₀) × (status ≡ raised 0 status₀ n i)
+Inv-loop status₀ n k at end status i = (k ≤ i) × (i ≤ end) × (n ≤ end) × (end < length status₀) × (length status ≡ length status₀) × (status ≡ raised 0 status₀ end i)
 
 abbrev μ-loop : tie.MeasureT-loop
-μ-loop status₀ n k at i₀ status i = i
+μ-loop status₀ n k at end status i = i
 
 -- at the end
-last : (c : tie.After-loop Inv-loop μ-loop) → c .before .loop .i ≡ c .before .before .args .k
+last : (c : tie.After-loop Inv-loop μ-loop) → c .before .loop .i ≡ c .before .before .before .before .args .k
 last c = omega arith
 
+block-end-requires : tie.Need-block-end-requires Inv-loop μ-loop
+block-end-requires c κs = search needs
+
 loop-holds : tie.Need-loop-holds Inv-loop μ-loop
-loop-holds c = (c .pre .0, omega arith, refl, raised-none 0 (c .args .status .now) (c .args .n) (c .pre .1))
+loop-holds c =
+    let z = c .before .before in
+    let end = c .block-end .result in
+    let room : end < length (z .args .status .now) = c .block-end .ensures .1 in
+    (omega (arith, z .pre .0, c .block-end .ensures .0), omega arith, c .block-end .ensures .0, room, refl, raised-none 0 (z .args .status .now) end room)
 
 sub-status : tie.Need-sub-status Inv-loop μ-loop
 sub-status c = omega arith
@@ -45,12 +55,15 @@ loop-less c = omega arith
 loop-again : tie.Need-loop-again Inv-loop μ-loop
 loop-again c =
     let d = c .before .before in
-    let z = d .before in (
+    let i = d .loop .inv in
+    let end = d .before .block-end .result in (
       omega arith,
       omega arith,
-      simp length-set (d .loop .inv .2),
-      ap (λ (l : List ℕ). set l (d .loop .i) (getD l (d .loop .i - 1) 0)) (d .loop .inv .3)
-          ∙ raised-more 0 (z .args .status .now) (z .args .n) (z .pre .1) (d .loop .i) (omega arith) (d .loop .inv .1),
+      i .2,
+      i .3,
+      simp length-set (i .4),
+      ap (λ (l : List ℕ). set l (d .loop .i) (getD l (d .loop .i - 1) 0)) (i .5)
+          ∙ raised-more 0 (d .before .before .before .args .status .now) end (i .3) (d .loop .i) (omega arith) (i .1),
     )
 
 mul-status-3 : tie.Need-mul-status-3 Inv-loop μ-loop
@@ -60,15 +73,21 @@ slice-write-status-2 : tie.Need-slice-write-status-2 Inv-loop μ-loop
 slice-write-status-2 c = omega arith
 
 same-length : tie.Need-same-length Inv-loop μ-loop
-same-length c = simp length-set (c .before .loop .inv .2)
+same-length c = simp length-set (c .before .loop .inv .4)
 
 returns : tie.Need-returns Inv-loop μ-loop
 returns c =
     let d = c .before in
-    let z = d .before in (
-      simp length-set (d .loop .inv .2),
-      ap (λ (l : List ℕ). take (z .args .n + 1) (set l (z .args .k) (z .args .at))) (d .loop .inv .3 ∙ ap (raised 0 (z .args .status .now) (z .args .n)) (last c))
-          ∙ raised-inserted 0 (z .args .status .now) (z .args .n) (z .pre .1) (z .args .k) (z .pre .0) (z .args .at),
+    let a = d .before .before .before .args in
+    let i = d .loop .inv in
+    let end = d .before .block-end .result in
+    let moved : List ℕ = set (d .loop .status) (a .k) (a .at) in (
+      simp length-set (i .4),
+      sym (take-take (a .n + 1) (end + 1) moved (omega (arith, i .2)))
+          ∙ ap (take (a .n + 1))
+          (ap (λ (l : List ℕ). take (end + 1) (set l (a .k) (a .at))) (i .5 ∙ ap (raised 0 (a .status .now) end) (last c))
+          ∙ raised-inserted 0 (a .status .now) end (i .3) (a .k) (omega (arith, last c, i .1)) (a .at))
+          ∙ inserted-fewer (a .k) (a .n) end (a .at) (a .status .now) (d .before .before .before .pre .0) (i .2),
     )
 
 pub insert-spec : {M : Type 1} → statement M
@@ -77,6 +96,7 @@ insert-spec =
     (tie.spec
     Inv-loop
     μ-loop
+    block-end-requires
     loop-holds
     sub-status
     mul-status

@@ -1,29 +1,38 @@
 -- `status::remove` meets its contract. The loop's invariant: the entries above `k` have moved down as far as the place `i`. The measure is the
--- number of entries that are left.
-use Prim.Native.Nat.{ℕ, _+_, _-_, _≤_}
+-- number of entries that are left up to the block's end.
+use Prim.Native.Nat.{ℕ, _+_, _-_, _<_, _≤_}
 use native.Mathlib.Omega.{arith}
-use mathlib.Core.Path.{_≡_, refl, ap, _∙_}
+use mathlib.Core.Path.{_≡_, refl, sym, ap, subst, _∙_}
 use mathlib.Core.List.{List}
+use borrow.Author.Needs.{needs}
 use lib.ListN.{length, take, set, getD, length-set}
-use Rattle.strands.proofs.Shifted.{lowered, lowered-none, lowered-more, lowered-removed}
+use lib.Seq.{take-take}
+use Rattle.strands.specs.Status.{removed}
+use Rattle.strands.proofs.Shifted.{lowered, lowered-none, lowered-more, lowered-removed, removed-fewer}
 use Rattle.status.proofs.remove.Statement.{statement}
 use Rattle.status.proofs.remove.Tie as tie
 
 abbrev Inv-loop : tie.InvT-loop
-Inv-loop status₀ n k last i₀ status i = (k ≤ i) × (i ≤ last) × (length status ≡ length status₀) × (status ≡ lowered 0 status₀ k i)
+Inv-loop status₀ n k last i₀ status i =
+    (k ≤ i) × (i ≤ last) × (n ≤ last + 1) × (last < length status₀) × (length status ≡ length status₀) × (status ≡ lowered 0 status₀ k i)
 
 abbrev μ-loop : tie.MeasureT-loop
 μ-loop status₀ n k last i₀ status i = last - i
 
 -- at the end
-last : (c : tie.After-loop Inv-loop μ-loop) → c .before .loop .i ≡ c .before .before .args .n - 1
-last c = omega arith
+done : (c : tie.After-loop Inv-loop μ-loop) → c .before .loop .i ≡ c .before .before .block-end .result
+done c = omega arith
 
-sub-last : tie.Need-sub-last Inv-loop μ-loop
-sub-last c = omega arith
+sub-block-end : tie.Need-sub-block-end Inv-loop μ-loop
+sub-block-end c = omega arith
+
+block-end-requires : tie.Need-block-end-requires Inv-loop μ-loop
+block-end-requires c κs = search needs
 
 loop-holds : tie.Need-loop-holds Inv-loop μ-loop
-loop-holds c = (omega arith, omega arith, refl, lowered-none 0 (c .args .status .now) (c .args .k))
+loop-holds c =
+    let z = c .before .before in
+    (omega arith, omega (arith, c .block-end .ensures .0), omega (arith, c .block-end .ensures .0), c .block-end .ensures .1, refl, lowered-none 0 (z .args .status .now) (z .args .k))
 
 add-status : tie.Need-add-status Inv-loop μ-loop
 add-status c = omega arith
@@ -49,24 +58,35 @@ loop-less c = omega arith
 loop-again : tie.Need-loop-again Inv-loop μ-loop
 loop-again c =
     let d = c .before .before in
-    let z = d .before in (
+    let i = d .loop .inv in
+    let z = d .before .before .before in (
       omega arith,
       omega arith,
-      simp length-set (d .loop .inv .2),
-      ap (λ (l : List ℕ). set l (d .loop .i) (getD l (d .loop .i + 1) 0)) (d .loop .inv .3)
-          ∙ lowered-more 0 (z .args .status .now) (z .args .k) (d .loop .i) (d .loop .inv .0) (omega arith),
+      i .2,
+      i .3,
+      simp length-set (i .4),
+      ap (λ (l : List ℕ). set l (d .loop .i) (getD l (d .loop .i + 1) 0)) (i .5)
+          ∙ lowered-more 0 (z .args .status .now) (z .args .k) (d .loop .i) (i .0) (omega arith),
     )
 
 same-length : tie.Need-same-length Inv-loop μ-loop
-same-length c = c .before .loop .inv .2
+same-length c = c .before .loop .inv .4
 
 returns : tie.Need-returns Inv-loop μ-loop
 returns c =
     let d = c .before in
-    let z = d .before in (
-      d .loop .inv .2,
-      ap (take (z .args .n - 1)) (d .loop .inv .3 ∙ ap (lowered 0 (z .args .status .now) (z .args .k)) (last c))
-          ∙ lowered-removed 0 (z .args .status .now) (z .args .k) (z .args .n) (z .pre .0) (z .pre .1),
+    let z = d .before .before .before in
+    let a = z .args in
+    let i = d .loop .inv in
+    let last = d .before .block-end .result in
+    let less : last + 1 - 1 ≡ last = omega arith in (
+      i .4,
+      sym (take-take (a .n - 1) last (d .loop .status) (omega (arith, i .2)))
+          ∙ ap (take (a .n - 1))
+          (ap (take last) (i .5 ∙ ap (lowered 0 (a .status .now) (a .k)) (done c))
+          ∙ subst (λ (m : ℕ). take m (lowered 0 (a .status .now) (a .k) m) ≡ removed (a .k) (take (last + 1) (a .status .now))) less
+          (lowered-removed 0 (a .status .now) (a .k) (last + 1) (omega (arith, z .pre .0, i .2)) (omega (arith, i .3))))
+          ∙ removed-fewer (a .k) (a .n) (last + 1) (a .status .now) (z .pre .0) (i .2),
     )
 
 pub remove-spec : {M : Type 1} → statement M
@@ -75,7 +95,8 @@ remove-spec =
     (tie.spec
     Inv-loop
     μ-loop
-    sub-last
+    sub-block-end
+    block-end-requires
     loop-holds
     add-status
     mul-status
