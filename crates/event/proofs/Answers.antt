@@ -4,8 +4,8 @@ use native.Mathlib.Omega.{arith}
 use mathlib.Core.Path.{_≡_}
 use Rattle.event.specs.declared.Step.the-variants.{On, Stop}
 
-pub not-on : {m v : ℕ} → Stop ≡ On m v → ⊥
+pub not-on : {m v h : ℕ} → Stop ≡ On m v h → ⊥
 not-on e = let z : _≡_ {A = ℕ} 0 1 = cc in omega arith
 
-pub same-on : {m n v w : ℕ} → On m v ≡ On n w → (m ≡ n) × (v ≡ w)
+pub same-on : {m n v w h k : ℕ} → On m v h ≡ On n w k → (m ≡ n) × (v ≡ w)
 same-on e = (cc, cc)

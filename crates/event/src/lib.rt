@@ -16,11 +16,14 @@ ghost use Rattle.scene.specs.Conditions.{isRegion};
 ghost use Rattle.strands.specs.Swept.{objectOf, strandOf, isFirst, strandAt, Began, Ended, Entry};
 ghost use Rattle.strands.specs.Ready.{Ready};
 
-// The number of entries that are now in use, and the note of the element; or the sweep gives up.
+// The number of entries that are now in use, the note of the element, and a place where the next event may well be; or the sweep gives up.
 pub enum Step {
-    On(usize, u8),
+    On(usize, u8, usize),
     Stop,
 }
+
+// With fewer entries than these, a search costs no more than a look at two places.
+const FEW: usize = 32;
 
 // ---- a segment begins
 
@@ -71,15 +74,27 @@ fn other_note(k: usize, own: bool) -> u8
 }
 
 // The left halfsegment at an offset.
-pub fn begin(s: &[u8], scene: Scene, first: bool, at: usize, status: &mut [u16], n: usize) -> Step
+pub fn begin(
+    s: &[u8],
+    scene: Scene,
+    first: bool,
+    at: usize,
+    status: &mut [u16],
+    n: usize,
+    hint: usize,
+) -> Step
     requires { ⌜ Ready (now s) scene first at (now status) n ⌝ }
-    ensures { λ r. ⌜ (length (now (status .exit)) ≡ length (now (status .entry))) × ((m v : ℕ) → r ≡ Step.On m v → (m ≡ n + 1) × (m ≤ length (now (status .exit))) × Began (now (s .entry)) scene first at (take n (now (status .entry))) (take m (now (status .exit))) v) ⌝ }
+    ensures { λ r. ⌜ (length (now (status .exit)) ≡ length (now (status .entry))) × ((m v h : ℕ) → r ≡ Step.On m v h → (m ≡ n + 1) × (m ≤ length (now (status .exit))) × Began (now (s .entry)) scene first at (take n (now (status .entry))) (take m (now (status .exit))) v) ⌝ }
 {
     if n == status.len() {
         return Step::Stop;
     }
     let t = bytes::segment(s, at);
-    let k = place::first_over(s, t.left, status, n);
+    let k = if n < FEW {
+        place::first_over(s, t.left, status, n)
+    } else {
+        place::near(s, t.left, status, n, hint)
+    };
     if !place::fits_over(s, scene, first, at, status, k) {
         return Step::Stop;
     }
@@ -92,7 +107,7 @@ pub fn begin(s: &[u8], scene: Scene, first: bool, at: usize, status: &mut [u16],
         return Step::Stop;
     }
     status::insert(status, n, k, at as u16);
-    Step::On(n + 1, other_note(k, own))
+    Step::On(n + 1, other_note(k, own), k + 1)
 }
 
 // ---- a segment ends
@@ -144,13 +159,18 @@ pub fn end(
     at: usize,
     status: &mut [u16],
     n: usize,
+    hint: usize,
     notes: &[u8],
 ) -> Step
     requires { ⌜ Ready (now s) scene first at (now status) n × (2048 ≤ length (now notes)) ⌝ }
-    ensures { λ r. ⌜ (length (now (status .exit)) ≡ length (now (status .entry))) × ((m v : ℕ) → r ≡ Step.On m v → (m + 1 ≡ n) × Ended (now (s .entry)) scene first at (now (notes .entry)) (take n (now (status .entry))) (take m (now (status .exit))) v) ⌝ }
+    ensures { λ r. ⌜ (length (now (status .exit)) ≡ length (now (status .entry))) × ((m v h : ℕ) → r ≡ Step.On m v h → (m + 1 ≡ n) × Ended (now (s .entry)) scene first at (now (notes .entry)) (take n (now (status .entry))) (take m (now (status .exit))) v) ⌝ }
 {
     let t = bytes::segment(s, at);
-    let top = place::first_over(s, t.right, status, n);
+    let top = if n < FEW {
+        place::first_over(s, t.right, status, n)
+    } else {
+        place::near(s, t.right, status, n, hint)
+    };
     let k = own_below(s, scene, first, at, status, top);
     if k == top {
         return Step::Stop;
@@ -161,5 +181,5 @@ pub fn end(
     let e = place::wide(status[k]);
     let v = note::note_at(scene, first, notes, e);
     status::remove(status, n, k);
-    Step::On(n - 1, v)
+    Step::On(n - 1, v, k)
 }

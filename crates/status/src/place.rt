@@ -99,6 +99,41 @@ pub fn first_over(s: &[u8], p: Point, status: &[u16], n: usize) -> usize
     high
 }
 
+// Is k a place for p: the entry just below it does not pass over p, and the one there does?
+fn is_place(s: &[u8], p: Point, status: &[u16], n: usize, k: usize) -> bool
+    requires { ⌜ T (inRange p) × Readable (now s) (now status) n ⌝ }
+    ensures { λ r. ⌜ (T r → (k ≤ n) × (k < n → T (passesOver (segmentAt (now (s .entry)) (getD (now (status .entry)) k 0)) p))) ⌝ }
+{
+    if n < k {
+        return false;
+    }
+    if 0 < k {
+        if is_over(segment_of(s, status, k - 1), p) {
+            return false;
+        }
+    }
+    if k == n {
+        return true;
+    }
+    is_over(segment_of(s, status, k), p)
+}
+
+// The same as `first_over`, from a place where the entry may well be, as that of the event before at the same point, or just above it.
+pub fn near(s: &[u8], p: Point, status: &[u16], n: usize, hint: usize) -> usize
+    requires { ⌜ T (inRange p) × Readable (now s) (now status) n ⌝ }
+    ensures { λ r. ⌜ (r ≤ n) × (r < n → T (passesOver (segmentAt (now (s .entry)) (getD (now (status .entry)) r 0)) p)) ⌝ }
+{
+    if is_place(s, p, status, n, hint) {
+        return hint;
+    }
+    if hint < n {
+        if is_place(s, p, status, n, hint + 1) {
+            return hint + 1;
+        }
+    }
+    first_over(s, p, status, n)
+}
+
 // Does the entry just below place k belong under the segment that begins, and is it the lower of the two at the right?
 pub fn fits_over(s: &[u8], scene: Scene, first: bool, at: usize, status: &[u16], k: usize) -> bool
     requires { ⌜ GoodHalfsegment (now s) at × Readable (now s) (now status) k ⌝ }

@@ -65,17 +65,18 @@ fn take_event(
     k: usize,
     status: &mut [u16],
     n: usize,
+    hint: usize,
     notes: &[u8],
 ) -> Step
     requires { ⌜ IsScene (now s) scene × (k < total (now s) scene first) × (n ≤ length (now status)) × ((e : ℕ) → e ∈ take n (now status) → Entry (now s) scene e) × (2048 ≤ length (now notes)) ⌝ }
-    ensures { λ r. ⌜ (length (now (status .exit)) ≡ length (now (status .entry))) × ((m v : ℕ) → r ≡ Step.On m v → (m ≤ length (now (status .exit))) × Taken (now (s .entry)) scene first k (now (notes .entry)) (take n (now (status .entry))) (take m (now (status .exit))) v) ⌝ }
+    ensures { λ r. ⌜ (length (now (status .exit)) ≡ length (now (status .entry))) × ((m v h : ℕ) → r ≡ Step.On m v h → (m ≤ length (now (status .exit))) × Taken (now (s .entry)) scene first k (now (notes .entry)) (take n (now (status .entry))) (take m (now (status .exit))) v) ⌝ }
 {
     let l = if first { scene.f } else { scene.g };
     let at = records::place(l, k);
     if s[at + 17] == 1 {
-        event::begin(s, scene, first, at, status, n)
+        event::begin(s, scene, first, at, status, n, hint)
     } else {
-        event::end(s, scene, first, at, status, n, notes)
+        event::end(s, scene, first, at, status, n, hint, notes)
     }
 }
 
@@ -90,13 +91,15 @@ fn run_events(s: &[u8], scene: Scene, status: &mut [u16], notes: &mut [u8]) -> b
     let mut i: usize = 0;
     let mut j: usize = 0;
     let mut n: usize = 0;
+    let mut hint: usize = 0;
     while i + j < all {
         let first = takes_first(s, scene, i, j);
         let k = next_of(first, i, j);
-        let Step::On(m, v) = take_event(s, scene, first, k, status, n, notes) else {
+        let Step::On(m, v, h) = take_event(s, scene, first, k, status, n, hint, notes) else {
             return false;
         };
         n = m;
+        hint = h;
         notes[note::slot(first, k)] = v;
         i += first as usize;
         j += !first as usize;

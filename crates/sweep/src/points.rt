@@ -102,12 +102,14 @@ pub fn run_points(s: &[u8], scene: Scene, status: &mut [u16], notes: &mut [u8]) 
     let mut i: usize = 0;
     let mut j: usize = 0;
     let mut n: usize = 0;
+    let mut hint: usize = 0;
     while j < all {
         i = note_points(s, scene, i, j, status, n, notes);
-        let Step::On(m, v) = crate::take_event(s, scene, false, j, status, n, notes) else {
+        let Step::On(m, v, h) = crate::take_event(s, scene, false, j, status, n, hint, notes) else {
             return false;
         };
         n = m;
+        hint = h;
         notes[1024 + j] = v;
         j += 1;
     }

@@ -5,6 +5,7 @@ use mir.Syntax.{w64}
 use mir.Val.{Fits}
 use mathlib.Core.Path.{_≡_, refl, sym, ap, subst, _∙_}
 use mathlib.Core.Bool.{Bool, not, Bool·beq}
+use mathlib.Core.Logic.{⊎-elim}
 use mathlib.Core.List.{List}
 use borrow.Author.Needs.{needs}
 use borrow.Author.Tests.{not-false}
@@ -14,10 +15,12 @@ use lib.Seq.{length-take-le, take-take, getD-take}
 use Rattle.whole.specs.Count.{bit, odd, count}
 use Rattle.whole.proofs.Logic.{is-true}
 use Rattle.plane.specs.declared.Segment.{Segment}
+use Rattle.plane.specs.Plane.{inRange}
 use Rattle.plane.proofs.Machine.{left-in-range}
 use Rattle.scene.specs.Read.{segmentAt}
 use Rattle.scene.proofs.Given.{GoodHalfsegment}
 use Rattle.strands.specs.Lower.{passesOver, lowerAtRight}
+use Rattle.strands.specs.Ready.{Readable}
 use Rattle.strands.specs.Swept.{underBeginning, strandOf, strandAt, isFirst, Began}
 use Rattle.strands.proofs.Entries.{entry-readable, entry-small, start-small, in-range-at, ready-readable, ready-fewer, own-and-other}
 use Rattle.event.proofs.Answers.{not-on, same-on}
@@ -28,35 +31,52 @@ use Rattle.event.proofs.begin.Tie as tie
 fits : (c : tie.Else1) → Fits w64 (c .before .before .before .args .n + 1)
 fits c = search needs
 
--- the place was found
-module _ (c : tie.After-first-over) where
+-- the segment was read
+module _ (c : tie.After-segment) where
+  abbrev y : tie.Start
+  y = c .before .before .before .before
+
+  asked : T (inRange (c .segment .result .left)) × Readable (y .args .s .now) (y .args .status .now) (y .args .n)
+  asked = (
+    left-in-range (c .segment .result) (in-range-at (entry-readable (y .args .s .now) (y .args .scene) (y .pre .scene) (y .pre .event)) (c .segment .ensures)),
+    ready-readable (y .pre),
+  )
+
+-- the place was found, by one search or the other
+module _ (c : tie.Joined2) where
   abbrev z : tie.Start
-  z = c .before .before .before .before .before .before
+  z = y (c .before)
 
   abbrev k : ℕ
-  k = c .first-over .result
+  k = c .if2 .k
 
   event : GoodHalfsegment (z .args .s .now) (z .args .at)
   event = entry-readable (z .args .s .now) (z .args .scene) (z .pre .scene) (z .pre .event)
+
+  abbrev IsPlace : ℕ → Type 0
+  IsPlace m = (m ≤ z .args .n) × (m < z .args .n → T (passesOver (segmentAt (z .args .s .now) (getD (z .args .status .now) m 0)) (c .before .segment .result .left)))
+
+  is-place : IsPlace k
+  is-place = ⊎-elim (λ w. subst IsPlace (sym (w .3)) (w .2 .ensures)) (λ w. subst IsPlace (sym (w .3)) (w .2 .ensures)) (c .if2 .came)
 
 -- the segment has begun
 module _ (c : tie.After-other-note) where
   abbrev put : tie.After-insert
   put = c .before .before .before
 
-  abbrev ia : tie.Else4
+  abbrev ia : tie.Else5
   ia = put .before .before
 
   abbrev counted : tie.After-has-odd-own
   counted = ia .before .before
 
-  abbrev upper : tie.Else3
+  abbrev upper : tie.Else4
   upper = counted .before .before .before .before
 
-  abbrev lower : tie.Else2
+  abbrev lower : tie.Else3
   lower = upper .before .before .before
 
-  abbrev found : tie.After-first-over
+  abbrev found : tie.Joined2
   found = lower .before .before .before
 
   abbrev a : tie.Start
@@ -72,10 +92,10 @@ module _ (c : tie.After-other-note) where
   old = take (a .args .n) status
 
   place : k found ≤ a .args .n
-  place = found .first-over .ensures .0
+  place = is-place found .0
 
   room : a .args .n < length status
-  room = omega (arith, a .pre .room, found .before .before .before .if1 .left)
+  room = omega (arith, a .pre .room, found .before .before .if1 .left)
 
   size : length old ≡ a .args .n
   size = length-take-le (a .args .n) status (a .pre .room)
@@ -86,7 +106,7 @@ module _ (c : tie.After-other-note) where
 
   below : (i : ℕ) → suc i ≡ k found
       → T (underBeginning (strandOf s (a .args .scene) (a .args .first) (a .args .at)) (strandAt s (a .args .scene) (getD status i 0))) × T (lowerAtRight (segmentAt s (getD status i 0)) (segmentAt s (a .args .at)))
-  below = lower .before .fits-over .ensures (is-true _ (not-false (lower .before .fits-over .result) (lower .if2 .left)))
+  below = lower .before .fits-over .ensures (is-true _ (not-false (lower .before .fits-over .result) (lower .if3 .left)))
 
   -- the entries of an object below it
   abbrev of : Bool → List ℕ → ℕ
@@ -112,37 +132,37 @@ module _ (c : tie.After-other-note) where
         under-it = λ i e. old-entry (λ (m : ℕ). T (underBeginning (strandOf s sc first at) (strandAt s sc m))) i (omega (arith, place)) (below i e .0);
         over-it = λ h. let b : k found < a .args .n = omega (arith, size) in
             old-entry (λ (m : ℕ). T (passesOver (segmentAt s m) (segmentAt s at .left))) (k found) b
-            (subst (λ (t : Segment). T (passesOver (segmentAt s (getD status (k found) 0)) (t .left))) (found .before .before .segment .ensures) (found .first-over .ensures .1 b));
+            (subst (λ (t : Segment). T (passesOver (segmentAt s (getD status (k found) 0)) (t .left))) (found .before .segment .ensures) (is-place found .1 b));
         lower-next = λ i e. old-entry (λ (m : ℕ). T (lowerAtRight (segmentAt s m) (segmentAt s at))) i (omega (arith, place)) (below i e .1);
         upper-next = λ h. let b : k found < a .args .n = omega (arith, size) in
             old-entry (λ (m : ℕ). T (lowerAtRight (segmentAt s at) (segmentAt s m))) (k found) b
-            (upper .before .fits-under .ensures (is-true _ (not-false (upper .before .fits-under .result) (upper .if3 .left))) b);
-        right-ia = λ region. ap odd (first-entries first) ∙ sym (counted .has-odd-own .ensures) ∙ ia .before .has-right-ia .ensures (is-true _ (not-false (ia .before .has-right-ia .result) (ia .if4 .left))) region;
+            (upper .before .fits-under .ensures (is-true _ (not-false (upper .before .fits-under .result) (upper .if4 .left))) b);
+        right-ia = λ region. ap odd (first-entries first) ∙ sym (counted .has-odd-own .ensures) ∙ ia .before .has-right-ia .ensures (is-true _ (not-false (ia .before .has-right-ia .result) (ia .if5 .left))) region;
         noted = c .other-note .ensures (of first (take (k found) status)) (of (not first) (take (k found) status)) all (counted .has-odd-own .ensures) ∙ ap (λ (m : ℕ). bit (odd m)) (sym (first-entries (not first)));
       }
 
 returns : tie.Need-returns
-returns c = (refl, λ m v e. absurd (not-on e))
+returns c = (refl, λ m v h e. absurd (not-on e))
 
 segment-requires : tie.Need-segment-requires
 segment-requires c κs = let z = c .before .before .before in entry-readable (z .args .s .now) (z .args .scene) (z .pre .scene) (z .pre .event) .there
 
 first-over-requires : tie.Need-first-over-requires
-first-over-requires c κs =
-    let z = c .before .before .before .before .before in
-    let u = c .before .segment in
-    (left-in-range (u .result) (in-range-at (entry-readable (z .args .s .now) (z .args .scene) (z .pre .scene) (z .pre .event)) (u .ensures)), ready-readable (z .pre))
+first-over-requires c κs = asked (c .before .before)
+
+near-requires : tie.Need-near-requires
+near-requires c κs = asked (c .before .before)
 
 fits-over-requires : tie.Need-fits-over-requires
 fits-over-requires c κs =
     let d = c .before in
-    (event d, ready-readable (ready-fewer (z d .pre) (k d) (d .first-over .ensures .0)))
+    (event d, ready-readable (ready-fewer (z d .pre) (k d) (is-place d .0)))
 
 same-length : tie.Need-same-length
 same-length c = search needs
 
 returns-2 : tie.Need-returns-2
-returns-2 c = (refl, λ m v e. absurd (not-on e))
+returns-2 c = (refl, λ m v h e. absurd (not-on e))
 
 fits-under-requires : tie.Need-fits-under-requires
 fits-under-requires c κs =
@@ -153,7 +173,7 @@ same-length-2 : tie.Need-same-length-2
 same-length-2 c = search needs
 
 returns-3 : tie.Need-returns-3
-returns-3 c = (refl, λ m v e. absurd (not-on e))
+returns-3 c = (refl, λ m v h e. absurd (not-on e))
 
 cast-has-odd-own : tie.Need-cast-has-odd-own
 cast-has-odd-own c =
@@ -161,7 +181,9 @@ cast-has-odd-own c =
     omega (arith, start-small (z .args .s .now) (z .args .scene) (z .pre .scene))
 
 has-odd-own-requires : tie.Need-has-odd-own-requires
-has-odd-own-requires c κs = search needs
+has-odd-own-requires c κs =
+    let d = c .before .before .before .before .before .before .before .before .before in
+    omega (arith, is-place d .0, z d .pre .room)
 
 has-right-ia-requires : tie.Need-has-right-ia-requires
 has-right-ia-requires c κs = search needs
@@ -170,7 +192,7 @@ same-length-3 : tie.Need-same-length-3
 same-length-3 c = search needs
 
 returns-4 : tie.Need-returns-4
-returns-4 c = (refl, λ m v e. absurd (not-on e))
+returns-4 c = (refl, λ m v h e. absurd (not-on e))
 
 cast-insert : tie.Need-cast-insert
 cast-insert c =
@@ -178,26 +200,34 @@ cast-insert c =
     omega (arith, entry-small (z .args .s .now) (z .args .scene) (z .pre .scene) (z .pre .event))
 
 insert-requires : tie.Need-insert-requires
-insert-requires c κs = search needs
+insert-requires c κs =
+    let d = c .before .before .before .before .before .before .before .before .before .before .before .before .before in
+    (is-place d .0, omega (arith, z d .pre .room, d .before .before .if1 .left))
 
-add-t11 : tie.Need-add-t11
-add-t11 c = fits (c .before .before .before .before .before .before .before .before .before .before .before .before .before .before .before .before .before .before .before)
+add-t12 : tie.Need-add-t12
+add-t12 c = fits (c .before .before .before .before .before .before .before .before .before .before .before .before .before .before .before .before .before .before)
 
 other-note-requires : tie.Need-other-note-requires
 other-note-requires c κs = search needs
+
+add-t31 : tie.Need-add-t31
+add-t31 c =
+    let d = found (c .before) in
+    omega (arith, is-place d .0, fits (d .before .before))
 
 same-length-4 : tie.Need-same-length-4
 same-length-4 c = search needs
 
 returns-5 : tie.Need-returns-5
 returns-5 c =
-    let i = put c in
-    let x = a c .args in (
+    let o = c .before in
+    let i = put o in
+    let x = a o .args in (
       i .insert .ensures .0,
-      λ m v e.
+      λ m v h e.
           subst (λ (v : ℕ). (m ≡ x .n + 1) × (m ≤ length (i .insert .last .0)) × Began (x .s .now) (x .scene) (x .first) (x .at) (take (x .n) (x .status .now)) (take m (i .insert .last .0)) v) (same-on e .1)
-          (subst (λ (m : ℕ). (m ≡ x .n + 1) × (m ≤ length (i .insert .last .0)) × Began (x .s .now) (x .scene) (x .first) (x .at) (take (x .n) (x .status .now)) (take m (i .insert .last .0)) (c .other-note .result))
-          (same-on e .0) (refl, omega (arith, i .insert .ensures .0, room c), began c)),
+          (subst (λ (m : ℕ). (m ≡ x .n + 1) × (m ≤ length (i .insert .last .0)) × Began (x .s .now) (x .scene) (x .first) (x .at) (take (x .n) (x .status .now)) (take m (i .insert .last .0)) (o .other-note .result))
+          (same-on e .0) (refl, omega (arith, i .insert .ensures .0, room o), began o)),
     )
 
 pub begin-spec : {M : Type 1} → statement M
@@ -207,6 +237,7 @@ begin-spec =
     returns
     segment-requires
     first-over-requires
+    near-requires
     fits-over-requires
     same-length
     returns-2
@@ -220,7 +251,8 @@ begin-spec =
     returns-4
     cast-insert
     insert-requires
-    add-t11
+    add-t12
     other-note-requires
+    add-t31
     same-length-4
     returns-5)

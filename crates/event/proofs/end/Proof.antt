@@ -1,8 +1,9 @@
 -- `event::end` meets its contract: what was tested of the entries above its own and of the neighbours that meet, and the entry's element is
 -- of the same object.
-use Prim.Native.Nat.{ℕ, suc, _+_, _-_, _<_}
+use Prim.Native.Nat.{ℕ, suc, _+_, _-_, _<_, _≤_}
 use native.Mathlib.Omega.{arith}
 use mathlib.Core.Path.{_≡_, refl, sym, ap, subst, _∙_}
+use mathlib.Core.Logic.{⊎-elim}
 use mathlib.Core.List.{List}
 use borrow.Author.Needs.{needs}
 use borrow.Author.Tests.{not-false}
@@ -11,39 +12,62 @@ use lib.ListN.{length, getD, take}
 use lib.Seq.{length-take-le, getD-take}
 use Rattle.whole.proofs.Logic.{is-true}
 use Rattle.plane.specs.declared.Segment.{Segment}
+use Rattle.plane.specs.Plane.{inRange}
 use Rattle.plane.proofs.Machine.{right-in-range}
 use Rattle.scene.specs.Read.{segmentAt}
 use Rattle.strands.specs.Lower.{passesOver, lowerAtRight}
 use Rattle.strands.specs.Kept.{Strand}
 use Rattle.strands.specs.Swept.{objectOf, strandOf, strandAt, Ended}
-use Rattle.strands.specs.Ready.{Placed}
+use Rattle.strands.specs.Ready.{Readable, Placed}
 use Rattle.strands.proofs.Entries.{entry-readable, entry-placed, in-range-at, ready-readable, ready-entry, ready-fewer}
 use Rattle.event.proofs.Answers.{not-on, same-on}
 use Rattle.event.proofs.end.Statement.{statement}
 use Rattle.event.proofs.end.Tie as tie
 
+-- the segment was read
+module _ (c : tie.After-segment) where
+  abbrev y : tie.Start
+  y = c .before .before .before .before
+
+  asked : T (inRange (c .segment .result .right)) × Readable (y .args .s .now) (y .args .status .now) (y .args .n)
+  asked = (
+    right-in-range (c .segment .result) (in-range-at (entry-readable (y .args .s .now) (y .args .scene) (y .pre .0 .scene) (y .pre .0 .event)) (c .segment .ensures)),
+    ready-readable (y .pre .0),
+  )
+
+-- the place over its end was found, by one search or the other
+module _ (c : tie.Joined1) where
+  abbrev x : tie.Start
+  x = y (c .before)
+
+  abbrev IsPlace : ℕ → Type 0
+  IsPlace m = (m ≤ x .args .n) × (m < x .args .n → T (passesOver (segmentAt (x .args .s .now) (getD (x .args .status .now) m 0)) (c .before .segment .result .right)))
+
+  is-place : IsPlace (c .if1 .top)
+  is-place = ⊎-elim (λ w. subst IsPlace (sym (w .3)) (w .2 .ensures)) (λ w. subst IsPlace (sym (w .3)) (w .2 .ensures)) (c .if1 .came)
+
 -- its own entry was found
-module _ (c : tie.Else1) where
+module _ (c : tie.Else2) where
   abbrev found : tie.After-own-below
   found = c .before
 
-  abbrev over : tie.After-first-over
+  abbrev over : tie.Joined1
   over = found .before .before
 
   abbrev z : tie.Start
-  z = over .before .before .before .before .before .before
+  z = x over
 
   abbrev k : ℕ
   k = found .own-below .result
 
   abbrev top : ℕ
-  top = over .first-over .result
+  top = over .if1 .top
 
   below-top : k < top
-  below-top = omega (arith, found .own-below .ensures .0, c .if1 .left)
+  below-top = omega (arith, found .own-below .ensures .0, c .if2 .left)
 
   in-use : k < z .args .n
-  in-use = omega (arith, below-top, over .first-over .ensures .0)
+  in-use = omega (arith, below-top, is-place over .0)
 
   own : strandAt (z .args .s .now) (z .args .scene) (getD (z .args .status .now) k 0) ≡ strandOf (z .args .s .now) (z .args .scene) (z .args .first) (z .args .at)
   own = found .own-below .ensures .1 below-top .0
@@ -56,10 +80,10 @@ module _ (c : tie.After-remove) where
   abbrev told : tie.After-note-at
   told = c .before .before
 
-  abbrev meet : tie.Else2
+  abbrev meet : tie.Else3
   meet = told .before .before .before
 
-  abbrev there : tie.Else1
+  abbrev there : tie.Else2
   there = meet .before .before .before
 
   abbrev a : tie.Start
@@ -88,14 +112,14 @@ module _ (c : tie.After-remove) where
         own = ap (strandAt s (a .args .scene)) (same (k there) (in-use there)) ∙ own there;
         new-is = c .remove .ensures .1;
         top = top there;
-        equals = λ i h l. ap (segmentAt s) (same i (omega (arith, over there .first-over .ensures .0))) ∙ found there .own-below .ensures .1 (below-top there) .1 i h l;
+        equals = λ i h l. ap (segmentAt s) (same i (omega (arith, is-place (over there) .0))) ∙ found there .own-below .ensures .1 (below-top there) .1 i h l;
         over-it = λ h. let b : top there < a .args .n = omega (arith, size) in
             subst (λ (m : ℕ). T (passesOver (segmentAt s m) (segmentAt s (a .args .at) .right))) (sym (same (top there) b))
-            (subst (λ (t : Segment). T (passesOver (segmentAt s (getD status (top there) 0)) (t .right))) (over there .before .before .segment .ensures) (over there .first-over .ensures .1 b));
+            (subst (λ (t : Segment). T (passesOver (segmentAt s (getD status (top there) 0)) (t .right))) (over there .before .segment .ensures) (is-place (over there) .1 b));
         meeting = λ i e h. let b : suc (k there) < a .args .n = omega (arith, size) in
             subst (λ (m : ℕ). T (lowerAtRight (segmentAt s (getD old i 0)) (segmentAt s m))) (sym (same (suc (k there)) b))
             (subst (λ (m : ℕ). T (lowerAtRight (segmentAt s m) (segmentAt s (getD status (suc (k there)) 0)))) (sym (same i (omega arith)))
-            (meet .before .can-meet .ensures (is-true _ (not-false (meet .before .can-meet .result) (meet .if2 .left))) i e b));
+            (meet .before .can-meet .ensures (is-true _ (not-false (meet .before .can-meet .result) (meet .if3 .left))) i e b));
         noted = λ i is. told .note-at .ensures s i (told .before .wide .ensures ∙ sym (same (k there) (in-use there)) ∙ is);
       }
 
@@ -103,19 +127,19 @@ segment-requires : tie.Need-segment-requires
 segment-requires c κs = let z = c .before .before .before in entry-readable (z .args .s .now) (z .args .scene) (z .pre .0 .scene) (z .pre .0 .event) .there
 
 first-over-requires : tie.Need-first-over-requires
-first-over-requires c κs =
-    let z = c .before .before .before .before .before in
-    let u = c .before .segment in
-    (right-in-range (u .result) (in-range-at (entry-readable (z .args .s .now) (z .args .scene) (z .pre .0 .scene) (z .pre .0 .event)) (u .ensures)), ready-readable (z .pre .0))
+first-over-requires c κs = asked (c .before .before)
+
+near-requires : tie.Need-near-requires
+near-requires c κs = asked (c .before .before)
 
 own-below-requires : tie.Need-own-below-requires
-own-below-requires c κs = let z = c .before .before .before .before .before .before .before in ready-fewer (z .pre .0) (c .before .first-over .result) (c .before .first-over .ensures .0)
+own-below-requires c κs = let d = c .before in ready-fewer (x d .pre .0) (d .if1 .top) (is-place d .0)
 
 same-length : tie.Need-same-length
 same-length c = search needs
 
 returns : tie.Need-returns
-returns c = (refl, λ m v e. absurd (not-on e))
+returns c = (refl, λ m v h e. absurd (not-on e))
 
 can-meet-requires : tie.Need-can-meet-requires
 can-meet-requires c κs = (in-use (c .before), ready-readable (z (c .before) .pre .0))
@@ -124,10 +148,10 @@ same-length-2 : tie.Need-same-length-2
 same-length-2 c = search needs
 
 returns-2 : tie.Need-returns-2
-returns-2 c = (refl, λ m v e. absurd (not-on e))
+returns-2 c = (refl, λ m v h e. absurd (not-on e))
 
 mul-wide : tie.Need-mul-wide
-mul-wide c = search needs
+mul-wide c = let e = c .before .before .before in omega (arith, in-use e, z e .pre .0 .room, z e .good)
 
 slice-read-wide : tie.Need-slice-read-wide
 slice-read-wide c = let e = c .before .before .before .before in omega (arith, in-use e, z e .pre .0 .room)
@@ -141,10 +165,12 @@ note-at-requires c κs =
     (λ s. subst (Placed (objectOf s (z e .args .scene) (z e .args .first))) (sym (c .wide .ensures)) (placed e s), z e .pre .1)
 
 remove-requires : tie.Need-remove-requires
-remove-requires c κs = search needs
+remove-requires c κs =
+    let e = c .before .before .before .before .before .before .before in
+    (in-use e, z e .pre .0 .room)
 
-sub-t21 : tie.Need-sub-t21
-sub-t21 c = search needs
+sub-t25 : tie.Need-sub-t25
+sub-t25 c = omega (arith, in-use (there (c .before .before)))
 
 same-length-3 : tie.Need-same-length-3
 same-length-3 c = search needs
@@ -154,7 +180,7 @@ returns-3 c =
     let r = c .before .before in
     let x = a r .args in (
       r .remove .ensures .0,
-      λ m v e.
+      λ m v h e.
           subst (λ (v : ℕ). (m + 1 ≡ x .n) × Ended (x .s .now) (x .scene) (x .first) (x .at) (x .notes .now) (take (x .n) (x .status .now)) (take m (r .remove .last .0)) v) (same-on e .1)
           (subst (λ (m : ℕ). (m + 1 ≡ x .n) × Ended (x .s .now) (x .scene) (x .first) (x .at) (x .notes .now) (take (x .n) (x .status .now)) (take m (r .remove .last .0)) (told r .note-at .result)) (same-on e .0)
           (omega (arith, in-use (there r)), ended r)),
@@ -166,6 +192,7 @@ end-spec =
     (tie.spec
     segment-requires
     first-over-requires
+    near-requires
     own-below-requires
     same-length
     returns
@@ -177,6 +204,6 @@ end-spec =
     wide-requires
     note-at-requires
     remove-requires
-    sub-t21
+    sub-t25
     same-length-3
     returns-3)

@@ -21,12 +21,12 @@ use Rattle.sweep.proofs.run_events.Statement.{statement}
 use Rattle.sweep.proofs.run_events.Tie as tie
 
 abbrev Inv-loop : tie.InvT-loop
-Inv-loop s scene status₀ notes₀ all i₀ j₀ n₀ status notes i j n =
+Inv-loop s scene status₀ notes₀ all i₀ j₀ n₀ hint₀ status notes i j n hint =
     (length status ≡ length status₀) × (length notes ≡ length notes₀) × (i ≤ total s scene true) × (j ≤ total s scene false) × (n ≤ length status)
     × Run s scene i j (take n status) × AllNoted s scene i j (take n status) notes
 
 abbrev μ-loop : tie.MeasureT-loop
-μ-loop s scene status₀ notes₀ all i₀ j₀ n₀ status notes i j n = total s scene true + total s scene false - (i + j)
+μ-loop s scene status₀ notes₀ all i₀ j₀ n₀ hint₀ status notes i j n hint = total s scene true + total s scene false - (i + j)
 
 -- the loop's test
 module _ (d : tie.At-loop Inv-loop μ-loop) where
@@ -90,7 +90,7 @@ module _ (c : tie.After-known-told Inv-loop μ-loop) where
 
   done : (m ≤ length new)
       × Taken (y e .args .s .now) (y e .args .scene) (e .before .takes-first .result) (e .next-of .result) (d e .loop .notes) (take (d e .loop .n) (d e .loop .status)) (take m new) v
-  done = c .before .before .before .before .before .take-event .ensures .1 m v (c .before .m .given .1)
+  done = c .before .before .before .before .before .take-event .ensures .1 m v (c .before .m .given .0 .1 .1 .0) (c .before .m .given .1)
 
   on : (d e .loop .i + boolByte (e .before .takes-first .result) ≤ total (y e .args .s .now) (y e .args .scene) true)
       × (d e .loop .j + boolByte (not (e .before .takes-first .result)) ≤ total (y e .args .s .now) (y e .args .scene) false)

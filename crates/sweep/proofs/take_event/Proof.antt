@@ -80,7 +80,7 @@ returns c =
     let p = t .before .before in
     let x = a p .args in (
       r .begin .ensures .0,
-      λ m v e. let w = r .begin .ensures .1 m v e in (
+      λ m v h e. let w = r .begin .ensures .1 m v h e in (
         w .1,
         it-began (beginning-is p (eq-eqb _ _ (t .if2 .taken)))
             (subst (λ (at : ℕ). Began (x .s .now) (x .scene) (x .first) at (take (x .n) (x .status .now)) (take m (r .begin .last .1 .1 .1 .1 .0)) v) (at-is p) (w .2)),
@@ -97,7 +97,7 @@ returns-2 c =
     let p = t .before .before in
     let x = a p .args in (
       r .end .ensures .0,
-      λ m v e. let w = r .end .ensures .1 m v e in (
+      λ m v h e. let w = r .end .ensures .1 m v h e in (
         omega (arith, w .0, a p .pre .2, r .end .ensures .0),
         it-ended (beginning-is p (ne-eqb _ _ (t .if2 .left)))
             (subst (λ (at : ℕ). Ended (x .s .now) (x .scene) (x .first) at (x .notes .now) (take (x .n) (x .status .now)) (take m (r .end .last .1 .1 .1 .1 .0)) v) (at-is p) (w .1)),

@@ -23,12 +23,12 @@ use Rattle.sweep.proofs.points.run_points.Statement.{statement}
 use Rattle.sweep.proofs.points.run_points.Tie as tie
 
 abbrev Inv-loop : tie.InvT-loop
-Inv-loop s scene status₀ notes₀ all i₀ j₀ n₀ status notes i j n =
+Inv-loop s scene status₀ notes₀ all i₀ j₀ n₀ hint₀ status notes i j n hint =
     (length status ≡ length status₀) × (length notes ≡ length notes₀) × (i ≤ scene .f .count) × (j ≤ total s scene false) × (n ≤ length status)
     × Run s scene 0 j (take n status) × AllNoted s scene 0 j (take n status) notes × Passed s scene i j (take n status) notes
 
 abbrev μ-loop : tie.MeasureT-loop
-μ-loop s scene status₀ notes₀ all i₀ j₀ n₀ status notes i j n = total s scene false - j
+μ-loop s scene status₀ notes₀ all i₀ j₀ n₀ hint₀ status notes i j n hint = total s scene false - j
 
 -- the loop's test
 module _ (d : tie.At-loop Inv-loop μ-loop) where
@@ -99,7 +99,7 @@ module _ (c : tie.After-known-told Inv-loop μ-loop) where
   v = c .before .m .given .0 .1 .0
 
   done : (m ≤ length new) × Taken (y e .args .s .now) (y e .args .scene) false (d e .loop .j) (noted e) (take (d e .loop .n) (d e .loop .status)) (take m new) v
-  done = c .before .before .before .before .before .take-event .ensures .1 m v (c .before .m .given .1)
+  done = c .before .before .before .before .before .take-event .ensures .1 m v (c .before .m .given .0 .1 .1 .0) (c .before .m .given .1)
 
   run-on : Run (y e .args .s .now) (y e .args .scene) 0 (d e .loop .j + 1) (take m new)
   run-on = advance (y e .args .s .now) (y e .args .scene) (orderly (d e)) (d e .loop .inv .5) false (it e .more) (it e .least) (next e) (done .1)

@@ -1,0 +1,58 @@
+-- `status::place::is_place` meets its contract, by its last test.
+use Prim.Native.Nat.{_-_, _<_}
+use native.Mathlib.Omega.{arith}
+use mathlib.Core.Path.{ap, subst, _∙_}
+use borrow.Author.Needs.{needs}
+use lib.Dec.{T}
+use Rattle.plane.specs.declared.Segment.{Segment}
+use Rattle.strands.specs.Lower.{passesOver}
+use Rattle.status.proofs.place.is_place.Statement.{statement}
+use Rattle.status.proofs.place.is_place.Tie as tie
+
+returns : tie.Need-returns
+returns c = λ no. absurd no
+
+sub-segment-of : tie.Need-sub-segment-of
+sub-segment-of c = search needs
+
+segment-of-requires : tie.Need-segment-of-requires
+segment-of-requires c κs =
+    let z = c .before .before .before .before in
+    (omega (arith, z .pre .1 .room), z .pre .1 .entries (z .args .k - 1) (omega arith))
+
+is-over-requires : tie.Need-is-over-requires
+is-over-requires c κs = search needs
+
+returns-2 : tie.Need-returns-2
+returns-2 c = λ no. absurd no
+
+returns-3 : tie.Need-returns-3
+returns-3 c = λ yes. (omega arith, λ h. absurd (omega arith))
+
+segment-of-requires-2 : tie.Need-segment-of-requires-2
+segment-of-requires-2 c κs =
+    let z = c .before .before .before .before .before in
+    let b : z .args .k < z .args .n = omega (arith, c .if4 .left) in
+    (omega (arith, z .pre .1 .room), z .pre .1 .entries (z .args .k) b)
+
+is-over-requires-2 : tie.Need-is-over-requires-2
+is-over-requires-2 c κs = search needs
+
+returns-4 : tie.Need-returns-4
+returns-4 c =
+    let z = c .before .before .before .before .before .before .before in
+    λ yes. (omega arith, λ h. subst T (c .is-over2 .ensures ∙ ap (λ (t : Segment). passesOver t (z .args .p)) (c .before .segment-of2 .ensures .0)) yes)
+
+pub is-place-spec : {M : Type 1} → statement M
+is-place-spec =
+    tie.close
+    (tie.spec
+    returns
+    sub-segment-of
+    segment-of-requires
+    is-over-requires
+    returns-2
+    returns-3
+    segment-of-requires-2
+    is-over-requires-2
+    returns-4)
