@@ -54,6 +54,7 @@ mod random;
 #[path = "../tests/reference/scene.rs"]
 mod scene;
 
+use cells::Matrix;
 use compare::boundary_outside;
 use damage::damaged;
 use geos::{bench_geos_from_bytes, Geos, Pair, Parts};
@@ -61,12 +62,14 @@ use maker::{full, PAIRS};
 use random::Random;
 use rows::Row;
 use scene::{read_scene, scene_bytes};
+use std::hint::black_box;
 use std::path::Path;
 use std::process::exit;
 
 const USAGE: &str = "usage: bench compare           GEOS's cells against ours; fails if a difference is unexplained
        bench time               times of every row, ours and GEOS's
        bench peer               GEOS's times alone
+       bench turns              times of many different scenes asked one after another, ours and GEOS's
        bench slowest            our times for scenes with a fault, and the slowest of many random scenes
        bench make DIR           writes the scenes of full size, a file each
        bench count ours FILE..  asks for the cells of each scene once, for callgrind
@@ -74,6 +77,9 @@ const USAGE: &str = "usage: bench compare           GEOS's cells against ours; f
        bench report DIR         makes docs/BENCH.md and docs/bench.svg from the runs' outputs in DIR";
 
 const PASSES: usize = 3;
+
+/// Random scenes of each pair that are asked in turn.
+const IN_TURN: u64 = 40;
 
 /// Random scenes of each pair that are looked through for the slowest, each as it is and damaged.
 const LOOKED_THROUGH: u64 = 100;
@@ -88,6 +94,7 @@ fn main() {
         }
         ["time"] => time(true),
         ["peer"] => time(false),
+        ["turns"] => turns(),
         ["slowest"] => slowest(),
         ["make", directory] => make(directory),
         ["count", who, ref files @ ..] => count(who, files),
@@ -107,6 +114,13 @@ fn parts(bytes: &[u8]) -> [Parts; 2] {
     [(&f, &g), (&g, &f)].map(|(own, other)| Parts::with_first(own, &boundary_outside(own, other)))
 }
 
+/// Our cells of a scene that is sound.
+fn right_cells(bytes: &[u8]) -> Matrix {
+    let right = library::cells(bytes).expect("cells are 0 or 1");
+    assert_eq!(right.number, 0, "a sound scene is refused");
+    right.cell
+}
+
 /// A row with its best times so far: our cells, our vectors, our check, GEOS from the bytes, GEOS relate alone.
 struct Timed {
     row: Row,
@@ -118,9 +132,7 @@ struct Timed {
 impl Timed {
     fn new(geos: &Geos, row: Row) -> Timed {
         let parts = parts(&row.bytes);
-        let right = library::cells(&row.bytes).expect("cells are 0 or 1");
-        assert_eq!(right.number, 0, "{} is refused", row.name());
-        let verdict = if bench_geos_from_bytes(geos, &row.bytes, &parts) == Some(right.cell) { "right" } else { "wrong" };
+        let verdict = if bench_geos_from_bytes(geos, &row.bytes, &parts) == Some(right_cells(&row.bytes)) { "right" } else { "wrong" };
         Timed { row, parts, verdict, best: [f64::MAX; 5] }
     }
 
@@ -150,6 +162,28 @@ fn time(with_ours: bool) -> bool {
     }
     for Timed { row, verdict, best: [cells, vectors, check, whole, relate], .. } in &rows {
         println!("row {} {cells:.3} {vectors:.3} {check:.3} {whole:.3} {relate:.3} {verdict}", row.name());
+    }
+    true
+}
+
+/// Different random scenes of full size, asked one after another: a scene that is asked again and again is one whose branches the processor knows.
+fn turns() -> bool {
+    let geos = Geos::new();
+    for kinds in PAIRS {
+        let scene = |seed| {
+            let (f, g) = full(&mut Random::new(seed), kinds);
+            scene_bytes(&f, &g)
+        };
+        let all = (0..IN_TURN).map(scene).map(|bytes| (parts(&bytes), bytes));
+        let scenes: Vec<([Parts; 2], Vec<u8>)> =
+            all.filter(|(parts, bytes)| bench_geos_from_bytes(&geos, bytes, parts) == Some(right_cells(bytes))).collect();
+        let ours = |(_, bytes): &(_, Vec<u8>)| black_box(library::cells(bytes)).is_ok();
+        let its = |(parts, bytes): &([Parts; 2], Vec<u8>)| black_box(bench_geos_from_bytes(&geos, bytes, parts)).is_some();
+        let mean = |total: f64| total / scenes.len() as f64;
+        let again = mean(scenes.iter().map(|scene| clock::best(|| ours(scene))).sum());
+        let in_turn = mean(clock::best(|| scenes.iter().all(ours)));
+        let its = mean(clock::best(|| scenes.iter().all(its)));
+        println!("turn {} {} {} {again:.3} {in_turn:.3} {its:.3}", kinds.0, kinds.1, scenes.len());
     }
     true
 }

@@ -2,7 +2,7 @@
 
 use crate::maker::PAIRS;
 use crate::picture;
-use crate::results::{read, Compared, Other, Results, Times};
+use crate::results::{read, Compared, Other, Results, Times, Turns};
 use crate::rows::{kind_name, name, FULL, RANDOM, SIZES};
 use crate::shapes::{Family, FAMILIES};
 use std::fmt::Write as _;
@@ -42,6 +42,7 @@ fn measured(results: &Results) -> String {
         summary(results),
         growth(results),
         table(results),
+        in_turn(results),
         faults(results),
         comparison(results),
     ]
@@ -145,6 +146,20 @@ fn table(results: &Results) -> String {
 
 fn millions(count: u64) -> String {
     format!("{:.2} M", count as f64 / 1e6)
+}
+
+fn in_turn(results: &Results) -> String {
+    let new = &results.versions[0];
+    let mut text = format!(
+        "### Scenes in turn\n\nDifferent random scenes of full size, our cells: the mean over them of one scene asked again and again, as in the rows above, and \
+         of all asked one after another, as a store would; and GEOS {new} from the same bytes, one after another.\n\n\
+         | types | scenes | again and again | in turn | GEOS {new} in turn | ratio in turn |\n|---|---|---|---|---|---|\n"
+    );
+    for Turns { kinds, scenes, again, ours, geos } in &results.turns {
+        let times = [again, ours, geos].map(|time| short(*time)).join(" | ");
+        let _ = writeln!(text, "| {} | {scenes} | {times} | {:.3} |", pair_name(*kinds), ours / geos);
+    }
+    text
 }
 
 fn faults(results: &Results) -> String {

@@ -1,4 +1,4 @@
-//! What the runs wrote, read back: times by row and version, counts of instructions, the comparison, the faults.
+//! What the runs wrote, read back: times by row and version, counts of instructions, the comparison, scenes in turn, the faults.
 
 use std::collections::HashMap;
 use std::path::Path;
@@ -39,6 +39,15 @@ pub struct Other {
     pub time: f64,
 }
 
+/// Different scenes of one pair of types: the mean time of one that is asked again and again, ours in turn, and GEOS's in turn.
+pub struct Turns {
+    pub kinds: (u8, u8),
+    pub scenes: usize,
+    pub again: f64,
+    pub ours: f64,
+    pub geos: f64,
+}
+
 /// One pair of types in the comparison with one version.
 pub struct Compared {
     pub kinds: (u8, u8),
@@ -53,6 +62,7 @@ pub struct Results {
     pub times: HashMap<String, Times>,
     pub counts: [HashMap<String, u64>; 2],
     pub compared: [Vec<Compared>; 2],
+    pub turns: Vec<Turns>,
     pub faults: Vec<Other>,
     pub random: Vec<Other>,
 }
@@ -99,6 +109,18 @@ fn others(directory: &Path, first: &str) -> Vec<Other> {
     all.iter().map(|words| Other { name: words[0].clone(), number: number(&words[1]), time: number(&words[2]) }).collect()
 }
 
+fn turns(directory: &Path) -> Vec<Turns> {
+    let all = lines(directory, "turns", "turn");
+    let one = |words: &Vec<String>| Turns {
+        kinds: (number(&words[0]), number(&words[1])),
+        scenes: number(&words[2]),
+        again: number(&words[3]),
+        ours: number(&words[4]),
+        geos: number(&words[5]),
+    };
+    all.iter().map(one).collect()
+}
+
 pub fn read(directory: &Path) -> Results {
     let version = |file: &str| lines(directory, file, "version")[0][0].split('-').next().unwrap_or_default().to_string();
     Results {
@@ -107,6 +129,7 @@ pub fn read(directory: &Path) -> Results {
         times: times(directory),
         counts: [counts(directory, "count-ours"), counts(directory, "count-geos")],
         compared: [compared(directory, "compared-new"), compared(directory, "compared-old")],
+        turns: turns(directory),
         faults: others(directory, "fault"),
         random: others(directory, "any"),
     }
