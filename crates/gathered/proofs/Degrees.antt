@@ -2,7 +2,7 @@
 use Prim.Native.Nat.{ℕ, zero, suc, _+_, _<_}
 use native.Mathlib.Omega.{arith}
 use mathlib.Core.Path.{_≡_, refl, sym, ap, ap₂, subst, _∙_}
-use mathlib.Core.Bool.{Bool, true, false, not, _&&_, _||_, Bool·not-not, true≢false, false≢true}
+use mathlib.Core.Bool.{Bool, true, false, not, _&&_, _||_, Bool·not-not, true≢false}
 use mathlib.Core.List.{List}
 use lib.Dec.{T, eqb}
 use Rattle.whole.specs.Count.{_∈_, bit, some, count}
@@ -15,8 +15,7 @@ use Rattle.plane.proofs.Equal.{samePoint-read, samePoint-refl}
 use Rattle.plane.proofs.OnSegment.{ordered-read}
 use Rattle.plane.proofs.Order.{ends-differ}
 use Rattle.plane.proofs.Accepted.{isAt-grid}
-use Rattle.scene.specs.declared.Shape.{Shape}
-use Rattle.scene.specs.declared.Shape.the-variants.{Points, Line, Region}
+use Rattle.scene.specs.declared.Shape.the-variants.{Points}
 use Rattle.scene.specs.declared.Layout.{Layout}
 use Rattle.scene.specs.Conditions.{indices, elements, hasSegments, half, segments}
 use Rattle.segments.proofs.Indices.{indices-in, element-in, in-element}
@@ -25,7 +24,9 @@ use Rattle.checks.proofs.Laws.{SoundObject, no-half-twice, no-point-twice, part
 use Rattle.flags.specs.Flags.{hasPoint}
 use Rattle.flags.specs.Walk.{pointOf, pointsOf}
 use Rattle.flags.proofs.ByElement.{some-map}
-use Rattle.meetings.specs.Met.{pointAs, elementPoint, degree}
+use Rattle.keys.specs.Keyed.{pointAs, elementPoint}
+use Rattle.keys.proofs.Elements.{point-of-half}
+use Rattle.meetings.specs.Met.{degree}
 use Rattle.gathered.proofs.Counting.{some-on, count-sum, Distinct, count-one, count-matched}
 
 distinct-indices : (n j : ℕ) → Distinct (indices n j)
@@ -41,14 +42,6 @@ one-index i j h k = omega arith
 -- ---- an object with segments
 
 module _ {s : List ℕ} {l : Layout} (o : SoundObject s l) (has : hasSegments (l .shape) ≡ true) where
-  pub point-of-half : (i : ℕ) → elementPoint s l i ≡ dominating (half s l i)
-  point-of-half i = go (l .shape) has
-    where
-      go : (k : Shape) → hasSegments k ≡ true → pointAs s l k i ≡ dominating (half s l i)
-      go Points e = absurd (false≢true e)
-      go Line e = refl
-      go Region e = refl
-
   Partners : ℕ → ℕ → Type 0
   Partners i j = (half s l j .«is_left» ≡ not (half s l i .«is_left»)) × (half s l j .segment ≡ half s l i .segment)
 
@@ -111,7 +104,7 @@ module _ {s : List ℕ} {l : Layout} (o : SoundObject s l) (has : hasSegments (l
   pub degree-ends : (v : Point) → degree s l v ≡ endsAt (segments s l) (grid v)
   unfolding degree endsAt
   degree-ends v =
-      count-same (λ i. samePoint (elementPoint s l i) v) (λ i. samePoint (dominating (half s l i)) v) (elements l) (λ i m. ap (λ p. samePoint p v) (point-of-half i))
+      count-same (λ i. samePoint (elementPoint s l i) v) (λ i. samePoint (dominating (half s l i)) v) (elements l) (λ i m. ap (λ p. samePoint p v) (point-of-half s l has i))
       ∙ count-sum (λ i. samePoint (dominating (half s l i)) v) (λ i. half s l i .«is_left» && samePoint (half s l i .segment .left) v) (λ i. not (half s l i .«is_left») && samePoint (half s l i .segment .right) v) (elements l) (λ i m. half-bits v i)
       ∙ ap₂ _+_ (sym (count-lefts (λ t. samePoint (t .left) v))) (sym (sides-match (λ t. samePoint (t .right) v)) ∙ sym (count-lefts (λ t. samePoint (t .right) v)))
       ∙ sym (count-sum (λ t. isEnd t (grid v)) (λ t. samePoint (t .left) v) (λ t. samePoint (t .right) v) (segments s l) (end-bits v))

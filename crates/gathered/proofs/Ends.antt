@@ -26,9 +26,11 @@ use Rattle.segments.proofs.Indices.{element-in, in-element}
 use Rattle.checks.proofs.Laws.{SoundObject, segment-in, half-of, all-ordered, regular}
 use Rattle.flags.specs.Flags.{onObject, hasEnd, isBound, joins, someEnd}
 use Rattle.matrix.proofs.Common.{at-itself, on-find, on-make, end-along, another-end}
-use Rattle.meetings.specs.Met.{elementPoint, degree}
+use Rattle.keys.specs.Keyed.{elementPoint}
+use Rattle.meetings.specs.Met.{degree}
 use Rattle.gathered.proofs.Counting.{some-count}
-use Rattle.gathered.proofs.Degrees.{point-of-half, degree-ends}
+use Rattle.keys.proofs.Elements.{point-of-half}
+use Rattle.gathered.proofs.Degrees.{degree-ends}
 
 -- ---- one object
 
@@ -53,7 +55,7 @@ module _ {s : List ℕ} {l : Layout} (o : SoundObject s l) (has : hasSegments (l
   -- the point of an element is an end of its segment
   pub end-of-half : (i : ℕ) → T (isEnd (half s l i .segment) (grid (elementPoint s l i)))
   unfolding dominating isEnd
-  end-of-half i = subst (λ p. T (isEnd (half s l i .segment) (grid p))) (sym (point-of-half o has i)) (go (half s l i .«is_left») (half s l i .segment))
+  end-of-half i = subst (λ p. T (isEnd (half s l i .segment) (grid p))) (sym (point-of-half s l has i)) (go (half s l i .«is_left») (half s l i .segment))
     where
       go : (b : Bool) (t : Segment) → T (isEnd t (grid (dominating (halfOf b t))))
       go true t = or-left (isAt (t .left) (grid (t .left))) (isAt (t .right) (grid (t .left))) (at-itself (t .left))
@@ -67,7 +69,7 @@ module _ {s : List ℕ} {l : Layout} (o : SoundObject s l) (has : hasSegments (l
   end-elements c d e = same-test (someEnd c (segments s l)) (some d (elements l)) to from
     where
       point-is : (b : Bool) (t : Segment) (i : ℕ) → half s l i ≡ halfOf b t → elementPoint s l i ≡ dominating (halfOf b t)
-      point-is b t i q = point-of-half o has i ∙ ap dominating q
+      point-is b t i q = point-of-half s l has i ∙ ap dominating q
 
       found : (b : Bool) (t : Segment) → t ∈ segments s l → T (c t (dominating (halfOf b t))) → T (some d (elements l))
       found b t m h =
@@ -85,7 +87,7 @@ module _ {s : List ℕ} {l : Layout} (o : SoundObject s l) (has : hasSegments (l
           let w = some-find d (elements l) h in
           let i = in-element l (w .0) (w .1) in
           some-make (λ t. c t (t .left) || c t (t .right)) (segment-in o has (w .0) i)
-          (one (half s l (w .0) .«is_left») (half s l (w .0) .segment) (subst (λ p. T (c (half s l (w .0) .segment) p)) (point-of-half o has (w .0)) (subst T (sym (e (w .0) i (half s l (w .0) .segment) (segment-in o has (w .0) i) (end-of-half (w .0)))) (w .2))))
+          (one (half s l (w .0) .«is_left») (half s l (w .0) .segment) (subst (λ p. T (c (half s l (w .0) .segment) p)) (point-of-half s l has (w .0)) (subst T (sym (e (w .0) i (half s l (w .0) .segment) (segment-in o has (w .0) i) (end-of-half (w .0)))) (w .2))))
         where
           one : (b : Bool) (t : Segment) → T (c t (dominating (halfOf b t))) → T (c t (t .left) || c t (t .right))
           one true t h = or-left (c t (t .left)) (c t (t .right)) h

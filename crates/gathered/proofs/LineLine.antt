@@ -16,7 +16,8 @@ use Rattle.flags.specs.Flags.{onObject, hasEnd, isBound, interiorPoiShared, bou
 use Rattle.flags.specs.Walk.{found, allFlags}
 use Rattle.flags.proofs.ByElement.{some-same}
 use Rattle.matrix.proofs.Common.{across-swap}
-use Rattle.meetings.specs.Met.{elementPoint, degree, meetings}
+use Rattle.keys.specs.Keyed.{elementPoint}
+use Rattle.meetings.specs.Met.{degree, meetings}
 use Rattle.classes.specs.Classed.{classesOfF, classesOfG}
 use Rattle.gathered.specs.Table.{flagsOfFBy, flagsOfGBy}
 use Rattle.gathered.proofs.Ends.{bound-degree, end-degree, own-degree, end-elements, on-degree}

@@ -16,7 +16,8 @@ use Rattle.checks.proofs.Laws.{SoundScene, across}
 use Rattle.flags.specs.Flags.{hasSegment, onObject, isBound, joins, segShared, segUnshared, segInside, segOutside, poiJoins, boundJoins, boundInside, boundOutside}
 use Rattle.flags.specs.Walk.{found, allFlags}
 use Rattle.flags.proofs.ByElement.{outline-edges}
-use Rattle.meetings.specs.Met.{elementPoint, degree, meetings}
+use Rattle.keys.specs.Keyed.{elementPoint}
+use Rattle.meetings.specs.Met.{degree, meetings}
 use Rattle.classes.specs.Classed.{classesOfF, classesOfG}
 use Rattle.gathered.specs.Table.{flagsOfFBy, flagsOfGBy}
 use Rattle.gathered.proofs.Ends.{bound-degree, own-degree, end-elements, on-degree, joins-degree}

@@ -15,7 +15,8 @@ use Rattle.scene.specs.declared.Scene.{Scene}
 use Rattle.scene.specs.Conditions.{elements}
 use Rattle.flags.specs.Walk.{bits, flag}
 use Rattle.flags.proofs.ByElement.{some-same, some-never}
-use Rattle.meetings.specs.Met.{elementPoint, degree, metByF, meetings}
+use Rattle.keys.specs.Keyed.{elementPoint}
+use Rattle.meetings.specs.Met.{degree, metByF, meetings}
 use Rattle.gathered.specs.Table.{alone}
 use Rattle.gathered.proofs.Counting.{some-or, some-count}
 use Rattle.gathered.proofs.Sizes.{Size, none, one, many, size-of}

@@ -34,7 +34,8 @@ use Rattle.flags.specs.Flags.{hasSegment, onObject}
 use Rattle.flags.specs.Walk.{pointOf}
 use Rattle.flags.proofs.Clear.{clear-of}
 use Rattle.matrix.proofs.Common.{end-along, is-in, in-has, moving}
-use Rattle.meetings.specs.Met.{elementPoint, degree}
+use Rattle.keys.specs.Keyed.{elementPoint}
+use Rattle.meetings.specs.Met.{degree}
 use Rattle.gathered.proofs.Degrees.{degree-ends, point-itself}
 use Rattle.gathered.proofs.Ends.{end-degree, own-degree, end-on, end-of-half, on-degree}
 

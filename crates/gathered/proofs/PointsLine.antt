@@ -14,7 +14,8 @@ use Rattle.strands.specs.Noted.{Noted}
 use Rattle.checks.proofs.Laws.{SoundScene}
 use Rattle.flags.specs.Flags.{hasPoint, onObject, isBound, poiOff, poiOnInterior, poiOnBound, boundPoiDisjoint}
 use Rattle.flags.specs.Walk.{pointsOf, found, allFlags}
-use Rattle.meetings.specs.Met.{elementPoint, degree, meetings}
+use Rattle.keys.specs.Keyed.{elementPoint}
+use Rattle.meetings.specs.Met.{degree, meetings}
 use Rattle.classes.specs.Classed.{classesOfF, classesOfG}
 use Rattle.gathered.specs.Table.{flagsOfFBy, flagsOfGBy}
 use Rattle.gathered.proofs.Degrees.{point-absent, own-point, some-points}

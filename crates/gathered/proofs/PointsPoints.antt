@@ -8,7 +8,8 @@ use Rattle.scene.specs.declared.Scene.{Scene}
 use Rattle.checks.proofs.Laws.{SoundScene}
 use Rattle.flags.specs.Flags.{hasPoint, poiDisjoint, poiShared}
 use Rattle.flags.specs.Walk.{pointsOf, found, allFlags}
-use Rattle.meetings.specs.Met.{elementPoint, meetings}
+use Rattle.keys.specs.Keyed.{elementPoint}
+use Rattle.meetings.specs.Met.{meetings}
 use Rattle.classes.specs.Classed.{classesOfF, classesOfG}
 use Rattle.gathered.specs.Table.{alone, flagsOfFBy, flagsOfGBy}
 use Rattle.gathered.proofs.Degrees.{point-there, point-absent, own-point, some-points}

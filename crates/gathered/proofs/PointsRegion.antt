@@ -16,7 +16,8 @@ use Rattle.checks.proofs.Laws.{SoundScene}
 use Rattle.flags.specs.Flags.{onObject, poiInside, poiOnOutline, poiOutside}
 use Rattle.flags.specs.Walk.{pointsOf, found, allFlags}
 use Rattle.flags.proofs.ByElement.{outline-edges}
-use Rattle.meetings.specs.Met.{elementPoint, degree, meetings}
+use Rattle.keys.specs.Keyed.{elementPoint}
+use Rattle.meetings.specs.Met.{degree, meetings}
 use Rattle.classes.specs.Classed.{classesOfF}
 use Rattle.gathered.specs.Table.{flagsOfFBy}
 use Rattle.gathered.proofs.Degrees.{own-point, some-points}

@@ -17,7 +17,8 @@ use Rattle.flags.specs.Flags.{outline, joins, someEnd}
 use Rattle.flags.specs.Walk.{edgeOf, edges, elementsAs, hasEdge, found, given, gather, atEnd, edgeTests, tested, flagsAs, allFlags}
 use Rattle.flags.proofs.ByElement.{outline-edges}
 use Rattle.matrix.proofs.Common.{across-swap}
-use Rattle.meetings.specs.Met.{elementPoint, degree, meetings}
+use Rattle.keys.specs.Keyed.{elementPoint}
+use Rattle.meetings.specs.Met.{degree, meetings}
 use Rattle.classes.specs.Classed.{classesOfF, classesOfG}
 use Rattle.gathered.specs.Table.{flagsOfFBy, flagsOfGBy}
 use Rattle.gathered.proofs.Ends.{own-degree, end-elements, joins-degree}

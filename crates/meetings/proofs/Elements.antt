@@ -1,4 +1,4 @@
--- The elements of an object that has been read and is in order: their points are in range, and their keys rise.
+-- The elements of an object that has been read and is in order: their keys rise.
 use Prim.Native.Nat.{ℕ, _<_, _≤_}
 use native.Mathlib.Nat.{le-of-eq, eq-or-lt-of-le}
 use native.Mathlib.Omega.{arith}
@@ -21,37 +21,12 @@ use Rattle.scene.specs.Conditions.{hasSegments, half, outOfOrder}
 use Rattle.segments.proofs.Elements.{point-good, half-good}
 use Rattle.segments.proofs.Indices.{halves-rise, points-rise}
 use Rattle.strands.proofs.Ordered.{not-after}
-use Rattle.meetings.specs.Met.{pointAs, elementPoint}
-use Rattle.meetings.specs.Keyed.{pointIn, keys}
-use Rattle.meetings.proofs.Keys.{key-below, key-less}
+use Rattle.keys.specs.Keyed.{pointAs, elementPoint, keys}
+use Rattle.keys.proofs.Keys.{key-below, key-less}
+use Rattle.keys.proofs.Elements.{point-in-range}
 use Rattle.meetings.proofs.Runs.{InOrder}
 
--- the point of an element is that of its record
-pub point-is : (s : List ℕ) (l : Layout) (i : ℕ) {at : ℕ} → at ≡ place l i → pointIn s (l .shape) at ≡ elementPoint s l i
-point-is s l i e = ap (pointIn s (l .shape)) e ∙ go (l .shape)
-  where
-    go : (k : Shape) → pointIn s k (place l i) ≡ pointAs s l k i
-    go Points = refl
-    go Line = refl
-    go Region = refl
-
-dominating-in-range : (h : Halfsegment) → T (segmentInRange (h .segment)) → T (inRange (dominating h))
-unfolding dominating
-dominating-in-range h t = go (h .«is_left»)
-  where
-    go : (b : Bool) → T (inRange (choose b (h .segment .left) (h .segment .right)))
-    go true = left-in-range (h .segment) t
-    go false = right-in-range (h .segment) t
-
 module _ (s : List ℕ) (l : Layout) (is : IsObject s l) where
-  pub point-in-range : (i : ℕ) → i < l .count → T (inRange (elementPoint s l i))
-  point-in-range i h = go (l .shape) refl
-    where
-      go : (k : Shape) → l .shape ≡ k → T (inRange (pointAs s l k i))
-      go Points e = point-good s l is i h (ap hasSegments e) .in-range
-      go Line e = dominating-in-range (half s l i) (half-good s l is i h (ap hasSegments e) .in-range)
-      go Region e = dominating-in-range (half s l i) (half-good s l is i h (ap hasSegments e) .in-range)
-
   module _ (order : outOfOrder s l ≡ Nothing) where
     -- 10: no point comes before that of an earlier element
     no-fall : (i j : ℕ) → i < j → j < l .count → T (before (elementPoint s l j) (elementPoint s l i)) → ⊥
@@ -65,14 +40,14 @@ module _ (s : List ℕ) (l : Layout) (is : IsObject s l) where
         go Region e b = T-not (before (dominating (half s l j)) (dominating (half s l i))) (not-after (half s l i) (half s l j) (halves-rise s l is order (ap hasSegments e) i j h k)) b
 
     pub in-order : InOrder (l .count) (keys s l)
-    in-order = record { rises = rises; below = λ i h. key-below (elementPoint s l i) (point-in-range i h) }
+    in-order = record { rises = rises; below = λ i h. key-below (elementPoint s l i) (point-in-range s l is i h) }
       where
         later : (i j : ℕ) → i < j → j < l .count → keys s l i ≤ keys s l j
         later i j h k = go (ltb (keys s l j) (keys s l i)) refl
           where
             go : (b : Bool) → ltb (keys s l j) (keys s l i) ≡ b → keys s l i ≤ keys s l j
             go true e =
-                absurd (no-fall i j h k (key-less (elementPoint s l j) (elementPoint s l i) (point-in-range j k) (point-in-range i (omega arith)) (ltb-true (keys s l j) (keys s l i) e)))
+                absurd (no-fall i j h k (key-less (elementPoint s l j) (elementPoint s l i) (point-in-range s l is j k) (point-in-range s l is i (omega arith)) (ltb-true (keys s l j) (keys s l i) e)))
             go false e = ltb-false (keys s l j) (keys s l i) e
 
         rises : (i j : ℕ) → i ≤ j → j < l .count → keys s l i ≤ keys s l j

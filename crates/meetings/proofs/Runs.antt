@@ -17,7 +17,9 @@ use Rattle.segments.proofs.Walk.{between, all-between, between-next, between-no
 use Rattle.flags.specs.declared.Found.{Found}
 use Rattle.flags.specs.Walk.{bits, flag, bitwise, nothing, either, gather}
 use Rattle.flags.proofs.Gathered.{same-bits, either-assoc, either-nothing}
-use Rattle.meetings.specs.Keyed.{top, next, Passed}
+use Rattle.keys.specs.Keyed.{top, next}
+use Rattle.keys.proofs.Keys.{next-in, next-end}
+use Rattle.meetings.specs.Keyed.{Passed}
 
 -- ---- numbers from i up to n, in two parts
 
@@ -64,20 +66,6 @@ count-between-all f i j h = go (j - i) i (λ m a b. h m a (omega arith))
 pub record InOrder (n : ℕ) (u : ℕ → ℕ) : Type 0 where
   pub rises : (i j : ℕ) → i ≤ j → j < n → u i ≤ u j
   pub below : (i : ℕ) → i < n → u i < top
-
-module _ (n : ℕ) (u : ℕ → ℕ) where
-  pub next-in : (i : ℕ) → i < n → next n u i ≡ u i
-  next-in i h = rw (lt-ltb i n h)
-
-  pub next-end : (i : ℕ) → n ≤ i → next n u i ≡ top
-  next-end i h = rw (le-ltb i n h)
-
-  pub next-low : (i : ℕ) → next n u i < top → i < n
-  next-low i h = go (ltb i n) refl
-    where
-      go : (b : Bool) → ltb i n ≡ b → i < n
-      go true e = ltb-true i n e
-      go false e = absurd (omega (arith, next-end i (ltb-false i n e)))
 
 -- a run of the key k, which no key from its beginning on is below
 module _ {n : ℕ} {u : ℕ → ℕ} (o : InOrder n u) {k i j : ℕ} (low : k < top) (least : k ≤ next n u i) (few : j ≤ n) (p : Passed n u k i j) where

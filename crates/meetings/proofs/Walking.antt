@@ -26,11 +26,13 @@ use Rattle.flags.specs.declared.Found.{Found}
 use Rattle.flags.specs.Walk.{bits, flag, bitwise, found, nothing, either, gather}
 use Rattle.flags.proofs.Bits.{or-bit}
 use Rattle.flags.proofs.Gathered.{either-nothing}
-use Rattle.meetings.specs.Met.{elementPoint, degree, metByF, metByG, meetingOfF, meetingOfG, meetings}
-use Rattle.meetings.specs.Keyed.{key, top, Passed, keys, nextKey, marked, met}
-use Rattle.meetings.proofs.Keys.{same-key}
-use Rattle.meetings.proofs.Runs.{InOrder, next-in, run-same, run-next, run-count, gather-parts, gather-run}
-use Rattle.meetings.proofs.Elements.{point-in-range, in-order}
+use Rattle.keys.specs.Keyed.{key, top, elementPoint, keys, nextKey}
+use Rattle.keys.proofs.Keys.{same-key, next-in}
+use Rattle.keys.proofs.Elements.{point-in-range}
+use Rattle.meetings.specs.Met.{degree, metByF, metByG, meetingOfF, meetingOfG, meetings}
+use Rattle.meetings.specs.Keyed.{Passed, marked, met}
+use Rattle.meetings.proofs.Runs.{InOrder, run-same, run-next, run-count, gather-parts, gather-run}
+use Rattle.meetings.proofs.Elements.{in-order}
 
 -- ---- flags
 

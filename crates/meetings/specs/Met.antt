@@ -7,29 +7,18 @@ use lib.Dec.{eqb, ltb}
 use lib.ListN.{getD}
 use Rattle.whole.specs.Count.{count}
 use Rattle.plane.specs.declared.Point.{Point}
-use Rattle.plane.specs.Plane.{samePoint, dominating}
-use Rattle.scene.specs.declared.Shape.{Shape}
-use Rattle.scene.specs.declared.Shape.the-variants.{Points, Line, Region}
+use Rattle.plane.specs.Plane.{samePoint}
 use Rattle.scene.specs.declared.Layout.{Layout}
 use Rattle.scene.specs.declared.Scene.{Scene}
-use Rattle.scene.specs.Read.{pointAt, place}
-use Rattle.scene.specs.Conditions.{elements, half}
+use Rattle.scene.specs.Conditions.{elements}
+use Rattle.keys.specs.Keyed.{elementPoint}
 use Rattle.flags.specs.declared.Found.{Found}
 use Rattle.flags.specs.Walk.{found, either, gather}
 
 module _ (s : List ℕ) (l : Layout) where
-  -- the point of an element: a point itself, a halfsegment's dominating point
-  abbrev pub pointAs : Shape → ℕ → Point
-  pointAs Points i = pointAt s (place l i)
-  pointAs Line i = dominating (half s l i)
-  pointAs Region i = dominating (half s l i)
-
-  abbrev pub elementPoint : ℕ → Point
-  elementPoint = pointAs (l .shape)
-
   -- how many elements have the point
   unfoldable pub degree : Point → ℕ
-  degree v = count (λ i. samePoint (elementPoint i) v) (elements l)
+  degree v = count (λ i. samePoint (elementPoint s l i) v) (elements l)
 
 -- a point with degree a in F and b in G, and the note of the one element of F that has it where a is 1. Bits 0 to 2: of F alone, with a note of 0, of 1
 -- or of more; 3 and 4: of degree 1 in F and of 1, or more, in G; 5 and 6: of more in F and of 1, or more, in G

@@ -1,83 +1,24 @@
-// Where elements of two objects meet: one walk over the points of both, in their order. A point is held as one number, its key, so that a comparison is
-// one test and the end of an object needs none.
+// Where elements of two objects meet: one walk over the points of both, in their order, by their keys.
 use flags::Found;
 use flags::collected;
-use plane::Point;
 use scene::Layout;
 use scene::Scene;
-use scene::Shape;
-use scene::bytes;
 use scene::records;
 ghost use mathlib.Core.Path.{_≡_};
-ghost use Prim.Native.Nat.{_+_, _*_, _<_, _≤_, min};
-ghost use lib.Dec.{T};
-ghost use lib.IntN.{natAbs};
+ghost use Prim.Native.Nat.{_<_, _≤_, min};
 ghost use lib.ListN.{length};
-ghost use Rattle.plane.specs.Plane.{limit, inRange, dominating};
 ghost use Rattle.scene.specs.declared.Fault.the-variants.{Nothing};
-ghost use Rattle.scene.specs.Read.{halfsegmentAt, size, place, IsObject};
+ghost use Rattle.scene.specs.Read.{size, IsObject};
 ghost use Rattle.scene.specs.Conditions.{outOfOrder};
 ghost use Rattle.meetings.specs.Met.{meetings};
-ghost use Rattle.meetings.specs.Keyed.{raised, key, top, Passed, pointIn, keys, nextKey, Reached, marked, met};
+ghost use Rattle.keys.specs.Keyed.{top, keys};
+ghost use Rattle.meetings.specs.Keyed.{Passed, Reached, marked, met};
 
 // How far the elements of an object are walked: the next one's index, the offset of its record, and the key of its point.
 pub struct Cursor {
     pub index: usize,
     pub at: usize,
     pub key: u64,
-}
-
-// The key past the last element, above that of every point.
-const TOP: u64 = 4398046511104;
-
-// A coordinate, counted from the least.
-fn raised(v: i32) -> u64
-    requires { ⌜ natAbs v ≤ limit ⌝ }
-    ensures { λ r. ⌜ (r ≡ raised v) × (r ≤ 2 * limit) ⌝ }
-{
-    (v as i64 + plane::LIMIT as i64) as u64
-}
-
-// The key of a point: by x, then y, as points are ordered.
-fn key(p: Point) -> u64
-    requires { ⌜ T (inRange p) ⌝ }
-    ensures { λ r. ⌜ r ≡ key p ⌝ }
-{
-    2097152 * raised(p.x) + raised(p.y)
-}
-
-// The dominating point of the halfsegment at an offset, without a branch.
-fn dominating(s: &[u8], at: usize) -> Point
-    requires { ⌜ at + 18 ≤ length (now s) ⌝ }
-    ensures { λ r. ⌜ r ≡ dominating (halfsegmentAt (now (s .entry)) at) ⌝ }
-{
-    let is_right = s[at + 17] != 1;
-    bytes::point(s, at + 8 * (is_right as usize))
-}
-
-// The point of the element at an offset.
-fn point_of(s: &[u8], k: Shape, at: usize) -> Point
-    requires { ⌜ at + size k ≤ length (now s) ⌝ }
-    ensures { λ r. ⌜ r ≡ pointIn (now (s .entry)) k at ⌝ }
-{
-    match k {
-        Shape::Points => bytes::point(s, at),
-        Shape::Line => dominating(s, at),
-        Shape::Region => dominating(s, at),
-    }
-}
-
-// The key of the element i, whose record stands at an offset.
-fn key_of(s: &[u8], l: Layout, i: usize, at: usize) -> u64
-    requires { ⌜ IsObject (now s) l × (at ≡ place l i) ⌝ }
-    ensures { λ r. ⌜ r ≡ nextKey (now (s .entry)) l i ⌝ }
-{
-    if i < l.count {
-        let k = l.shape;
-        key(point_of(s, k, at))
-    } else {
-        TOP
-    }
 }
 
 // At the first element.
@@ -89,7 +30,7 @@ fn first(s: &[u8], l: Layout) -> Cursor
     Cursor {
         index: 0,
         at,
-        key: key_of(s, l, 0, at),
+        key: keys::key_of(s, l, 0, at),
     }
 }
 
@@ -104,7 +45,7 @@ fn pass(s: &[u8], l: Layout, step: usize, c: Cursor, k: u64) -> Cursor
     while key == k {
         index += 1;
         at += step;
-        key = key_of(s, l, index, at);
+        key = keys::key_of(s, l, index, at);
     }
     Cursor { index, at, key }
 }
@@ -158,7 +99,7 @@ pub fn meetings(s: &[u8], scene: Scene, notes: &[u8]) -> Found
     let mut d = first(s, g);
     let mut sofar: u16 = 0;
     let mut k = least(c.key, d.key);
-    while k < TOP {
+    while k < keys::TOP {
         let next_c = pass(s, f, step_f, c, k);
         let next_d = pass(s, g, step_g, d, k);
         let i = c.index;

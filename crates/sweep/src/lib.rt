@@ -13,8 +13,9 @@ ghost use lib.Dec.{T};
 ghost use lib.ListN.{length, take};
 ghost use Rattle.whole.specs.Count.{_∈_};
 ghost use Rattle.scene.specs.declared.Fault.the-variants.{Nothing};
-ghost use Rattle.scene.specs.Read.{IsScene};
+ghost use Rattle.scene.specs.Read.{IsObject, IsScene};
 ghost use Rattle.scene.specs.Conditions.{hasSegments, outOfOrder};
+ghost use Rattle.keys.specs.Keyed.{nextKey};
 ghost use Rattle.strands.specs.Evenly.{RegionsEndEvenly};
 ghost use Rattle.strands.specs.Swept.{objectOf, total, takesFirst, Taken, Entry, Passes};
 ghost use Rattle.strands.specs.Noted.{SegmentsNoted, Noted};
@@ -33,9 +34,9 @@ fn event_count(l: Layout) -> usize
     }
 }
 
-// Is the next event F's?
-fn takes_first(s: &[u8], scene: Scene, i: usize, j: usize) -> bool
-    requires { ⌜ IsScene (now s) scene × (i ≤ total (now s) scene true) × (j ≤ total (now s) scene false) ⌝ }
+// Is the next event F's? Its key and that of G's next tell, unless they are the same.
+fn takes_first(s: &[u8], scene: Scene, i: usize, j: usize, key_f: u64, key_g: u64) -> bool
+    requires { ⌜ IsScene (now s) scene × (i ≤ total (now s) scene true) × (j ≤ total (now s) scene false) × («key_f» ≡ nextKey (now s) (scene .f) i) × («key_g» ≡ nextKey (now s) (scene .g) j) ⌝ }
     ensures { λ r. ⌜ r ≡ takesFirst (now (s .entry)) scene i j ⌝ }
 {
     let f = scene.f;
@@ -46,9 +47,24 @@ fn takes_first(s: &[u8], scene: Scene, i: usize, j: usize) -> bool
     if j == event_count(g) {
         return true;
     }
+    if key_f != key_g {
+        return key_f < key_g;
+    }
     let h = bytes::halfsegment(s, records::place(f, i));
     let k = bytes::halfsegment(s, records::place(g, j));
     !geometry::comes_before(k, h)
+}
+
+// The key of the element i, where a step to it has been taken; the old one where not.
+fn key_after(s: &[u8], l: Layout, stepped: bool, i: usize, old: u64) -> u64
+    requires { ⌜ IsObject (now s) l × (i ≤ l .count) × (stepped ≡ false → old ≡ nextKey (now s) l i) ⌝ }
+    ensures { λ r. ⌜ r ≡ nextKey (now (s .entry)) l i ⌝ }
+{
+    if stepped {
+        keys::key_of(s, l, i, records::place(l, i))
+    } else {
+        old
+    }
 }
 
 fn next_of(first: bool, i: usize, j: usize) -> usize
@@ -92,8 +108,10 @@ fn run_events(s: &[u8], scene: Scene, status: &mut [u16], notes: &mut [u8]) -> b
     let mut j: usize = 0;
     let mut n: usize = 0;
     let mut hint: usize = 0;
+    let mut key_f = key_after(s, f, true, 0, 0);
+    let mut key_g = key_after(s, g, true, 0, 0);
     while i + j < all {
-        let first = takes_first(s, scene, i, j);
+        let first = takes_first(s, scene, i, j, key_f, key_g);
         let k = next_of(first, i, j);
         let Step::On(m, v, h) = take_event(s, scene, first, k, status, n, hint, notes) else {
             return false;
@@ -103,6 +121,8 @@ fn run_events(s: &[u8], scene: Scene, status: &mut [u16], notes: &mut [u8]) -> b
         notes[note::slot(first, k)] = v;
         i += first as usize;
         j += !first as usize;
+        key_f = key_after(s, f, first, i, key_f);
+        key_g = key_after(s, g, !first, j, key_g);
     }
     n == 0
 }

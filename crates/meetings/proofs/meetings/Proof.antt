@@ -8,7 +8,8 @@ use Rattle.whole.specs.Count.{odd}
 use Rattle.scene.proofs.Taken.{taken-object}
 use Rattle.flags.specs.Flags.{hasBit}
 use Rattle.flags.specs.Walk.{either}
-use Rattle.meetings.specs.Keyed.{nextKey, Reached, marked, met}
+use Rattle.keys.specs.Keyed.{nextKey}
+use Rattle.meetings.specs.Keyed.{Reached, marked, met}
 use Rattle.meetings.proofs.Walking.{marked-or, Walking, walking, walked, further, walked-on}
 use Rattle.meetings.proofs.meetings.Statement.{statement}
 use Rattle.meetings.proofs.meetings.Tie as tie

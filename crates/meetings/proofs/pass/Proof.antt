@@ -8,8 +8,9 @@ use mathlib.Core.Logic.{_⊎_, ⊎-elim}
 use Rattle.scene.specs.Read.{place}
 use Rattle.scene.proofs.Taken.{taken-object}
 use Rattle.segments.proofs.Elements.{fits}
-use Rattle.meetings.specs.Keyed.{keys, nextKey, Reached}
-use Rattle.meetings.proofs.Runs.{next-low}
+use Rattle.keys.specs.Keyed.{keys, nextKey}
+use Rattle.keys.proofs.Keys.{next-low}
+use Rattle.meetings.specs.Keyed.{Reached}
 use Rattle.meetings.proofs.pass.Statement.{statement}
 use Rattle.meetings.proofs.pass.Tie as tie
 

@@ -1,37 +1,41 @@
--- `sweep::run_events` meets its contract. The loop's invariant: i elements of F and j of G have been taken and noted, and the first n entries of the
--- status are the active segments of such a run. The measure is the number of elements that are left.
+-- `sweep::run_events` meets its contract. The loop's invariant: i elements of F and j of G have been taken and noted, the keys are those of the next, and
+-- the first n entries of the status are the active segments of such a run. The measure is the number of elements that are left.
 use Prim.Native.Nat.{ℕ, _+_, _-_, _<_, _≤_}
+use native.Mathlib.Nat.{add-zero}
 use native.Mathlib.Omega.{arith}
 use mir.Val.{boolByte}
 use mathlib.Core.Path.{_≡_, refl, sym, ap, subst, _∙_}
-use mathlib.Core.Bool.{Bool, true, false, not, cond}
+use mathlib.Core.Bool.{Bool, true, false, not, cond, true≢false}
 use mathlib.Core.List.{List, []}
 use lib.Dec.{T, eqb→eq}
 use lib.ListN.{length, take, set, length-set}
 use borrow.Author.Needs.{needs}
-use Rattle.strands.specs.Swept.{slot, total, Taken}
+use Rattle.keys.specs.Keyed.{nextKey}
+use Rattle.scene.specs.Read.{IsObject}
+use Rattle.strands.specs.Swept.{slot, objectOf, total, Taken}
 use Rattle.strands.proofs.Begun.{reached}
 use Rattle.strands.proofs.Run.{Run, Orderly, run-start, advance}
 use Rattle.strands.proofs.Notes.{AllNoted, noted-start, noted-next, slot-room}
-use Rattle.strands.proofs.Objects.{few-events}
+use Rattle.strands.proofs.Objects.{read, few-events}
 use Rattle.strands.proofs.Ordered.{orderly}
 use Rattle.strands.proofs.Final.{passes, notes-hold}
 use Rattle.strands.proofs.Chosen.{Chosen, chosen, further, next-by, both-within, entries-are}
+use Rattle.sweep.proofs.Next.{total-within}
 use Rattle.sweep.proofs.run_events.Statement.{statement}
 use Rattle.sweep.proofs.run_events.Tie as tie
 
 abbrev Inv-loop : tie.InvT-loop
-Inv-loop s scene status₀ notes₀ all i₀ j₀ n₀ hint₀ status notes i j n hint =
+Inv-loop s scene status₀ notes₀ f g all i₀ j₀ n₀ hint₀ key-f₀ key-g₀ status notes i j n hint key-f key-g =
     (length status ≡ length status₀) × (length notes ≡ length notes₀) × (i ≤ total s scene true) × (j ≤ total s scene false) × (n ≤ length status)
-    × Run s scene i j (take n status) × AllNoted s scene i j (take n status) notes
+    × Run s scene i j (take n status) × AllNoted s scene i j (take n status) notes × (key-f ≡ nextKey s (scene .f) i) × (key-g ≡ nextKey s (scene .g) j)
 
 abbrev μ-loop : tie.MeasureT-loop
-μ-loop s scene status₀ notes₀ all i₀ j₀ n₀ hint₀ status notes i j n hint = total s scene true + total s scene false - (i + j)
+μ-loop s scene status₀ notes₀ f g all i₀ j₀ n₀ hint₀ key-f₀ key-g₀ status notes i j n hint key-f key-g = total s scene true + total s scene false - (i + j)
 
 -- the loop's test
 module _ (d : tie.At-loop Inv-loop μ-loop) where
   abbrev z : tie.Start Inv-loop μ-loop
-  z = d .before .before .before .before .before .before .before .before
+  z = d .before .before .before .before .before .before .before .before .before .before
 
   start : Orderly (z .args .s .now) (z .args .scene)
   start = orderly (z .args .s .now) (z .args .scene) (z .pre .0) (z .pre .1)
@@ -54,7 +58,7 @@ module _ (c : tie.After-next-of Inv-loop μ-loop) where
   y = z d
 
   left : d .loop .i + d .loop .j < total (y .args .s .now) (y .args .scene) true + total (y .args .s .now) (y .args .scene) false
-  left = omega (arith, d .before .before .event-count .ensures, d .before .event-count2 .ensures)
+  left = omega (arith, d .before .before .before .before .event-count .ensures, d .before .before .before .event-count2 .ensures)
 
   it : Chosen (y .args .s .now) (y .args .scene) (start d) (d .loop .i) (d .loop .j) (c .before .takes-first .result)
   it =
@@ -136,16 +140,26 @@ add-all c =
     let few = few-events (z .args .s .now) (z .args .scene) (z .pre .0) in
     omega (arith, c .before .event-count .ensures, c .event-count2 .ensures, few true, few false)
 
+key-after-requires : tie.Need-key-after-requires Inv-loop μ-loop
+key-after-requires c κs =
+    let z = c .before .before .before .before .before .before .before in
+    (read (z .args .s .now) (z .args .scene) (z .pre .0) true, omega arith, λ e. absurd (true≢false e))
+
+key-after-requires-2 : tie.Need-key-after-requires-2 Inv-loop μ-loop
+key-after-requires-2 c κs =
+    let z = c .before .before .before .before .before .before .before .before in
+    (read (z .args .s .now) (z .args .scene) (z .pre .0) false, omega arith, λ e. absurd (true≢false e))
+
 loop-holds : tie.Need-loop-holds Inv-loop μ-loop
 loop-holds c =
-    let a = c .before .before .before .before .before .before .before .args in
-    (refl, refl, omega arith, omega arith, omega arith, run-start (a .s .now) (a .scene), noted-start (a .s .now) (a .scene) (a .notes .now))
+    let a = c .before .before .before .before .before .before .before .before .before .args in
+    (refl, refl, omega arith, omega arith, omega arith, run-start (a .s .now) (a .scene), noted-start (a .s .now) (a .scene) (a .notes .now), c .before .key-after .ensures, c .key-after2 .ensures)
 
 add-loop : tie.Need-add-loop Inv-loop μ-loop
 add-loop c = omega (arith, c .loop .inv .2, c .loop .inv .3, few c true, few c false)
 
 takes-first-requires : tie.Need-takes-first-requires Inv-loop μ-loop
-takes-first-requires c κs = (z (c .before) .pre .0, c .before .loop .inv .2, c .before .loop .inv .3)
+takes-first-requires c κs = let i = c .before .loop .inv in (z (c .before) .pre .0, i .2, i .3, i .7, i .8)
 
 next-of-requires : tie.Need-next-of-requires Inv-loop μ-loop
 next-of-requires c κs = search needs
@@ -204,19 +218,51 @@ cast-j c = tt
 add-j : tie.Need-add-j Inv-loop μ-loop
 add-j c = omega (arith, on (told c) .1, few (d (x c)) false)
 
+-- the keys after an event: that of an object that has not gone on is as it was
+module _ (c : tie.After-slot Inv-loop μ-loop) where
+  abbrev first : Bool
+  first = x c .before .takes-first .result
+
+  asked : (b e : Bool) (k m : ℕ) → k + boolByte e ≤ total (y (x c) .args .s .now) (y (x c) .args .scene) b
+      → m ≡ nextKey (y (x c) .args .s .now) (objectOf (y (x c) .args .s .now) (y (x c) .args .scene) b) k
+      → IsObject (y (x c) .args .s .now) (objectOf (y (x c) .args .s .now) (y (x c) .args .scene) b)
+      × (k + boolByte e ≤ objectOf (y (x c) .args .s .now) (y (x c) .args .scene) b .count)
+      × (e ≡ false → m ≡ nextKey (y (x c) .args .s .now) (objectOf (y (x c) .args .s .now) (y (x c) .args .scene) b) (k + boolByte e))
+  asked b e k m h is =
+      let s = y (x c) .args .s .now in
+      let sc = y (x c) .args .scene in (
+        read s sc (y (x c) .pre .0) b,
+        omega (arith, h, total-within s sc b),
+        λ q. is ∙ ap (nextKey s (objectOf s sc b)) (sym (add-zero k)) ∙ ap (λ (e : Bool). nextKey s (objectOf s sc b) (k + boolByte e)) (sym q),
+      )
+
+key-after-requires-3 : tie.Need-key-after-requires-3 Inv-loop μ-loop
+key-after-requires-3 c κs =
+    let l = d (x c) .loop in
+    asked c true (first c) (l .i) (l .key-f) (on (told c) .0) (l .inv .7)
+
+key-after-requires-4 : tie.Need-key-after-requires-4 Inv-loop μ-loop
+key-after-requires-4 c κs =
+    let t = c .before in
+    let l = d (x t) .loop in
+    asked t false (not (first t)) (l .j) (l .key-g) (on (told t) .1) (l .inv .8)
+
 loop-less : tie.Need-loop-less Inv-loop μ-loop
-loop-less c = omega (arith, on (told c) .2, left (x c))
+loop-less c = let t = c .before .before in omega (arith, on (told t) .2, left (x t))
 
 loop-again : tie.Need-loop-again Inv-loop μ-loop
-loop-again c = (
-  told c .before .before .before .before .before .take-event .ensures .0 ∙ d (x c) .loop .inv .0,
-  length-set (d (x c) .loop .notes) (c .slot .result) (v (told c)) ∙ d (x c) .loop .inv .1,
-  on (told c) .0,
-  on (told c) .1,
-  done (told c) .0,
-  run-on c,
-  noted-on c,
-)
+loop-again c =
+    let t = c .before .before in (
+      told t .before .before .before .before .before .take-event .ensures .0 ∙ d (x t) .loop .inv .0,
+      length-set (d (x t) .loop .notes) (t .slot .result) (v (told t)) ∙ d (x t) .loop .inv .1,
+      on (told t) .0,
+      on (told t) .1,
+      done (told t) .0,
+      run-on t,
+      noted-on t,
+      c .before .key-after3 .ensures,
+      c .key-after4 .ensures,
+    )
 
 same-length-3 : tie.Need-same-length-3 Inv-loop μ-loop
 same-length-3 c = c .before .loop .inv .0
@@ -233,10 +279,10 @@ module _ (c : tie.After-loop Inv-loop μ-loop) where
   all-of = total (z b .args .s .now) (z b .args .scene)
 
   of-f : b .loop .i ≡ all-of true
-  of-f = omega (arith, b .loop .inv .2, b .loop .inv .3, b .before .before .event-count .ensures, b .before .event-count2 .ensures)
+  of-f = omega (arith, b .loop .inv .2, b .loop .inv .3, b .before .before .before .before .event-count .ensures, b .before .before .before .event-count2 .ensures)
 
   of-g : b .loop .j ≡ all-of false
-  of-g = omega (arith, b .loop .inv .2, b .loop .inv .3, b .before .before .event-count .ensures, b .before .event-count2 .ensures)
+  of-g = omega (arith, b .loop .inv .2, b .loop .inv .3, b .before .before .before .before .event-count .ensures, b .before .before .before .event-count2 .ensures)
 
   -- what holds of the elements and entries at the end
   at-end : (P : ℕ → ℕ → List ℕ → Type 0) → b .loop .n ≡ 0 → P (b .loop .i) (b .loop .j) (take (b .loop .n) (b .loop .status)) → P (all-of true) (all-of false) []
@@ -266,6 +312,8 @@ run-events-spec =
     event-count-requires
     event-count-requires-2
     add-all
+    key-after-requires
+    key-after-requires-2
     loop-holds
     add-loop
     takes-first-requires
@@ -282,6 +330,8 @@ run-events-spec =
     add-i
     cast-j
     add-j
+    key-after-requires-3
+    key-after-requires-4
     loop-less
     loop-again
     same-length-3

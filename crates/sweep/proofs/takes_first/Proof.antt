@@ -1,4 +1,4 @@
--- `sweep::takes_first` meets its contract: the tests of the definition, in its order.
+-- `sweep::takes_first` meets its contract: the tests of the definition, in its order, the last one by keys where they differ.
 use Prim.Native.Nat.{ℕ, _<_, _≤_}
 use native.Mathlib.Omega.{arith}
 use mathlib.Core.Path.{_≡_, sym, ap, ap₂, _∙_}
@@ -12,8 +12,9 @@ use Rattle.scene.specs.Conditions.{half}
 use Rattle.scene.proofs.Given.{GoodHalfsegment}
 use Rattle.segments.proofs.Elements.{half-is, half-in-range}
 use Rattle.strands.specs.Swept.{total}
-use Rattle.strands.proofs.Objects.{good}
+use Rattle.strands.proofs.Objects.{has, read, good}
 use Rattle.strands.proofs.Chosen.{none-left, one-left, both-left}
+use Rattle.sweep.proofs.Next.{first-by-keys}
 use Rattle.sweep.proofs.takes_first.Statement.{statement}
 use Rattle.sweep.proofs.takes_first.Tie as tie
 
@@ -46,7 +47,7 @@ module _ (c : tie.Else2) where
 -- the halfsegments that were read
 module _ (c : tie.After-halfsegment2) where
   abbrev d : tie.Else2
-  d = c .before .before .before .before
+  d = c .before .before .before .before .before
 
   is-f : c .before .before .halfsegment .result ≡ half (y d .args .s .now) (y d .args .scene .f) (y d .args .i)
   is-f = half-is (y d .args .s .now) (y d .args .scene .f) (y d .args .i) (c .before .before .halfsegment .ensures) (c .before .before .before .place .ensures)
@@ -72,25 +73,36 @@ returns-2 c =
     let a = z (e .before) .args in
     sym (one-left (a .i) (total (a .s .now) (a .scene) true) (a .j) (total (a .s .now) (a .scene) false) (later (a .s .now) (a .scene) (a .i) (a .j)) (of-f (e .before)) (omega (arith, e .event-count2 .ensures, c .if2 .taken)))
 
+returns-3 : tie.Need-returns-3
+returns-3 c =
+    let e = c .before in
+    let a = y e .args in
+    let s = a .s .now in
+    let f = has s (a .scene) true (a .i) (of-f (e .before .before)) in
+    let g = has s (a .scene) false (a .j) (of-g e) in
+    first-by-keys s (a .scene .f) (a .scene .g) (read s (a .scene) (y e .pre .0) true) (read s (a .scene) (y e .pre .0) false) (a .i) (a .j) (f .1) (g .1) (f .0) (g .0)
+    (y e .pre .3) (y e .pre .4) (c .if3 .taken)
+    ∙ sym (both-left (a .i) (total s (a .scene) true) (a .j) (total s (a .scene) false) (later s (a .scene) (a .i) (a .j)) (of-f (e .before .before)) (of-g e))
+
 place-requires : tie.Need-place-requires
-place-requires c κs = omega (arith, good-f c .there, y c .good)
+place-requires c κs = let d = c .before in omega (arith, good-f d .there, y d .good)
 
 halfsegment-requires : tie.Need-halfsegment-requires
-halfsegment-requires c κs = omega (arith, good-f (c .before) .there, c .place .ensures)
+halfsegment-requires c κs = omega (arith, good-f (c .before .before) .there, c .place .ensures)
 
 place-requires-2 : tie.Need-place-requires-2
-place-requires-2 c κs = let d = c .before .before in omega (arith, good-g d .there, y d .good)
+place-requires-2 c κs = let d = c .before .before .before in omega (arith, good-g d .there, y d .good)
 
 halfsegment-requires-2 : tie.Need-halfsegment-requires-2
-halfsegment-requires-2 c κs = omega (arith, good-g (c .before .before .before) .there, c .place2 .ensures)
+halfsegment-requires-2 c κs = omega (arith, good-g (c .before .before .before .before) .there, c .place2 .ensures)
 
 comes-before-requires : tie.Need-comes-before-requires
 comes-before-requires c κs =
     let a = y (d c) .args in
     (half-in-range (a .s .now) (a .scene .g) (a .j) (is-g c) (good-g (d c)), half-in-range (a .s .now) (a .scene .f) (a .i) (is-f c) (good-f (d c)))
 
-returns-3 : tie.Need-returns-3
-returns-3 c =
+returns-4 : tie.Need-returns-4
+returns-4 c =
     let r = c .before in
     let a = y (d r) .args in
     ap not (c .comes-before .ensures ∙ ap₂ comesBefore (is-g r) (is-f r)) ∙ sym (both-left (a .i) (total (a .s .now) (a .scene) true) (a .j) (total (a .s .now) (a .scene) false) (later (a .s .now) (a .scene) (a .i) (a .j)) (of-f (d r .before .before)) (of-g (d r)))
@@ -103,9 +115,10 @@ takes-first-spec =
     returns
     event-count-requires-2
     returns-2
+    returns-3
     place-requires
     halfsegment-requires
     place-requires-2
     halfsegment-requires-2
     comes-before-requires
-    returns-3)
+    returns-4)

@@ -1,13 +1,13 @@
--- `meetings::key` meets its contract, by the definition.
+-- `keys::key` meets its contract, by the definition.
 use Prim.Native.Nat.{_+_, _*_}
 use mathlib.Core.Path.{ap, ap₂, _∙_}
 use borrow.Author.Needs.{needs}
 use mir.Facts.{toZ-ofZ}
 use Rattle.plane.specs.Plane.{limit}
 use Rattle.plane.proofs.Machine.{Held, within-x, within-y}
-use Rattle.meetings.specs.Keyed.{raised, key}
-use Rattle.meetings.proofs.key.Statement.{statement}
-use Rattle.meetings.proofs.key.Tie as tie
+use Rattle.keys.specs.Keyed.{raised, key}
+use Rattle.keys.proofs.key.Statement.{statement}
+use Rattle.keys.proofs.key.Tie as tie
 
 held : (c : tie.Start) → Held (c .args .p)
 held c = search needs

@@ -6,14 +6,14 @@ use mathlib.Core.Bool.{Bool, true, false, _&&_, _||_}
 use lib.Dec.{T, ltb, eqb, lt→ltb}
 use lib.IntN.{ℤ, pos, negsuc, natAbs, _+ℤ_}
 use lib.Signed.{ltZ}
-use borrow.Author.Tests.{ltb-true, ltb-false, le-ltb, eq-eqb, eqb-true}
+use borrow.Author.Tests.{ltb-true, ltb-false, lt-ltb, le-ltb, eq-eqb, eqb-true}
 use Rattle.whole.specs.Count.{eqZ}
 use Rattle.whole.proofs.Logic.{is-true, true-is, or-left, or-right, and-make, same-test}
 use Rattle.plane.specs.declared.Point.{Point}
 use Rattle.plane.specs.Plane.{limit, inRange, before, samePoint}
 use Rattle.plane.proofs.Equal.{point-eq, samePoint-read, samePoint-refl}
 use Rattle.plane.proofs.Machine.{eqZ-yes, within-x, within-y}
-use Rattle.meetings.specs.Keyed.{raised, key, top}
+use Rattle.keys.specs.Keyed.{raised, key, top, next}
 
 -- ---- a coordinate in range
 
@@ -90,3 +90,19 @@ module _ (p q : Point) (h : T (inRange p)) (k : T (inRange q)) where
           or-right (ltZ (p .x) (q .x)) (eqZ (p .x) (q .x) && ltZ (p .y) (q .y))
           (and-make (eqZ (p .x) (q .x)) (ltZ (p .y) (q .y)) (is-true (eqZ (p .x) (q .x)) (eqZ-yes (p .x) (q .x) (raised-once (p .x) (q .x) (within-x limit p h) (within-x limit q k) (w .0))))
           (raised-less (p .y) (q .y) (within-y limit p h) (within-y limit q k) (w .1)))
+
+-- ---- the key of the next element, or the top
+
+module _ (n : ℕ) (u : ℕ → ℕ) where
+  pub next-in : (i : ℕ) → i < n → next n u i ≡ u i
+  next-in i h = rw (lt-ltb i n h)
+
+  pub next-end : (i : ℕ) → n ≤ i → next n u i ≡ top
+  next-end i h = rw (le-ltb i n h)
+
+  pub next-low : (i : ℕ) → next n u i < top → i < n
+  next-low i h = go (ltb i n) refl
+    where
+      go : (b : Bool) → ltb i n ≡ b → i < n
+      go true e = ltb-true i n e
+      go false e = absurd (omega (arith, next-end i (ltb-false i n e)))

@@ -1,4 +1,4 @@
--- `meetings::dominating` meets its contract: the right end stands 8 bytes after the left end.
+-- `keys::dominating` meets its contract: the right end stands 8 bytes after the left end.
 use Prim.Native.Nat.{ℕ, _+_, _*_}
 use native.Mathlib.Omega.{arith}
 use mir.Val.{boolByte}
@@ -10,8 +10,8 @@ use borrow.Author.Needs.{needs}
 use Rattle.plane.specs.Plane.{choose, dominating}
 use Rattle.scene.specs.Read.{byte, pointFrom, pointAt}
 use Rattle.segments.proofs.Walk.{byte-small}
-use Rattle.meetings.proofs.dominating.Statement.{statement}
-use Rattle.meetings.proofs.dominating.Tie as tie
+use Rattle.keys.proofs.dominating.Statement.{statement}
+use Rattle.keys.proofs.dominating.Tie as tie
 
 chosen : (s : List ℕ) (at : ℕ) (b : Bool) → pointAt s (at + 8 * boolByte (not b)) ≡ choose b (pointFrom s (at + 1)) (pointFrom s (at + 9))
 chosen s at true = ap (pointFrom s) left

@@ -1,4 +1,4 @@
--- `meetings::raised` meets its contract: a coordinate in range is at least the least one, so the sum is not negative.
+-- `keys::raised` meets its contract: a coordinate in range is at least the least one, so the sum is not negative.
 use Prim.Native.Nat.{_*_, _≤_}
 use native.Mathlib.Omega.{arith}
 use mathlib.Core.Path.{_≡_, sym, ap, subst, _∙_}
@@ -11,10 +11,10 @@ use mir.Val.{SFits, Fits, toZ, ofZ}
 use mir.Facts.{toZ-ofZ, sfits-widen}
 use Rattle.plane.specs.Plane.{limit}
 use Rattle.plane.proofs.Machine.{natAbs-sum, small-fits}
-use Rattle.meetings.specs.Keyed.{raised}
-use Rattle.meetings.proofs.Keys.{raised-is, raised-most}
-use Rattle.meetings.proofs.raised.Statement.{statement}
-use Rattle.meetings.proofs.raised.Tie as tie
+use Rattle.keys.specs.Keyed.{raised}
+use Rattle.keys.proofs.Keys.{raised-is, raised-most}
+use Rattle.keys.proofs.raised.Statement.{statement}
+use Rattle.keys.proofs.raised.Tie as tie
 
 -- a coordinate and the sum, as the machine has them
 abbrev wide : ℤ → ℤ

@@ -1,16 +1,16 @@
--- `meetings::key_of` meets its contract: the key of the record's point, or the top past the last element.
+-- `keys::key_of` meets its contract: the key of the record's point, or the top past the last element.
 use native.Mathlib.Omega.{arith}
 use mathlib.Core.Path.{_≡_, sym, ap, subst, _∙_}
 use lib.Dec.{T}
 use Rattle.plane.specs.declared.Point.{Point}
 use Rattle.plane.specs.Plane.{inRange}
 use Rattle.segments.proofs.Elements.{fits}
-use Rattle.meetings.specs.Met.{elementPoint}
-use Rattle.meetings.specs.Keyed.{key, keys}
-use Rattle.meetings.proofs.Runs.{next-in, next-end}
-use Rattle.meetings.proofs.Elements.{point-is, point-in-range}
-use Rattle.meetings.proofs.key_of.Statement.{statement}
-use Rattle.meetings.proofs.key_of.Tie as tie
+use Rattle.keys.specs.Keyed.{elementPoint}
+use Rattle.keys.specs.Keyed.{key, keys}
+use Rattle.keys.proofs.Keys.{next-in, next-end}
+use Rattle.keys.proofs.Elements.{point-is, point-in-range}
+use Rattle.keys.proofs.key_of.Statement.{statement}
+use Rattle.keys.proofs.key_of.Tie as tie
 
 -- once the point is read
 point-read : (c : tie.After-point-of) → let z = c .before .before .before .before in c .point-of .result ≡ elementPoint (z .args .s .now) (z .args .l) (z .args .i)

@@ -1,8 +1,8 @@
--- `meetings::point_of` meets its contract: each arm reads the point of its own type.
+-- `keys::point_of` meets its contract: each arm reads the point of its own type.
 use native.Mathlib.Omega.{arith}
 use borrow.Author.Needs.{needs}
-use Rattle.meetings.proofs.point_of.Statement.{statement}
-use Rattle.meetings.proofs.point_of.Tie as tie
+use Rattle.keys.proofs.point_of.Statement.{statement}
+use Rattle.keys.proofs.point_of.Tie as tie
 
 enum-told : tie.Need-enum-told
 enum-told c = search needs

@@ -1,0 +1,2 @@
+-- The points of an object's elements as numbers.
+pub mod Keyed

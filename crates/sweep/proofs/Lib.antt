@@ -1,0 +1,2 @@
+-- What the loop over all events rests on.
+pub mod Next
