@@ -102,10 +102,15 @@ fn is_swept(s: &[u8], scene: Scene, notes: &mut [u8]) -> bool
     requires { ⌜ IsScene (now s) scene × (2048 ≤ length (now notes)) ⌝ }
     ensures { λ r. ⌜ (length (now (notes .exit)) ≡ length (now (notes .entry))) × (T r → (geometryVerdict (now (s .entry)) scene ≡ Verdict.Sound) × Noted (now (s .entry)) scene (now (notes .exit))) ⌝ }
 {
-    match scene_fault(s, scene, 10) {
-        Fault::At(_) => false,
-        Fault::Nothing => sweep::accepts(s, scene, notes),
+    let f = scene.f;
+    let g = scene.g;
+    if !ordered::is_ordered(s, f) {
+        return false;
     }
+    if !ordered::is_ordered(s, g) {
+        return false;
+    }
+    sweep::accepts(s, scene, notes)
 }
 
 // The same: by the sweep where it accepts, which is fast and leaves its notes, and else condition by condition.

@@ -1,7 +1,7 @@
 -- How elements of two objects meet at points, by degrees. Where a scene is taken, a line's boundary points are those of degree 1, an end of one object
 -- lies on the other where it has a degree there too, and the flags at ends follow from the degrees that occur.
 use Prim.Native.Nat.{ℕ}
-use mathlib.Core.Bool.{Bool, false, _&&_}
+use mathlib.Core.Bool.{false, _&&_}
 use mathlib.Core.List.{List, [], _∷_}
 use lib.Dec.{eqb, ltb}
 use lib.ListN.{getD}

@@ -14,7 +14,7 @@ use Rattle.scene.specs.declared.Layout.{Layout}
 use Rattle.scene.specs.declared.Scene.{Scene}
 use Rattle.scene.specs.Read.{IsObject}
 use Rattle.scene.specs.Conditions.{hasSegments, half}
-use Rattle.keys.specs.Keyed.{key, elementPoint, keys, nextKey}
+use Rattle.keys.specs.Keyed.{key, keys, nextKey}
 use Rattle.keys.proofs.Keys.{key-less, next-in}
 use Rattle.keys.proofs.Elements.{point-in-range, point-of-half}
 use Rattle.strands.specs.Swept.{objectOf, total}

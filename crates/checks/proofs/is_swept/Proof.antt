@@ -1,77 +1,63 @@
--- `checks::is_swept` meets its contract: 10 finds no fault, and where the sweep accepts, 11 to 15 find none.
-use mathlib.Core.Path.{_≡_, refl, sym, _∙_}
+-- `checks::is_swept` meets its contract: 10 finds no fault in either object, and where the sweep accepts, 11 to 15 find none.
+use mathlib.Core.Path.{_≡_, refl}
 use mathlib.Core.Bool.{Bool, true, false}
-use mathlib.Core.List.{List}
-use Prim.Native.Nat.{ℕ}
 use borrow.Author.Needs.{needs}
-use Rattle.scene.specs.declared.Scene.{Scene}
-use Rattle.scene.specs.declared.Fault.{Fault}
-use Rattle.scene.specs.declared.Fault.the-variants.{At, Nothing}
-use Rattle.scene.specs.Conditions.{orElse, outOfOrder}
-use Rattle.scene.proofs.Taken.{taken-scene}
-use Rattle.segments.proofs.Indices.{not-nothing}
+use borrow.Author.Tests.{not-false}
+use Rattle.whole.proofs.Logic.{is-true}
+use Rattle.scene.specs.declared.Fault.the-variants.{Nothing}
+use Rattle.scene.specs.Conditions.{outOfOrder}
 use Rattle.strands.specs.Swept.{objectOf}
-use Rattle.checks.specs.Refusals.{sceneFaultUnder}
+use Rattle.strands.proofs.Objects.{read}
 use Rattle.checks.proofs.Verdicts.{swept}
 use Rattle.checks.proofs.is_swept.Statement.{statement}
 use Rattle.checks.proofs.is_swept.Tie as tie
 
 -- both objects are in order
-in-order : (s : List ℕ) (sc : Scene) → sceneFaultUnder s sc 10 ≡ Nothing → (first : Bool) → outOfOrder s (objectOf s sc first) ≡ Nothing
-unfolding outOfOrder
-in-order s sc e = go (outOfOrder s (sc .f)) refl e
-  where
-    go : (f : Fault) → outOfOrder s (sc .f) ≡ f → orElse f (outOfOrder s (sc .g)) ≡ Nothing → (first : Bool) → outOfOrder s (objectOf s sc first) ≡ Nothing
-    go (At p) q e = absurd (not-nothing e)
-    go Nothing q e = λ first. elim first as (λ b. outOfOrder s (objectOf s sc b) ≡ Nothing) [ true ↦ q | false ↦ e ]
+module _ (c : tie.Else2) where
+  abbrev e : tie.Else1
+  e = c .before .before
 
-ordered : (c : tie.After-enum-told2)
-    → let z = c .before .before .before .before .before in
-    (first : Bool) → outOfOrder (z .args .s .now) (objectOf (z .args .s .now) (z .args .scene) first) ≡ Nothing
-ordered c =
-    let z = c .before .before .before .before .before in
-    in-order (z .args .s .now) (z .args .scene) (sym (c .before .before .scene-fault .ensures) ∙ c .enum-told2 .given .1)
+  abbrev z : tie.Start
+  z = e .before .before .before .before .before .before
 
-scene-fault-requires : tie.Need-scene-fault-requires
-scene-fault-requires c κs =
-    let z = c .before .before in
-    let t = taken-scene (z .args .s .now) (z .args .scene) (z .pre .0) in
-    (t .f-read, t .g-taken .read)
+  in-order : (first : Bool) → outOfOrder (z .args .s .now) (objectOf (z .args .s .now) (z .args .scene) first) ≡ Nothing
+  in-order true = let r = e .before .is-ordered in r .ensures .0 (is-true (r .result) (not-false (r .result) (e .if1 .left)))
+  in-order false = let r = c .before .is-ordered2 in r .ensures .0 (is-true (r .result) (not-false (r .result) (c .if2 .left)))
 
-enum-told : tie.Need-enum-told
-enum-told c = search needs
-
-enum-told-2 : tie.Need-enum-told-2
-enum-told-2 c = search needs
-
-accepts-requires : tie.Need-accepts-requires
-accepts-requires c κs =
-    let z = c .before .before .before .before .before .before in
-    (z .pre .0, ordered (c .before), z .pre .1)
+is-ordered-requires : tie.Need-is-ordered-requires
+is-ordered-requires c κs = let z = c .before .before .before .before in read (z .args .s .now) (z .args .scene) (z .pre .0) true
 
 returns : tie.Need-returns
 returns c = (refl, λ no. absurd no)
 
+is-ordered-requires-2 : tie.Need-is-ordered-requires-2
+is-ordered-requires-2 c κs = let z = c .before .before .before .before .before .before in read (z .args .s .now) (z .args .scene) (z .pre .0) false
+
+returns-2 : tie.Need-returns-2
+returns-2 c = (refl, λ no. absurd no)
+
+accepts-requires : tie.Need-accepts-requires
+accepts-requires c κs = let z = z (c .before) in (z .pre .0, in-order (c .before), z .pre .1)
+
 same-length : tie.Need-same-length
 same-length c = search needs
 
-returns-2 : tie.Need-returns-2
-returns-2 c =
+returns-3 : tie.Need-returns-3
+returns-3 c =
     let r = c .before .before in
-    let o = r .before .before in
-    let z = o .before .before .before .before .before in (
+    let o = r .before .before in (
       r .accepts .ensures .0,
-      λ t. let w = r .accepts .ensures .1 t in (swept (z .args .s .now) (z .args .scene) (ordered o) (w .0), w .1),
+      λ t. let w = r .accepts .ensures .1 t in (swept (z o .args .s .now) (z o .args .scene) (in-order o) (w .0), w .1),
     )
 
 pub is-swept-spec : {M : Type 1} → statement M
 is-swept-spec =
     tie.close
     (tie.spec
-    scene-fault-requires
-    enum-told
-    enum-told-2
-    accepts-requires
+    is-ordered-requires
     returns
+    is-ordered-requires-2
+    returns-2
+    accepts-requires
     same-length
-    returns-2)
+    returns-3)

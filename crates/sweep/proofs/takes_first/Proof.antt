@@ -1,5 +1,5 @@
 -- `sweep::takes_first` meets its contract: the tests of the definition, in its order, the last one by keys where they differ.
-use Prim.Native.Nat.{ℕ, _<_, _≤_}
+use Prim.Native.Nat.{ℕ, _<_}
 use native.Mathlib.Omega.{arith}
 use mathlib.Core.Path.{_≡_, sym, ap, ap₂, _∙_}
 use mathlib.Core.Bool.{Bool, true, false, not}

@@ -1,0 +1,2 @@
+-- What the loops over points and over halfsegments have in common.
+pub mod Pass
