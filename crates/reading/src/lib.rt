@@ -136,14 +136,15 @@ fn is_end(k: Kind) -> bool
     }
 }
 
-// The elements and the end of an object whose type record stands at start.
+// The elements and the end of an object whose type record stands at start. Elements without fault are counted first; what comes after them is read record
+// by record.
 fn elements(s: &[u8], k: Shape, start: usize) -> CheckedObject
     requires { ⌜ start + 2 ≤ length (now s) ⌝ }
     ensures { λ r. ⌜ r ≡ elementsFrom (now (s .entry)) most (record { shape = k; start = start; count = 0 }) ⌝ }
 {
     let size = records::size(k);
-    let mut at = start + 2;
-    let mut count: usize = 0;
+    let mut count = faultless::count(s, k, start + 2);
+    let mut at = start + 2 + count * size;
     loop {
         match element_record(s, at, k, count == 1024) {
             Record::Bad(r) => {

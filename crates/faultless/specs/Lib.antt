@@ -1,0 +1,2 @@
+-- What the tight loop over elements without fault promises.
+pub mod Faultless
