@@ -27,18 +27,27 @@ const FEW: usize = 32;
 
 // ---- a segment begins
 
-// Are an odd number of the first k entries of F, or not of F? G starts at an offset.
-fn has_odd_own(start: u16, first: bool, status: &[u16], k: usize) -> bool
+// Are an odd number of the first k entries F's? G starts at an offset.
+fn has_odd_first(start: u16, status: &[u16], k: usize) -> bool
     requires { ⌜ k ≤ length (now status) ⌝ }
-    ensures { λ r. ⌜ r ≡ odd (count (λ e. Bool·beq first (ltb e start)) (take k (now (status .entry)))) ⌝ }
+    ensures { λ r. ⌜ r ≡ odd (count (λ e. ltb e start) (take k (now (status .entry)))) ⌝ }
 {
     let mut odd = false;
     let mut i: usize = 0;
     while i < k {
-        odd = odd != (first == (status[i] < start));
+        odd = odd != (status[i] < start);
         i += 1;
     }
     odd
+}
+
+// Are an odd number of the first k entries of F, or not of F?
+fn has_odd_own(start: u16, first: bool, status: &[u16], k: usize) -> bool
+    requires { ⌜ k ≤ length (now status) ⌝ }
+    ensures { λ r. ⌜ r ≡ odd (count (λ e. Bool·beq first (ltb e start)) (take k (now (status .entry)))) ⌝ }
+{
+    let odd = has_odd_first(start, status, k);
+    if first { odd } else { odd != (k % 2 == 1) }
 }
 
 fn has_region(scene: Scene, first: bool) -> bool

@@ -1,69 +1,51 @@
--- `event::has_odd_own` meets its contract. The loop's invariant: `odd` is the parity of the first `i` entries. The measure is the number of
--- entries that are left.
-use Prim.Native.Nat.{ℕ, _-_, _≤_}
-use native.Mathlib.Omega.{arith}
-use mathlib.Core.Path.{_≡_, sym, ap, _∙_}
-use mathlib.Core.Bool.{Bool, Bool·beq}
+-- `event::has_odd_own` meets its contract: the entries are F's or not, so two of the three parities give the third.
+use Prim.Native.Nat.{ℕ, _+_}
+use mathlib.Core.Path.{_≡_, refl, sym, ap, _∙_}
+use mathlib.Core.Bool.{Bool, true, false, not, Bool·beq}
+use borrow.Author.Needs.{needs}
 use lib.Dec.{ltb}
 use lib.ListN.{take}
-use Rattle.whole.proofs.Parity.{parity, parity-nil, odd-count}
-use Rattle.strands.proofs.Entries.{parity-one}
+use lib.Seq.{length-take-le}
+use Rattle.whole.specs.Count.{odd, count}
+use Rattle.whole.proofs.Counted.{count-same}
+use Rattle.strands.proofs.Entries.{own-and-other}
+use Rattle.event.proofs.Odd.{odd-rest}
 use Rattle.event.proofs.has_odd_own.Statement.{statement}
 use Rattle.event.proofs.has_odd_own.Tie as tie
 
-abbrev isOwn : ℕ → Bool → ℕ → Bool
-isOwn start first e = Bool·beq first (ltb e start)
+module _ (c : tie.After-has-odd-first) where
+  abbrev z : tie.Start
+  z = c .before .before
 
-abbrev Inv-loop : tie.InvT-loop
-Inv-loop start first status k odd₀ i₀ odd i = (i ≤ k) × (odd ≡ parity (isOwn start first) (take i status))
+  abbrev of : Bool → ℕ
+  of b = count (λ e. Bool·beq b (ltb e (z .args .start))) (take (z .args .k) (z .args .status .now))
 
-abbrev μ-loop : tie.MeasureT-loop
-μ-loop start first status k odd₀ i₀ odd i = k - i
+  of-first : c .has-odd-first .result ≡ odd (of true)
+  of-first =
+      c .has-odd-first .ensures
+      ∙ ap odd (count-same (λ e. ltb e (z .args .start)) (λ e. Bool·beq true (ltb e (z .args .start))) (take (z .args .k) (z .args .status .now)) (λ e m. same (ltb e (z .args .start))))
+    where
+      same : (b : Bool) → b ≡ Bool·beq true b
+      same true = refl
+      same false = refl
 
--- at the end
-last : (c : tie.After-loop Inv-loop μ-loop) → c .before .loop .i ≡ c .before .before .args .k
-last c = omega arith
+  all : of true + of false ≡ z .args .k
+  all = own-and-other true (λ e. ltb e (z .args .start)) (take (z .args .k) (z .args .status .now)) ∙ length-take-le (z .args .k) (z .args .status .now) (z .pre)
 
-loop-holds : tie.Need-loop-holds Inv-loop μ-loop
-loop-holds c = (omega arith, sym (parity-nil _))
+has-odd-first-requires : tie.Need-has-odd-first-requires
+has-odd-first-requires c κs = search needs
 
-mul-odd : tie.Need-mul-odd Inv-loop μ-loop
-mul-odd c = omega arith
+returns : tie.Need-returns
+returns c = let d = c .before in of-first d ∙ ap (λ (b : Bool). odd (of d b)) (sym (c .if1 .taken))
 
-shared-slice-read-odd : tie.Need-shared-slice-read-odd Inv-loop μ-loop
-shared-slice-read-odd c = omega arith
-
-add-i : tie.Need-add-i Inv-loop μ-loop
-add-i c = omega arith
-
-loop-less : tie.Need-loop-less Inv-loop μ-loop
-loop-less c = omega arith
-
-loop-again : tie.Need-loop-again Inv-loop μ-loop
-loop-again c =
-    let d = c .before .before in
-    let a = d .before .args in (
-      omega arith,
-      parity-one (isOwn (a .start) (a .first)) (a .status .now) (d .loop .i) (omega arith) (d .loop .inv .1),
-    )
-
-returns : tie.Need-returns Inv-loop μ-loop
-returns c =
-    let a = c .before .before .args in
-    c .before .loop .inv .1
-    ∙ ap (λ (m : ℕ). parity (isOwn (a .start) (a .first)) (take m (a .status .now))) (last c)
-    ∙ sym (odd-count (isOwn (a .start) (a .first)) (take (a .k) (a .status .now)))
+returns-2 : tie.Need-returns-2
+unfolding odd
+returns-2 c =
+    let d = c .before in
+    ap (λ (b : Bool). not (Bool·beq b (odd (z d .args .k)))) (of-first d)
+    ∙ ap (λ (m : ℕ). not (Bool·beq (odd (of d true)) (odd m))) (sym (all d))
+    ∙ odd-rest (of d true) (of d false)
+    ∙ ap (λ (b : Bool). odd (of d b)) (sym (c .if1 .left))
 
 pub has-odd-own-spec : {M : Type 1} → statement M
-has-odd-own-spec =
-    tie.close
-    (tie.spec
-    Inv-loop
-    μ-loop
-    loop-holds
-    mul-odd
-    shared-slice-read-odd
-    add-i
-    loop-less
-    loop-again
-    returns)
+has-odd-own-spec = tie.close (tie.spec has-odd-first-requires returns returns-2)
