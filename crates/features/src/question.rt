@@ -6,7 +6,6 @@ use crate::masks;
 use crate::walk;
 use checks::Noting;
 use checks::Verdict;
-use flags::collected;
 use scene::CheckedScene;
 use scene::Fault;
 use scene::Refusal;

@@ -1,6 +1,5 @@
 // The walk: the flags of one element of an object, by the types of both, and of all its elements.
 use flags::Found;
-use flags::collected;
 use plane::Point;
 use plane::Segment;
 use scene::Layout;

@@ -1,7 +1,6 @@
 // Where elements of two objects meet: one walk over the points of both, in their order. A point is held as one number, its key, so that a comparison is
 // one test and the end of an object needs none.
 use flags::Found;
-use flags::collected;
 use plane::Point;
 use scene::Layout;
 use scene::Scene;

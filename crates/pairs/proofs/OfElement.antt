@@ -7,15 +7,12 @@ use lib.Dec.{ltb}
 use Rattle.whole.proofs.Counted.{some-count}
 use Rattle.plane.specs.declared.Point.{Point}
 use Rattle.plane.specs.declared.Segment.{Segment}
-use Rattle.plane.specs.Plane.{HPoint, grid, midpoint, sameSegment, isEnd, onSome, inside, endsAt}
+use Rattle.plane.specs.Plane.{grid, midpoint, sameSegment, isEnd, onSome, inside, endsAt}
 use Rattle.flags.specs.declared.Found.{Found}
 use Rattle.flags.specs.declared.Middle.{Middle}
 use Rattle.flags.specs.Flags.{Edge, outline, hasPoint, hasSegment, onObject, hasEnd, isBound, joins}
 use Rattle.flags.specs.Walk.{found, either, tested, sameIa, hasEdge, atEnd, Clear, edgeByRegion, classByMiddle, pointByPoints, pointByRegion, segmentByLine, segmentByRegion, endByLine, endByRegion, middleOf, sharedByRegion}
-
-inside-on : (l : List Segment) (p : HPoint) → onSome l p ≡ true → inside l p ≡ false
-unfolding inside
-inside-on l p e = rw e
+use Rattle.flags.proofs.Inside.{inside-on}
 
 -- ---- a point
 

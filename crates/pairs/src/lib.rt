@@ -2,7 +2,6 @@
 // answers make necessary.
 use flags::Found;
 use flags::Middle;
-use flags::collected;
 use flags::position;
 use flags::searches;
 use plane::Point;
@@ -24,7 +23,7 @@ pub fn point_by_points(s: &[u8], other: Layout, first: bool, v: Point) -> Found
     requires { ⌜ IsObject (now s) other ⌝ }
     ensures { λ r. ⌜ r ≡ tested (pointByPoints first (pointsOf (now (s .entry)) other)) v ⌝ }
 {
-    let has = searches::has_point(s, other, v);
+    let has = location::has_point(s, other, v);
     Found {
         b0: !has,
         b1: first & has,
@@ -41,8 +40,8 @@ pub fn point_by_line(s: &[u8], other: Layout, v: Point) -> Found
     requires { ⌜ IsObject (now s) other × T (inRange v) ⌝ }
     ensures { λ r. ⌜ r ≡ tested (pointByLine (segments (now (s .entry)) other)) v ⌝ }
 {
-    let on = searches::is_on_object(s, other, v);
-    let bound = position::is_bound(s, other, v);
+    let on = location::is_on_object(s, other, v);
+    let bound = location::is_bound(s, other, v);
     Found {
         b0: !on,
         b1: on & !bound,
@@ -59,7 +58,7 @@ pub fn point_by_region(s: &[u8], other: Layout, v: Point) -> Found
     requires { ⌜ IsObject (now s) other × T (inRange v) ⌝ }
     ensures { λ r. ⌜ r ≡ tested (pointByRegion (segments (now (s .entry)) other)) v ⌝ }
 {
-    if searches::is_on_object(s, other, v) {
+    if location::is_on_object(s, other, v) {
         return Found {
             b0: false,
             b1: true,
@@ -71,7 +70,7 @@ pub fn point_by_region(s: &[u8], other: Layout, v: Point) -> Found
             b7: false,
         };
     }
-    let inside = position::is_inside(s, other, v);
+    let inside = location::is_inside(s, other, v);
     Found {
         b0: inside,
         b1: false,
@@ -90,8 +89,8 @@ fn is_bound_apart(s: &[u8], own: Layout, other: Layout, v: Point) -> bool
     requires { ⌜ IsObject (now s) own × IsObject (now s) other ⌝ }
     ensures { λ r. ⌜ r ≡ (isBound (segments (now (s .entry)) own) v && not (hasPoint (pointsOf (now (s .entry)) other) v)) ⌝ }
 {
-    if position::is_bound(s, own, v) {
-        !searches::has_point(s, other, v)
+    if location::is_bound(s, own, v) {
+        !location::has_point(s, other, v)
     } else {
         false
     }
@@ -123,9 +122,9 @@ fn end_by_line(s: &[u8], own: Layout, other: Layout, v: Point) -> Found
     ensures { λ r. ⌜ r ≡ endByLine (segments (now (s .entry)) own) (segments (now (s .entry)) other) v ⌝ }
 {
     let ends = segments::count_ends(s, other, v);
-    let bound = position::is_boundary(ends);
-    if position::is_bound(s, own, v) {
-        let on = searches::is_on_object(s, other, v);
+    let bound = location::is_boundary(ends);
+    if location::is_bound(s, own, v) {
+        let on = location::is_on_object(s, other, v);
         Found {
             b0: false,
             b1: false,
@@ -209,8 +208,8 @@ fn end_by_region(s: &[u8], own: Layout, other: Layout, t: Segment, v: Point) -> 
     requires { ⌜ IsObject (now s) own × IsObject (now s) other × T (inRange v) ⌝ }
     ensures { λ r. ⌜ r ≡ endByRegion (segments (now (s .entry)) own) (segments (now (s .entry)) other) t v ⌝ }
 {
-    let joins = searches::joins(s, other, t, v);
-    if !position::is_bound(s, own, v) {
+    let joins = location::joins(s, other, t, v);
+    if !location::is_bound(s, own, v) {
         return Found {
             b0: false,
             b1: false,
@@ -222,7 +221,7 @@ fn end_by_region(s: &[u8], own: Layout, other: Layout, t: Segment, v: Point) -> 
             b7: false,
         };
     }
-    if searches::is_on_object(s, other, v) {
+    if location::is_on_object(s, other, v) {
         return Found {
             b0: false,
             b1: false,
@@ -234,7 +233,7 @@ fn end_by_region(s: &[u8], own: Layout, other: Layout, t: Segment, v: Point) -> 
             b7: false,
         };
     }
-    let inside = position::is_inside(s, other, v);
+    let inside = location::is_inside(s, other, v);
     Found {
         b0: false,
         b1: false,
@@ -328,7 +327,7 @@ fn joins_at_end(s: &[u8], other: Layout, t: Segment) -> bool
     requires { ⌜ IsObject (now s) other ⌝ }
     ensures { λ r. ⌜ r ≡ atEnd (joins (segments (now (s .entry)) other)) t ⌝ }
 {
-    searches::joins(s, other, t, t.left) || searches::joins(s, other, t, t.right)
+    location::joins(s, other, t, t.left) || location::joins(s, other, t, t.right)
 }
 
 pub fn edge_by_region(s: &[u8], other: Layout, first: bool, t: Segment, above: bool) -> Found

@@ -1,9 +1,9 @@
--- `flags::position::is_bound` meets its contract: the rule at the number of ends.
+-- `location::is_bound` meets its contract: the rule at the number of ends.
 use mathlib.Core.Path.{ap, _∙_}
 use Rattle.plane.specs.Plane.{isBoundary}
 use borrow.Author.Needs.{needs}
-use Rattle.flags.proofs.position.is_bound.Statement.{statement}
-use Rattle.flags.proofs.position.is_bound.Tie as tie
+use Rattle.location.proofs.is_bound.Statement.{statement}
+use Rattle.location.proofs.is_bound.Tie as tie
 
 count-ends-requires : tie.Need-count-ends-requires
 count-ends-requires c κs = search needs

@@ -1,8 +1,8 @@
--- `flags::position::is_boundary` meets its contract: the rule itself.
+-- `location::is_boundary` meets its contract: the rule itself.
 use mathlib.Core.Path.{refl}
 use Rattle.plane.specs.Plane.{isBoundary}
-use Rattle.flags.proofs.position.is_boundary.Statement.{statement}
-use Rattle.flags.proofs.position.is_boundary.Tie as tie
+use Rattle.location.proofs.is_boundary.Statement.{statement}
+use Rattle.location.proofs.is_boundary.Tie as tie
 
 returns : tie.Need-returns
 unfolding isBoundary

@@ -1,10 +1,10 @@
 // Flags as eight bools: none, those of either, those wanted, and to and from the bits of a number.
-use crate::Found;
+use flags::Found;
 ghost use mathlib.Core.Path.{_≡_};
 ghost use Prim.Native.Nat.{_<_};
 ghost use Rattle.whole.specs.Count.{bit};
 ghost use Rattle.flags.specs.Flags.{pack, hasBit};
 ghost use Rattle.flags.specs.Walk.{bits, bitwise, nothing, either, masked, lacks};
 
 pub fn nothing() -> Found
     ensures { λ r. ⌜ r ≡ nothing ⌝ }

@@ -1,12 +1,12 @@
--- `flags::position::is_inside` meets its contract: the parity of the count at doubled coordinates.
+-- `location::is_inside` meets its contract: the parity of the count at doubled coordinates.
 use mathlib.Core.Path.{sym, ap, _∙_}
 use Rattle.whole.specs.Count.{odd}
 use Rattle.plane.specs.Plane.{grid}
 use Rattle.scene.specs.Conditions.{segments}
 use Rattle.flags.proofs.Inside.{inside-off, count-doubled}
 use borrow.Author.Needs.{needs}
-use Rattle.flags.proofs.position.is_inside.Statement.{statement}
-use Rattle.flags.proofs.position.is_inside.Tie as tie
+use Rattle.location.proofs.is_inside.Statement.{statement}
+use Rattle.location.proofs.is_inside.Tie as tie
 
 doubled-requires : tie.Need-doubled-requires
 doubled-requires c κs = search needs

@@ -1,13 +1,13 @@
--- `flags::searches::is_on_object` meets its contract. The loop's invariant: the answer is that of the search from the element `i` on, whose record
+-- `location::is_on_object` meets its contract. The loop's invariant: the answer is that of the search from the element `i` on, whose record
 -- stands at `at`. The measure is the number of elements that are left.
 use Prim.Native.Nat.{_-_}
 use native.Mathlib.Omega.{arith}
 use borrow.Author.Needs.{needs}
 use Rattle.plane.specs.Plane.{grid, on, onSome}
 use Rattle.segments.proofs.Walk.{object-fits}
 use Rattle.flags.proofs.Searching.{AmongSegments, none-there, among-segments, turn, nowhere}
-use Rattle.flags.proofs.searches.is_on_object.Statement.{statement}
-use Rattle.flags.proofs.searches.is_on_object.Tie as tie
+use Rattle.location.proofs.is_on_object.Statement.{statement}
+use Rattle.location.proofs.is_on_object.Tie as tie
 
 abbrev Inv-loop : tie.InvT-loop
 Inv-loop s l v by at₀ i₀ at i = AmongSegments s l (λ t. on t (grid v)) by at i

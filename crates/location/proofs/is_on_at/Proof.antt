@@ -1,10 +1,10 @@
--- `flags::searches::is_on_at` meets its contract: a left halfsegment, then the test for a point on its segment.
+-- `location::is_on_at` meets its contract: a left halfsegment, then the test for a point on its segment.
 use borrow.Author.Needs.{needs}
 use Rattle.plane.specs.declared.Segment.{Segment}
 use Rattle.plane.specs.Plane.{grid, on}
 use Rattle.segments.proofs.Walk.{at-left, at-right, in-range-at}
-use Rattle.flags.proofs.searches.is_on_at.Statement.{statement}
-use Rattle.flags.proofs.searches.is_on_at.Tie as tie
+use Rattle.location.proofs.is_on_at.Statement.{statement}
+use Rattle.location.proofs.is_on_at.Tie as tie
 
 add-if1 : tie.Need-add-if1
 add-if1 c = search needs

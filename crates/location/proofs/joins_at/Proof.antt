@@ -1,9 +1,9 @@
--- `flags::searches::joins_at` meets its contract: a left halfsegment, then the test for an end of another segment.
+-- `location::joins_at` meets its contract: a left halfsegment, then the test for an end of another segment.
 use borrow.Author.Needs.{needs}
 use Rattle.flags.specs.Walk.{joined}
 use Rattle.segments.proofs.Walk.{at-left, at-right}
-use Rattle.flags.proofs.searches.joins_at.Statement.{statement}
-use Rattle.flags.proofs.searches.joins_at.Tie as tie
+use Rattle.location.proofs.joins_at.Statement.{statement}
+use Rattle.location.proofs.joins_at.Tie as tie
 
 add-if1 : tie.Need-add-if1
 add-if1 c = search needs

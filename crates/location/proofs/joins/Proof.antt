@@ -1,13 +1,13 @@
--- `flags::searches::joins` meets its contract. The loop's invariant: the answer is that of the search from the element `i` on, whose record
+-- `location::joins` meets its contract. The loop's invariant: the answer is that of the search from the element `i` on, whose record
 -- stands at `at`. The measure is the number of elements that are left.
 use Prim.Native.Nat.{_-_}
 use native.Mathlib.Omega.{arith}
 use borrow.Author.Needs.{needs}
 use Rattle.flags.specs.Walk.{joined}
 use Rattle.segments.proofs.Walk.{object-fits}
 use Rattle.flags.proofs.Searching.{AmongSegments, none-there, among-segments, turn, nowhere}
-use Rattle.flags.proofs.searches.joins.Statement.{statement}
-use Rattle.flags.proofs.searches.joins.Tie as tie
+use Rattle.location.proofs.joins.Statement.{statement}
+use Rattle.location.proofs.joins.Tie as tie
 
 abbrev Inv-loop : tie.InvT-loop
 Inv-loop s l t v by at₀ i₀ at i = AmongSegments s l (joined t v) by at i

@@ -1,12 +1,12 @@
--- `flags::collected::bit` meets its contract: a bit is 0 or 1.
+-- `collected::bit` meets its contract: a bit is 0 or 1.
 use Prim.Native.Nat.{_<_}
 use native.Mathlib.Omega.{arith}
 use mathlib.Core.Path.{refl}
 use mathlib.Core.Bool.{Bool, true, false}
 use borrow.Author.Needs.{needs}
 use mir.Val.{boolByte}
-use Rattle.flags.proofs.collected.bit.Statement.{statement}
-use Rattle.flags.proofs.collected.bit.Tie as tie
+use Rattle.collected.proofs.bit.Statement.{statement}
+use Rattle.collected.proofs.bit.Tie as tie
 
 small : (b : Bool) → boolByte b < 2
 small true = omega arith

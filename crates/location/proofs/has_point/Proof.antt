@@ -1,4 +1,4 @@
--- `flags::searches::has_point` meets its contract. The loop's invariant: the answer is that of the search from the element `i` on, whose record
+-- `location::has_point` meets its contract. The loop's invariant: the answer is that of the search from the element `i` on, whose record
 -- stands at `at`. The measure is the number of elements that are left.
 use Prim.Native.Nat.{_-_}
 use native.Mathlib.Omega.{arith}
@@ -6,9 +6,9 @@ use mathlib.Core.Path.{ap, _∙_}
 use borrow.Author.Needs.{needs}
 use Rattle.plane.specs.Plane.{samePoint}
 use Rattle.segments.proofs.Walk.{object-fits}
 use Rattle.flags.proofs.Searching.{AmongPoints, among-points, turn, nowhere}
-use Rattle.flags.proofs.searches.has_point.Statement.{statement}
-use Rattle.flags.proofs.searches.has_point.Tie as tie
+use Rattle.location.proofs.has_point.Statement.{statement}
+use Rattle.location.proofs.has_point.Tie as tie
 
 abbrev Inv-loop : tie.InvT-loop
 Inv-loop s l v by at₀ i₀ at i = AmongPoints s l v by at i

@@ -1,9 +1,9 @@
--- `flags::searches::is_joined` meets its contract, by those of the two tests.
+-- `location::is_joined` meets its contract, by those of the two tests.
 use mathlib.Core.Path.{ap₂}
 use mathlib.Core.Bool.{not, _&&_}
 use borrow.Author.Needs.{needs}
-use Rattle.flags.proofs.searches.is_joined.Statement.{statement}
-use Rattle.flags.proofs.searches.is_joined.Tie as tie
+use Rattle.location.proofs.is_joined.Statement.{statement}
+use Rattle.location.proofs.is_joined.Tie as tie
 
 is-same-segment-requires : tie.Need-is-same-segment-requires
 is-same-segment-requires c κs = search needs
