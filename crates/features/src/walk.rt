@@ -21,17 +21,17 @@ fn point_flags(s: &[u8], other: Layout, first: bool, v: Point) -> Found
 {
     let k = other.shape;
     match k {
-        Shape::Points => pairs::point_by_points(s, other, first, v),
+        Shape::Points => pointpairs::point_by_points(s, other, first, v),
         Shape::Line => {
             if first {
-                pairs::point_by_line(s, other, v)
+                pointpairs::point_by_line(s, other, v)
             } else {
                 collected::nothing()
             }
         }
         Shape::Region => {
             if first {
-                pairs::point_by_region(s, other, v)
+                pointpairs::point_by_region(s, other, v)
             } else {
                 collected::nothing()
             }
@@ -50,13 +50,13 @@ fn segment_flags(s: &[u8], own: Layout, other: Layout, first: bool, t: Segment) 
             if first {
                 collected::nothing()
             } else {
-                pairs::segment_by_points(s, own, other, t)
+                pointpairs::segment_by_points(s, own, other, t)
             }
         }
-        Shape::Line => pairs::segment_by_line(s, own, other, first, t),
+        Shape::Line => linepairs::segment_by_line(s, own, other, first, t),
         Shape::Region => {
             if first {
-                pairs::segment_by_region(s, own, other, t)
+                lineregion::segment_by_region(s, own, other, t)
             } else {
                 collected::nothing()
             }
@@ -76,10 +76,10 @@ fn edge_flags(s: &[u8], other: Layout, first: bool, t: Segment, above: bool) -> 
             if first {
                 collected::nothing()
             } else {
-                pairs::edge_by_line(s, other, t)
+                lineregion::edge_by_line(s, other, t)
             }
         }
-        Shape::Region => pairs::edge_by_region(s, other, first, t, above),
+        Shape::Region => regionpairs::edge_by_region(s, other, first, t, above),
     }
 }
 
