@@ -2,8 +2,6 @@
 use crate::Answer;
 use crate::Explored;
 use crate::Vectors;
-use crate::masks;
-use crate::walk;
 use checks::Noting;
 use checks::Verdict;
 use scene::CheckedScene;
