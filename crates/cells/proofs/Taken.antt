@@ -29,7 +29,7 @@ use Rattle.flags.specs.Walk.{edges, edgeOf, pointOf, pointsOf, elementsAs, elem
 use Rattle.features.specs.declared.Vectors.{Vectors}
 use Rattle.features.specs.Vectors.{sceneVectors}
 use Rattle.flags.proofs.ByElement.{outline-edges}
-use Rattle.features.proofs.Wanted.{vector-all-F, vector-all-G}
+use Rattle.masks.proofs.Masks.{vector-all-F, vector-all-G}
 use Rattle.cells.specs.declared.Explored.{Explored}
 use Rattle.matrix.specs.Matrix.{Part, interior, boundary, exterior, Meet, matrixOf, cellAt}
 use Rattle.cells.specs.Explored as E

@@ -13,7 +13,7 @@ use Rattle.scene.specs.declared.CheckedScene.{CheckedScene}
 use Rattle.scene.specs.Read.{shapeNumber}
 use Rattle.scene.specs.Conditions.{object, checkScene}
 use Rattle.flags.specs.Walk.{elementsOf}
-use Rattle.features.specs.Wanted.{vectorOfF, vectorOfG}
+use Rattle.masks.specs.Wanted.{vectorOfF, vectorOfG}
 use Rattle.cells.specs.declared.Row.{Row}
 use Rattle.cells.specs.declared.Explored.{Explored}
 use Rattle.matrix.specs.Matrix.{Part, interior, boundary, exterior, Meet, matrixOf, noCells, index, cellAt}

@@ -1,7 +1,6 @@
 // The classes of the segments of two objects, each beside the other object: shared or not, by the sides of the interiors and the notes of the sweep.
 // Both are found in one walk over the left halfsegments of both objects in their order.
 use flags::Found;
-use flags::collected;
 use merged::Step;
 use scene::Layout;
 use scene::Scene;

@@ -21,9 +21,9 @@ use Rattle.flags.specs.declared.Found.{Found}
 use Rattle.features.specs.declared.Vectors.{Vectors}
 use Rattle.features.specs.declared.Answer.{Answer}
 use Rattle.flags.specs.Flags.{flagsOfF, flagsOfG, pack, hasBit}
-use Rattle.features.specs.Wanted.{hasStray, anyStray, strayWanted, only, typeOf, maskOfF, maskOfG, wanted, vectorOfF, vectorOfG}
+use Rattle.masks.specs.Wanted.{hasStray, anyStray, only, typeOf, maskOfF, maskOfG, wanted, vectorOfF, vectorOfG}
 use Rattle.flags.specs.Walk.{bits, bitwise, masked, elementsAs, elementsOf, allFlags}
-use Rattle.features.specs.Vectors.{sceneVectors, vectorsRules, answered, answerOf}
+use Rattle.features.specs.Vectors.{sceneVectors, strayWanted, vectorsRules, answered, answerOf}
 use Rattle.features.proofs.Packed.{walked}
 
 -- ---- a scene that is taken

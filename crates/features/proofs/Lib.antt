@@ -1,5 +1,3 @@
--- What belongs to no one function: the wanted masks, and the flags of an element.
-pub mod Wanted
-pub mod AtIndex
+-- What belongs to no one function: the vectors from the flags, and the answer.
 pub mod Packed
 pub mod Answered

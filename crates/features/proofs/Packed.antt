@@ -10,7 +10,7 @@ use lib.Dec.{T, T-not}
 use lib.ListN.{length, List·getD-eq-default}
 use Rattle.scene.specs.declared.Layout.{Layout}
 use Rattle.flags.specs.Flags.{Elements, points, line, region, pack, hasBit}
-use Rattle.features.specs.Wanted.{only}
+use Rattle.masks.specs.Wanted.{only}
 use Rattle.flags.specs.Walk.{bits, flag, bitwise, found, masked, elementsOf, allFlags, flagsOf}
 use Rattle.flags.proofs.Bits.{pack-bit, and-bit, lost-bit}
 use Rattle.flags.proofs.ByElement.{flags-by-element}

@@ -1,3 +1,2 @@
 -- What the topological feature vectors are.
-pub mod Wanted
 pub mod Vectors

@@ -1,14 +1,17 @@
 -- The vectors question: "scene and two 16-bit wanted masks; two 16-bit vectors".
 use Prim.Native.Nat.{ℕ}
+use mathlib.Core.Bool.{not}
 use mathlib.Core.List.{List, [], _∷_}
 use Rattle.scene.specs.declared.Scene.{Scene}
 use Rattle.scene.specs.declared.CheckedScene.{CheckedScene}
+use Rattle.scene.specs.declared.Fault.{Fault}
+use Rattle.scene.specs.Read.{shapeNumber, unless}
 use Rattle.scene.specs.Conditions.{Rule, rule, sceneRules, checkSceneBy}
 use Rattle.features.specs.declared.Vectors.{Vectors}
 use Rattle.features.specs.declared.Explored.{Explored}
 use Rattle.features.specs.declared.Answer.{Answer}
-use Rattle.features.specs.Wanted.{strayWanted, vectorOfF, vectorOfG}
 use Rattle.flags.specs.Walk.{elementsOf}
+use Rattle.masks.specs.Wanted.{anyStray, vectorOfF, vectorOfG}
 
 -- both vectors of a scene that is taken
 abbrev pub sceneVectors : List ℕ → Scene → ℕ → ℕ → Vectors
@@ -17,6 +20,10 @@ sceneVectors s sc wantF wantG =
       f = vectorOfF (elementsOf s (sc .f)) (elementsOf s (sc .g)) wantF wantG;
       g = vectorOfG (elementsOf s (sc .f)) (elementsOf s (sc .g)) wantF wantG;
     }
+
+-- 9, and "For 9 .. it is 0"
+abbrev pub strayWanted : ℕ → ℕ → List ℕ → Scene → Fault
+strayWanted wantF wantG s sc = unless (not (anyStray (shapeNumber (sc .f .shape)) (shapeNumber (sc .g .shape)) wantF wantG)) 0
 
 -- "Then 8 to 17 in order": 9 after 8 and before 10. "Number 9 belongs to the vectors question only."
 abbrev pub vectorsRules : ℕ → ℕ → List (Rule Scene)

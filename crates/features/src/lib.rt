@@ -19,12 +19,4 @@ pub enum Answer {
     Refused(Refusal),
 }
 
-// The flags that F and G have, a bit for each.
-pub struct FlagMasks {
-    pub f: u16,
-    pub g: u16,
-}
-
-pub mod masks;
 pub mod question;
-pub mod walk;

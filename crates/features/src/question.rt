@@ -2,11 +2,8 @@
 use crate::Answer;
 use crate::Explored;
 use crate::Vectors;
-use crate::masks;
-use crate::walk;
 use checks::Noting;
 use checks::Verdict;
-use flags::collected;
 use scene::CheckedScene;
 use scene::Fault;
 use scene::Refusal;

@@ -1,6 +1,7 @@
--- What the program counts to tell whether a point is inside: off the segments the parity decides, and doubled coordinates count as the point does.
+-- What the program counts to tell whether a point is inside: on a segment it is not, off the segments the parity decides, and doubled coordinates count
+-- as the point does.
 use mathlib.Core.Path.{_≡_, refl, ap, _∙_}
-use mathlib.Core.Bool.{false}
+use mathlib.Core.Bool.{true, false}
 use mathlib.Core.List.{List, [], _∷_}
 use lib.IntN.{ℤ, pos, _+ℤ_, _*ℤ_}
 use Rattle.whole.specs.Count.{odd, count}
@@ -11,6 +12,10 @@ use Rattle.plane.specs.declared.Segment.{Segment}
 use Rattle.plane.specs.Plane.{HPoint, grid, halved, countsBelow, onSome, inside}
 use Rattle.plane.proofs.Homogeneous.{triple-eq}
 use Rattle.plane.proofs.Scale.{count-scale, countsBelow-scale}
+
+pub inside-on : (l : List Segment) (p : HPoint) → onSome l p ≡ true → inside l p ≡ false
+unfolding inside
+inside-on l p e = rw e
 
 pub inside-off : (l : List Segment) (p : HPoint) → onSome l p ≡ false → inside l p ≡ odd (count (countsBelow p) l)
 unfolding inside

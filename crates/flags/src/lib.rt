@@ -1,4 +1,4 @@
-// The topological flags: what they are, as the program holds them, and the searches over the other object by which those of one element are told.
+// The topological flags: what they are, as the program holds them, and where a segment lies by an object.
 
 // The flags of a vector, bit 0 first; a bit without a flag is false.
 pub struct Found {
@@ -18,6 +18,5 @@ pub struct Middle {
     pub inside: bool,
 }
 
-pub mod collected;
 pub mod position;
 pub mod searches;

@@ -1,5 +1,4 @@
-// Where a point lies by an object: on a line's boundary, inside a region. A point that is off the region's segments is inside by the number of
-// segments that count below it.
+// Whether a segment's midpoint is inside a region: off the region's segments a point is inside by the number of segments that count below it.
 use plane::Point;
 use plane::Segment;
 use scene::Layout;
@@ -8,24 +7,9 @@ ghost use mathlib.Core.Bool.{Bool};
 ghost use Prim.Native.Nat.{_*_};
 ghost use lib.Dec.{T};
 ghost use Rattle.whole.specs.Count.{odd, count};
-ghost use Rattle.plane.specs.Plane.{limit, within, inRange, segmentInRange, grid, halved, midpoint, countsBelow, onSome, inside, isBoundary};
+ghost use Rattle.plane.specs.Plane.{limit, within, segmentInRange, halved, midpoint, countsBelow, onSome, inside};
 ghost use Rattle.scene.specs.Read.{IsObject};
 ghost use Rattle.scene.specs.Conditions.{segments};
-ghost use Rattle.flags.specs.Flags.{isBound};
-
-// The boundary rule of a line: n of its segments end at a point.
-pub fn is_boundary(n: usize) -> bool
-    ensures { λ r. ⌜ r ≡ isBoundary n ⌝ }
-{
-    n == 1
-}
-
-pub fn is_bound(s: &[u8], l: Layout, v: Point) -> bool
-    requires { ⌜ IsObject (now s) l ⌝ }
-    ensures { λ r. ⌜ r ≡ isBound (segments (now (s .entry)) l) v ⌝ }
-{
-    is_boundary(segments::count_ends(s, l, v))
-}
 
 fn is_odd(n: usize) -> bool
     ensures { λ r. ⌜ r ≡ odd n ⌝ }
@@ -34,19 +18,11 @@ fn is_odd(n: usize) -> bool
 }
 
 // Do an odd number of segments count below the point whose doubled coordinates are m's?
-fn is_odd_below(s: &[u8], l: Layout, m: Point) -> bool
+pub fn is_odd_below(s: &[u8], l: Layout, m: Point) -> bool
     requires { ⌜ IsObject (now s) l × T (within (2 * limit) m) ⌝ }
     ensures { λ r. ⌜ r ≡ odd (count (countsBelow (halved m)) (segments (now (s .entry)) l)) ⌝ }
 {
     is_odd(segments::count_below(s, l, m))
-}
-
-// Is v, which lies on no segment of l, inside l?
-pub fn is_inside(s: &[u8], l: Layout, v: Point) -> bool
-    requires { ⌜ IsObject (now s) l × T (inRange v) × (onSome (segments (now s) l) (grid v) ≡ Bool.false) ⌝ }
-    ensures { λ r. ⌜ r ≡ inside (segments (now (s .entry)) l) (grid v) ⌝ }
-{
-    is_odd_below(s, l, geometry::doubled(v))
 }
 
 // Is the midpoint of t, which lies on no segment of l, inside l?

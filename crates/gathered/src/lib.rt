@@ -1,6 +1,5 @@
 // The flags of two objects, read off how their elements meet at points and off the classes of their segments.
 use flags::Found;
-use flags::collected;
 use scene::Shape;
 ghost use mathlib.Core.Path.{_≡_};
 ghost use mathlib.Core.Bool.{Bool};

@@ -1,6 +1,5 @@
 // Where elements of two objects meet: one walk over the points of both, in their order, by their keys.
 use flags::Found;
-use flags::collected;
 use scene::Layout;
 use scene::Scene;
 use scene::records;

@@ -10,7 +10,7 @@ use Rattle.plane.specs.Plane.{within, before, samePoint, sameSegment, ordered, 
 use Rattle.scene.specs.Read.{signed, coordinate, kindOf, shapeOf, recordAt, elementsFrom, readObject, readScene}
 use Rattle.scene.specs.Conditions.{segments, inOrder, outOfOrder, partner, unpaired, touching, touchingItself, oddEnd, wrongIa, checkSceneBy, checkScene}
 use Rattle.flags.specs.Flags.{hasBit}
-use Rattle.features.specs.Wanted.{wanted, vectorOfF, vectorOfG}
+use Rattle.masks.specs.Wanted.{wanted, vectorOfF, vectorOfG}
 use Rattle.flags.specs.Walk.{pointsOf, edges}
 use Rattle.cells.specs.declared.Explored.{Explored}
 use Rattle.matrix.specs.Matrix.{matrixOf}

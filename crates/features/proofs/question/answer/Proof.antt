@@ -13,7 +13,7 @@ use Rattle.scene.specs.declared.Scene.{Scene}
 use Rattle.checks.specs.declared.Verdict.{Verdict}
 use Rattle.checks.specs.declared.Noting.{Noting}
 use Rattle.checks.specs.Refusals.{geometryVerdict}
-use Rattle.features.specs.Wanted.{anyStray}
+use Rattle.masks.specs.Wanted.{anyStray}
 use Rattle.features.proofs.Answered.{unread, descending, stray, at-fault, taken, sound}
 use Rattle.features.proofs.question.answer.Statement.{statement}
 use Rattle.features.proofs.question.answer.Tie as tie

@@ -1,0 +1,2 @@
+-- What belongs to no one function: the flags of an element.
+pub mod AtIndex

@@ -1,0 +1,2 @@
+-- What the wanted masks are.
+pub mod Wanted

@@ -1,0 +1,60 @@
+-- The wanted masks of the vectors question: which flags a pair of types has, which of them two masks want, and whether a wanted bit has no flag.
+use Prim.Native.Nat.{ℕ, _-_, _≤_}
+use mathlib.Core.Bool.{Bool, not, _&&_, _||_, cond}
+use mathlib.Core.List.{List, [], _∷_}
+use lib.Bits.{bitAnd}
+use lib.Dec.{T, eqb}
+use lib.ListN.{length, getD}
+use Rattle.flags.specs.Flags.{Elements, points, line, region, flagsOfF, flagsOfG, pack, hasBit}
+
+-- The flags of F and of G, a bit for each: a row for each type of F, a column for each type of G. A pair with F's type above G's has none.
+abbrev pub flagMasks : List (List (ℕ × ℕ))
+flagMasks =
+    ((3, 1) ∷ (7, 1) ∷ (7, 0) ∷ [])
+    ∷ ((0, 0) ∷ (63, 7) ∷ (127, 1) ∷ [])
+    ∷ ((0, 0) ∷ (0, 0) ∷ (255, 15) ∷ [])
+    ∷ []
+
+-- "looked up by pair", by the numbers of the two types
+abbrev pub masksOf : ℕ → ℕ → ℕ × ℕ
+masksOf f g = getD (getD flagMasks (f - 1) []) (g - 1) (0, 0)
+
+abbrev pub maskOfF : ℕ → ℕ → ℕ
+maskOfF f g = masksOf f g .0
+
+abbrev pub maskOfG : ℕ → ℕ → ℕ
+maskOfG f g = masksOf f g .1
+
+-- the flags of an object that its own mask and the other's want, of all that it has: "If both masks are 0, all flags are wanted."
+unfoldable pub wanted : ℕ → ℕ → ℕ → ℕ
+wanted all own other = cond (eqb own 0 && eqb other 0) all own
+
+-- "A flag not wanted is 0."
+abbrev pub only : ℕ → ℕ → ℕ
+only mask v = bitAnd v mask
+
+-- "wanted bit without a flag": of one object, by the flags that it has; and of either
+unfoldable pub hasStray : ℕ → ℕ → Bool
+hasStray all mask = not (eqb (only all mask) mask)
+
+abbrev pub anyStray : ℕ → ℕ → ℕ → ℕ → Bool
+anyStray f g wantF wantG = hasStray (maskOfF f g) wantF || hasStray (maskOfG f g) wantG
+
+-- the same as a sentence on the object's flags
+abbrev pub Stray : List Bool → ℕ → Type 0
+Stray flags mask = (k : ℕ) × T (hasBit mask k) × (length flags ≤ k)
+
+-- ---- the vectors of two objects
+
+-- "1 points, 2 line, 3 region"
+abbrev pub typeOf : Elements → ℕ
+typeOf (points l) = 1
+typeOf (line l) = 2
+typeOf (region l) = 3
+
+module _ (F G : Elements) (wantF wantG : ℕ) where
+  unfoldable pub vectorOfF : ℕ
+  vectorOfF = only (wanted (maskOfF (typeOf F) (typeOf G)) wantF wantG) (pack (flagsOfF F G))
+
+  unfoldable pub vectorOfG : ℕ
+  vectorOfG = only (wanted (maskOfG (typeOf F) (typeOf G)) wantG wantF) (pack (flagsOfG F G))
