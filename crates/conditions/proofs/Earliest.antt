@@ -29,8 +29,10 @@ use Rattle.segments.proofs.Parted.{touch-itself, touch-swap}
 use Rattle.segments.proofs.Partners.{Partner, as-paired, partner-there}
 use Rattle.segments.proofs.Walk.{between, leftPasses, some-segments}
 use Rattle.segments.proofs.Beyond.{touches-some, counts-below}
-use Rattle.conditions.specs.Faults.{placeFor, turned, hasPartner, touchesAny, isFirstAt, beginsOddly, interiorBy, isMismarked}
-use Rattle.conditions.proofs.Halving.{Parts, parted}
+use Rattle.partners.specs.Partners.{placeFor, turned, hasPartner}
+use Rattle.partners.proofs.Halving.{Parts, parted}
+use Rattle.parity.specs.Odd.{isFirstAt, beginsOddly, interiorBy, isMismarked}
+use Rattle.conditions.specs.Faults.{touchesAny}
 
 -- ---- two tests with one earliest record: what is tested is wrong, and at or before what is wrong something is tested
 

@@ -1,3 +1,2 @@
--- Laws of the tests of one element, and that the earliest record at fault by them is that of the definitions.
-pub mod Halving
+-- That the earliest record at fault by the tests of one element is that of the definitions.
 pub mod Earliest

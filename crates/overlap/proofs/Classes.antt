@@ -22,46 +22,16 @@ use Rattle.scene.specs.Conditions.{elements, keep, isRegion, isLeft, segments}
 use Rattle.checks.proofs.Laws.{SoundObject, ia-is}
 use Rattle.segments.proofs.Indices.{in-element}
 use Rattle.flags.specs.Flags.{Edge, Elements, region, outline, hasSegment, midInside, midOutside, class01, class10, class12, class21, class02, class20, class11, flagsOfF, flagsOfG}
-use Rattle.flags.specs.Walk.{edgeOf, edges, elementsOf, elementsAs, sameIa, sameEdge, hasEdge, Clear}
+use Rattle.flags.specs.Walk.{edgeOf, edges, elementsOf, elementsAs, sameIa, Clear}
 use Rattle.flags.proofs.ByElement.{outline-edges}
-use Rattle.overlap.specs.Overlap.{merge, adjoins, byteOf, checkList}
-use Rattle.overlap.specs.Walked.{TwoRegions}
+use Rattle.adjoining.specs.Bytes.{merge, adjoins, byteOf}
+use Rattle.adjoining.proofs.Members.{merge-in, in-merge-f, in-merge-g}
+use Rattle.adjoining.proofs.Adjoins.{adjoins-other, edge-there, edge-find, Marked, adjoins-edge}
+use Rattle.merging.specs.Walked.{TwoRegions}
+use Rattle.merging.proofs.Clear.{either-clear}
+use Rattle.listable.specs.Rules.{checkList}
+use Rattle.listable.proofs.Checked.{listable}
 use Rattle.overlap.specs.Classes.{of-f, of-g, of-both, belongs, hasByte, classesOfF, classesOfG}
-use Rattle.overlap.proofs.Members.{merge-in, in-merge-f, in-merge-g}
-use Rattle.overlap.proofs.Listing.{adjoins-own, adjoins-other}
-use Rattle.overlap.proofs.Checked.{either-clear, listable}
-
--- ---- the edges of a region whose ia the segment decides
-
-module _ (R : List Edge) where
-  edge-there : {e : Edge} → e ∈ R → hasSegment (outline R) (e .segment) ≡ true
-  edge-there {e} m = true-is (hasSegment (outline R) (e .segment)) (some-make (sameSegment (e .segment)) (in-map (λ (e : Edge). e .segment) m) (sameSegment-refl (e .segment)))
-
-  pub edge-find : (t : Segment) → T (hasSegment (outline R) t) → (e : Edge) × (e ∈ R) × (t ≡ e .segment)
-  edge-find t h =
-      let w = some-find (sameSegment t) (outline R) h in
-      let v = map-in (λ (e : Edge). e .segment) R (w .1) in
-      (v .0, v .1, sameSegment-read t (w .0) (w .2) ∙ sym (v .2))
-
-  abbrev pub Marked : (Segment → Bool) → Type 0
-  Marked a = (e : Edge) → e ∈ R → e .ia ≡ a (e .segment)
-
-  module _ (a : Segment → Bool) (mark : Marked a) {e : Edge} (m : e ∈ R) (above : Bool) where
-    own-edge : hasEdge R (e .segment) above ≡ sameIa above (e .ia)
-    own-edge = same-test (hasEdge R (e .segment) above) (sameIa above (e .ia)) to from
-      where
-        to : T (hasEdge R (e .segment) above) → T (sameIa above (e .ia))
-        to h =
-            let w = some-find (sameEdge (e .segment) above) R h in
-            let d = w .0 in
-            let q = sameSegment-read (e .segment) (d .segment) (and-left (sameSegment (e .segment) (d .segment)) (sameIa above (d .ia)) (w .2)) in
-            subst (λ b. T (sameIa above b)) (mark d (w .1) ∙ ap a (sym q) ∙ sym (mark e m)) (and-right (sameSegment (e .segment) (d .segment)) (sameIa above (d .ia)) (w .2))
-
-        from : T (sameIa above (e .ia)) → T (hasEdge R (e .segment) above)
-        from h = some-make (sameEdge (e .segment) above) m (and-make (sameSegment (e .segment) (e .segment)) (sameIa above (e .ia)) (sameSegment-refl (e .segment)) h)
-
-    pub adjoins-edge : adjoins above R (e .segment) ≡ sameIa above (e .ia)
-    adjoins-edge = sym (adjoins-own R (e .segment) above refl (edge-there m)) ∙ own-edge
 
 -- ---- the byte by ia, and by "inside"
 

@@ -7,7 +7,9 @@ use Rattle.plane.specs.Plane.{within, before, samePoint, sameSegment, ordered, 
 use Rattle.scene.specs.Read.{signed, coordinate, kindOf, shapeOf, recordAt, elementsFrom, readObject, readScene}
 use Rattle.scene.specs.Conditions.{segments, inOrder, outOfOrder, partner, unpaired, touching, touchingItself, oddEnd, wrongIa, checkSceneBy}
 use Rattle.flags.specs.Walk.{edges}
-use Rattle.overlap.specs.Overlap.{adjoins, overlapBytes, checkList, overlapOf, bufferAfter}
+use Rattle.adjoining.specs.Bytes.{adjoins, overlapBytes}
+use Rattle.listable.specs.Rules.{checkList}
+use Rattle.overlap.specs.Overlap.{overlapOf, bufferAfter}
 
 word : ℕ → List ℕ
 word n = n % 256 ∷ n / 256 % 256 ∷ n / 65536 % 256 ∷ n / 16777216 ∷ []

@@ -8,11 +8,12 @@ use lib.ListN.{length}
 use borrow.Author.Needs.{needs}
 use Rattle.flags.specs.Walk.{edges}
 use Rattle.classes.proofs.Standing.{standing}
-use Rattle.overlap.specs.declared.written.ByteStep.{ByteStep}
-use Rattle.overlap.specs.Overlap.{byteOf}
-use Rattle.overlap.specs.Walked.{Stands, NextByte, ByteStepped}
-use Rattle.overlap.proofs.Listing.{allBytes, bytesFrom, bytes-start, Filled, filled-none, filled-count, filled-length, filled-more, filled-all}
-use Rattle.overlap.proofs.Checked.{Listable, listable}
+use Rattle.adjoining.specs.Bytes.{byteOf}
+use Rattle.merging.specs.declared.ByteStep.{ByteStep}
+use Rattle.merging.specs.Walked.{Stands, NextByte, ByteStepped}
+use Rattle.merging.proofs.Listing.{allBytes, bytesFrom, bytes-start}
+use Rattle.listable.proofs.Checked.{Listable, listable}
+use Rattle.overlap.proofs.Filled.{Filled, filled-none, filled-count, filled-length, filled-more, filled-all}
 use Rattle.overlap.proofs.written.write.Statement.{statement}
 use Rattle.overlap.proofs.written.write.Tie as tie
 

@@ -1,0 +1,2 @@
+-- The laws of the check before the list.
+pub mod Checked

@@ -1,0 +1,51 @@
+-- The midpoint of a segment of either region lies on a region's segments where the segment is one of them, and nowhere else; so of each segment that the
+-- walk comes to.
+use Prim.Native.Nat.{ℕ, _-_}
+use native.Mathlib.Omega.{arith}
+use mathlib.Core.Path.{sym, subst}
+use mathlib.Core.Logic.{_⊎_, inl, inr, ⊎-elim}
+use mathlib.Core.List.{List}
+use Rattle.whole.specs.Count.{_∈_, here}
+use Rattle.whole.proofs.Logic.{map-in}
+use Rattle.plane.specs.declared.Segment.{Segment}
+use Rattle.plane.proofs.OnSegment.{ordered-read}
+use Rattle.scene.specs.declared.Layout.{Layout}
+use Rattle.scene.specs.declared.Scene.{Scene}
+use Rattle.scene.specs.Conditions.{indices, keep, half, isLeft, segments}
+use Rattle.segments.proofs.Indices.{indices-in, keep-in}
+use Rattle.checks.proofs.Laws.{SoundObject, SoundScene, left-in, all-ordered, split, across}
+use Rattle.flags.specs.Walk.{Clear}
+use Rattle.flags.proofs.Clear.{clear-of}
+use Rattle.matrix.proofs.Common.{across-swap}
+use Rattle.adjoining.proofs.Members.{merge-in}
+use Rattle.merging.specs.Walked.{segmentsFrom, NextIs}
+
+pub either-clear : {s : List ℕ} {sc : Scene} → SoundScene s sc → (t : Segment) → (t ∈ segments s (sc .f)) ⊎ (t ∈ segments s (sc .g)) → Clear (segments s (sc .f)) t × Clear (segments s (sc .g)) t
+either-clear {s} {sc} o t = ⊎-elim of-f of-g
+  where
+    of-f : t ∈ segments s (sc .f) → Clear (segments s (sc .f)) t × Clear (segments s (sc .g)) t
+    of-f k =
+        let d = ordered-read t (all-ordered (o .f-sound) t k) in (
+          clear-of (segments s (sc .f)) (all-ordered (o .f-sound)) t d (λ u i. split (o .f-sound) .apart t u k i),
+          clear-of (segments s (sc .g)) (all-ordered (o .g-sound)) t d (λ u i. across o t u k i),
+        )
+
+    of-g : t ∈ segments s (sc .g) → Clear (segments s (sc .f)) t × Clear (segments s (sc .g)) t
+    of-g k =
+        let d = ordered-read t (all-ordered (o .g-sound) t k) in (
+          clear-of (segments s (sc .f)) (all-ordered (o .f-sound)) t d (λ u i. across-swap (across o) t u k i),
+          clear-of (segments s (sc .g)) (all-ordered (o .g-sound)) t d (λ u i. split (o .g-sound) .apart t u k i),
+        )
+
+pub next-clear : {s : List ℕ} {sc : Scene} → SoundScene s sc → {i j : ℕ} {t : Segment} {k m : ℕ} → NextIs s (sc .f) (sc .g) i j t k m → Clear (segments s (sc .f)) t × Clear (segments s (sc .g)) t
+unfolding segmentsFrom
+next-clear {s} {sc} o {i} {j} {t} n =
+    either-clear o t
+    (⊎-elim (λ h. inl (from-in (o .f-sound) i h)) (λ h. inr (from-in (o .g-sound) j h))
+    (merge-in (segmentsFrom s (sc .f) i) (segmentsFrom s (sc .g) j) (subst (λ (l : List Segment). t ∈ l) (sym (n .merged)) here)))
+  where
+    from-in : {l : Layout} → SoundObject s l → (i : ℕ) → t ∈ segmentsFrom s l i → t ∈ segments s l
+    from-in {l} o i h =
+        let w = map-in (λ k. half s l k .segment) (keep (isLeft s l) (indices (l .count - i) i)) h in
+        let k = keep-in (isLeft s l) (indices (l .count - i) i) (w .1) in
+        subst (λ (t : Segment). t ∈ segments s l) (w .2) (left-in o (w .0) (omega (arith, indices-in (l .count - i) i (w .0) (k .0))) (k .1))

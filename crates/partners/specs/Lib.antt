@@ -1,0 +1,2 @@
+-- What the tests promise of the elements of an object.
+pub mod Partners
