@@ -1,10 +1,13 @@
-/* Several threads ask about all scenes at once, each from another scene on, and must get what one thread got alone. */
+/* Several threads ask about all scenes at once, each from another scene on, and must get what one thread got alone. They begin together, and ask so
+   often that each is interrupted within calls, on a machine with one processor too. */
+#define _POSIX_C_SOURCE 200112L
 #include "scenes.h"
 
 #include <pthread.h>
 
-enum { THREADS = 8, ROUNDS = 20, MOST = 64 };
+enum { THREADS = 8, ROUNDS = 400, MOST = 64 };
 
+static pthread_barrier_t start;
 static struct scene scenes[MOST];
 static struct answers alone[MOST];
 static int count;
@@ -13,6 +16,7 @@ static void *ask_all(void *first)
 {
     struct answers found;
 
+    pthread_barrier_wait(&start);
     for (int i = 0; i < ROUNDS * count; i++) {
         int k = (*(int *)first + i) % count;
 
@@ -35,6 +39,8 @@ int main(int argc, char **argv)
         scenes[k] = read_scene(argv[k + 1]);
         ask(scenes[k].bytes, scenes[k].length, alone[k].list, LIST, &alone[k]);
     }
+    if (pthread_barrier_init(&start, NULL, THREADS) != 0)
+        fail("threads", "cannot be started");
     for (int t = 0; t < THREADS; t++) {
         first[t] = t * count / THREADS;
         if (pthread_create(&threads[t], NULL, ask_all, &first[t]) != 0)
