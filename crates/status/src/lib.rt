@@ -8,8 +8,8 @@ ghost use Rattle.strands.specs.Status.{inserted, removed};
 pub mod note;
 pub mod place;
 
-// Where the entries from k to n may end that move by one: at n, or a little above it, so that a long row of them is whole blocks of 16. What stands
-// above n does not matter, and whole blocks are moved without a loop over the odd ones at the end, whose number no machine foresees.
+// Where the move of the entries from k to n may end: at n, or a little above it, so that a long row of entries is whole blocks of 16. What stands above
+// n does not matter, and whole blocks need no loop over the odd ones at the end, whose branches no processor predicts.
 fn block_end(k: usize, n: usize, room: usize) -> usize
     requires { ⌜ (k ≤ n) × (n < room) ⌝ }
     ensures { λ r. ⌜ (n ≤ r) × (r < room) ⌝ }

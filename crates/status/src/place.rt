@@ -118,7 +118,8 @@ fn is_place(s: &[u8], p: Point, status: &[u16], n: usize, k: usize) -> bool
     is_over(segment_of(s, status, k), p)
 }
 
-// The same as `first_over`, from a place where the entry may well be, as that of the event before at the same point, or just above it.
+// The same as `first_over`, looked for first at a hint, the place of the event before, and just above it: where several halfsegments meet at a point,
+// the next one is there.
 pub fn near(s: &[u8], p: Point, status: &[u16], n: usize, hint: usize) -> usize
     requires { ⌜ T (inRange p) × Readable (now s) (now status) n ⌝ }
     ensures { λ r. ⌜ (r ≤ n) × (r < n → T (passesOver (segmentAt (now (s .entry)) (getD (now (status .entry)) r 0)) p)) ⌝ }
