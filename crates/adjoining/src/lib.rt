@@ -1,7 +1,4 @@
 // The byte of a segment of two regions, by the sides where their interiors adjoin it: by searches, or by ia and by the sweep's note.
-use flags::position;
-use flags::searches;
-use plane::Segment;
 use scene::Layout;
 ghost use mathlib.Core.Path.{_≡_};
 ghost use mathlib.Core.Bool.{not};
@@ -20,23 +17,7 @@ pub struct Sides {
     pub above: bool,
 }
 
-fn sides_of(s: &[u8], l: Layout, t: Segment) -> Sides
-    requires { ⌜ IsObject (now s) l × T (isRegion (l .shape)) × T (segmentInRange t) × Clear (segments (now s) l) t ⌝ }
-    ensures { λ r. ⌜ (r .below ≡ adjoinsBelow (edges (now (s .entry)) l) t) × (r .above ≡ adjoinsAbove (edges (now (s .entry)) l) t) ⌝ }
-{
-    if searches::has_segment(s, l, t) {
-        let below = searches::has_edge(s, l, t, false);
-        let above = searches::has_edge(s, l, t, true);
-        return Sides { below, above };
-    }
-    let inside = position::is_middle_inside(s, l, t);
-    Sides {
-        below: inside,
-        above: inside,
-    }
-}
-
-// The same of the segment of one of its own elements, by ia.
+// Of the segment of one of its own elements, by ia.
 pub fn own_sides(s: &[u8], l: Layout, i: usize) -> Sides
     requires { ⌜ IsObject (now s) l × (i < l .count) ⌝ }
     ensures { λ r. ⌜ (r .below ≡ not (ia (now (s .entry)) l i)) × (r .above ≡ ia (now (s .entry)) l i) ⌝ }
@@ -72,11 +53,4 @@ pub fn coded(f: Sides, g: Sides) -> u8
     let m = number(f.below, g.below);
     let n = number(f.above, g.above);
     3 * m + n
-}
-
-pub fn byte(s: &[u8], f: Layout, g: Layout, t: Segment) -> u8
-    requires { ⌜ IsObject (now s) f × IsObject (now s) g × T (isRegion (f .shape)) × T (isRegion (g .shape)) × T (segmentInRange t) × Clear (segments (now s) f) t × Clear (segments (now s) g) t ⌝ }
-    ensures { λ r. ⌜ r ≡ byteOf (edges (now (s .entry)) f) (edges (now (s .entry)) g) t ⌝ }
-{
-    coded(sides_of(s, f, t), sides_of(s, g, t))
 }

@@ -24,12 +24,6 @@ pub enum Verdict {
     Refused(Refusal),
 }
 
-// The sweep accepts, and has noted; or a verdict without notes.
-pub enum Noting {
-    Swept,
-    Plain(Verdict),
-}
-
 // 8: F's type above G's, at G's type record.
 pub fn types_fault(scene: Scene) -> Fault
     ensures { λ r. ⌜ ((s : List ℕ) → r ≡ typesDescend s scene) ⌝ }
@@ -97,10 +91,10 @@ fn plain_verdict(s: &[u8], scene: Scene) -> Verdict
     Verdict::Sound
 }
 
-// Is a scene in order, and does the sweep accept it? It may say no of a sound scene, but never yes of another.
+// Is a scene in order, and does the sweep accept it? It does so of each sound scene, and of no other.
 fn is_swept(s: &[u8], scene: Scene, notes: &mut [u8]) -> bool
     requires { ⌜ IsScene (now s) scene × (2048 ≤ length (now notes)) ⌝ }
-    ensures { λ r. ⌜ (length (now (notes .exit)) ≡ length (now (notes .entry))) × (T r → (geometryVerdict (now (s .entry)) scene ≡ Verdict.Sound) × Noted (now (s .entry)) scene (now (notes .exit))) ⌝ }
+    ensures { λ r. ⌜ (length (now (notes .exit)) ≡ length (now (notes .entry))) × (T r → (geometryVerdict (now (s .entry)) scene ≡ Verdict.Sound) × Noted (now (s .entry)) scene (now (notes .exit))) × (geometryVerdict (now (s .entry)) scene ≡ Verdict.Sound → T r) ⌝ }
 {
     let f = scene.f;
     let g = scene.g;
@@ -113,15 +107,15 @@ fn is_swept(s: &[u8], scene: Scene, notes: &mut [u8]) -> bool
     sweep::accepts(s, scene, notes)
 }
 
-// The same: by the sweep where it accepts, which is fast and leaves its notes, and else condition by condition.
-pub fn noted_verdict(s: &[u8], scene: Scene, notes: &mut [u8]) -> Noting
+// The same: by the sweep, which is fast, and leaves its notes of a sound scene; else condition by condition, which says where the fault lies.
+pub fn noted_verdict(s: &[u8], scene: Scene, notes: &mut [u8]) -> Verdict
     requires { ⌜ IsScene (now s) scene × (2048 ≤ length (now notes)) ⌝ }
-    ensures { λ r. ⌜ (length (now (notes .exit)) ≡ length (now (notes .entry))) × (r ≡ Noting.Swept → (geometryVerdict (now (s .entry)) scene ≡ Verdict.Sound) × Noted (now (s .entry)) scene (now (notes .exit))) × ((v : Verdict) → r ≡ Noting.Plain v → v ≡ geometryVerdict (now (s .entry)) scene) ⌝ }
+    ensures { λ r. ⌜ (length (now (notes .exit)) ≡ length (now (notes .entry))) × (r ≡ geometryVerdict (now (s .entry)) scene) × (r ≡ Verdict.Sound → Noted (now (s .entry)) scene (now (notes .exit))) ⌝ }
 {
     if is_swept(s, scene, notes) {
-        return Noting::Swept;
+        return Verdict::Sound;
     }
-    Noting::Plain(plain_verdict(s, scene))
+    plain_verdict(s, scene)
 }
 
 // The verdict alone.
@@ -130,10 +124,7 @@ pub fn geometry_verdict(s: &[u8], scene: Scene) -> Verdict
     ensures { λ r. ⌜ r ≡ geometryVerdict (now (s .entry)) scene ⌝ }
 {
     let mut notes = [0u8; 2048];
-    match noted_verdict(s, scene, &mut notes) {
-        Noting::Swept => Verdict::Sound,
-        Noting::Plain(v) => v,
-    }
+    noted_verdict(s, scene, &mut notes)
 }
 
 // A scene's bytes, checked whole: taken, or refused with one number and one place.

@@ -11,7 +11,7 @@ ghost use lib.Dec.{T};
 ghost use Rattle.plane.specs.Plane.{samePoint, dominating};
 ghost use Rattle.scene.specs.Read.{halfsegmentAt, IsObject, IsScene};
 ghost use Rattle.scene.specs.Conditions.{hasSegments, isRegion};
-ghost use Rattle.strands.specs.Evenly.{EndsEvenly, RegionsEndEvenly};
+ghost use Rattle.strands.specs.Evenly.{EndsEvenly, Pairable, RegionsEndEvenly, RegionsPairable};
 
 // Do the halfsegments at two offsets have one dominating point?
 fn share_point(s: &[u8], at: usize, next: usize) -> bool
@@ -25,7 +25,7 @@ fn share_point(s: &[u8], at: usize, next: usize) -> bool
 
 fn ends_evenly(s: &[u8], l: Layout) -> bool
     requires { ⌜ IsObject (now s) l × T (hasSegments (l .shape)) ⌝ }
-    ensures { λ r. ⌜ (T r → EndsEvenly (now (s .entry)) l) ⌝ }
+    ensures { λ r. ⌜ (T r → EndsEvenly (now (s .entry)) l) × (Pairable (now (s .entry)) l → T r) ⌝ }
 {
     if l.count % 2 != 0 {
         return false;
@@ -46,7 +46,7 @@ fn ends_evenly(s: &[u8], l: Layout) -> bool
 
 fn is_even(s: &[u8], l: Layout) -> bool
     requires { ⌜ IsObject (now s) l ⌝ }
-    ensures { λ r. ⌜ (T r → T (isRegion (l .shape)) → EndsEvenly (now (s .entry)) l) ⌝ }
+    ensures { λ r. ⌜ (T r → T (isRegion (l .shape)) → EndsEvenly (now (s .entry)) l) × ((T (isRegion (l .shape)) → Pairable (now (s .entry)) l) → T r) ⌝ }
 {
     let k = l.shape;
     if !segments::is_region(k) {
@@ -58,7 +58,7 @@ fn is_even(s: &[u8], l: Layout) -> bool
 // Do the regions of a scene end evenly?
 pub fn regions_end_evenly(s: &[u8], scene: Scene) -> bool
     requires { ⌜ IsScene (now s) scene ⌝ }
-    ensures { λ r. ⌜ (T r → RegionsEndEvenly (now (s .entry)) scene) ⌝ }
+    ensures { λ r. ⌜ (T r → RegionsEndEvenly (now (s .entry)) scene) × (RegionsPairable (now (s .entry)) scene → T r) ⌝ }
 {
     let f = scene.f;
     let g = scene.g;

@@ -15,6 +15,7 @@ ghost use Rattle.scene.specs.Read.{segmentAt, iaAt, IsScene};
 ghost use Rattle.scene.specs.Conditions.{isRegion};
 ghost use Rattle.strands.specs.Swept.{objectOf, strandOf, isFirst, strandAt, Began, Ended, Entry};
 ghost use Rattle.strands.specs.Ready.{Ready};
+ghost use Rattle.strands.specs.Complete.{CanBegin, CanEnd};
 
 // The number of entries that are now in use, the note of the element, and a place where the next event may well be; or the sweep gives up.
 pub enum Step {
@@ -67,7 +68,7 @@ fn has_region(scene: Scene, first: bool) -> bool
 // A region's interior is above a segment where an even number of its own pass under it.
 fn has_right_ia(s: &[u8], scene: Scene, first: bool, at: usize, own: bool) -> bool
     requires { ⌜ IsScene (now s) scene × Entry (now s) scene at × (isFirst (now s) scene at ≡ first) ⌝ }
-    ensures { λ r. ⌜ (T r → T (isRegion (objectOf (now (s .entry)) scene first .shape)) → own ≡ not (iaAt (now (s .entry)) at)) ⌝ }
+    ensures { λ r. ⌜ (T r → T (isRegion (objectOf (now (s .entry)) scene first .shape)) → own ≡ not (iaAt (now (s .entry)) at)) × ((T (isRegion (objectOf (now (s .entry)) scene first .shape)) → own ≡ not (iaAt (now (s .entry)) at)) → T r) ⌝ }
 {
     if !has_region(scene, first) {
         return true;
@@ -93,7 +94,7 @@ pub fn begin(
     hint: usize,
 ) -> Step
     requires { ⌜ Ready (now s) scene first at (now status) n ⌝ }
-    ensures { λ r. ⌜ (length (now (status .exit)) ≡ length (now (status .entry))) × ((m v h : ℕ) → r ≡ Step.On m v h → (m ≡ n + 1) × (m ≤ length (now (status .exit))) × Began (now (s .entry)) scene first at (take n (now (status .entry))) (take m (now (status .exit))) v) ⌝ }
+    ensures { λ r. ⌜ (length (now (status .exit)) ≡ length (now (status .entry))) × ((m v h : ℕ) → r ≡ Step.On m v h → (m ≡ n + 1) × (m ≤ length (now (status .exit))) × Began (now (s .entry)) scene first at (take n (now (status .entry))) (take m (now (status .exit))) v) × (n < length (now (status .entry)) → CanBegin (now (s .entry)) scene first at (take n (now (status .entry))) → r ≡ Step.Stop → ⊥) ⌝ }
 {
     if n == status.len() {
         return Step::Stop;
@@ -124,7 +125,7 @@ pub fn begin(
 // Is the entry e the strand of the record at an offset: the same segment of the same object, with its ia?
 fn is_own(s: &[u8], scene: Scene, first: bool, at: usize, e: usize) -> bool
     requires { ⌜ IsScene (now s) scene × Entry (now s) scene at × (isFirst (now s) scene at ≡ first) × Entry (now s) scene e ⌝ }
-    ensures { λ r. ⌜ (T r → strandAt (now (s .entry)) scene e ≡ strandOf (now (s .entry)) scene first at) ⌝ }
+    ensures { λ r. ⌜ (T r → strandAt (now (s .entry)) scene e ≡ strandOf (now (s .entry)) scene first at) × (strandAt (now (s .entry)) scene e ≡ strandOf (now (s .entry)) scene first at → T r) ⌝ }
 {
     let g = scene.g;
     if first != (e < g.start) {
@@ -143,7 +144,7 @@ fn is_own(s: &[u8], scene: Scene, first: bool, at: usize, e: usize) -> bool
 // The place of the entry that the right halfsegment at an offset ends: just below the place top, or below entries of the same segment; else top.
 fn own_below(s: &[u8], scene: Scene, first: bool, at: usize, status: &[u16], top: usize) -> usize
     requires { ⌜ Ready (now s) scene first at (now status) top ⌝ }
-    ensures { λ r. ⌜ (r ≤ top) × (r < top → (strandAt (now (s .entry)) scene (getD (now (status .entry)) r 0) ≡ strandOf (now (s .entry)) scene first at) × ((i : ℕ) → r < i → i < top → segmentAt (now (s .entry)) (getD (now (status .entry)) i 0) ≡ segmentAt (now (s .entry)) at)) ⌝ }
+    ensures { λ r. ⌜ (r ≤ top) × (r < top → (strandAt (now (s .entry)) scene (getD (now (status .entry)) r 0) ≡ strandOf (now (s .entry)) scene first at) × ((i : ℕ) → r < i → i < top → segmentAt (now (s .entry)) (getD (now (status .entry)) i 0) ≡ segmentAt (now (s .entry)) at)) × ((k : ℕ) → k < top → strandAt (now (s .entry)) scene (getD (now (status .entry)) k 0) ≡ strandOf (now (s .entry)) scene first at → ((i : ℕ) → k < i → i < top → segmentAt (now (s .entry)) (getD (now (status .entry)) i 0) ≡ segmentAt (now (s .entry)) at) → r < top) ⌝ }
 {
     let t = bytes::segment(s, at);
     let mut k = top;
@@ -172,7 +173,7 @@ pub fn end(
     notes: &[u8],
 ) -> Step
     requires { ⌜ Ready (now s) scene first at (now status) n × (2048 ≤ length (now notes)) ⌝ }
-    ensures { λ r. ⌜ (length (now (status .exit)) ≡ length (now (status .entry))) × ((m v h : ℕ) → r ≡ Step.On m v h → (m + 1 ≡ n) × Ended (now (s .entry)) scene first at (now (notes .entry)) (take n (now (status .entry))) (take m (now (status .exit))) v) ⌝ }
+    ensures { λ r. ⌜ (length (now (status .exit)) ≡ length (now (status .entry))) × ((m v h : ℕ) → r ≡ Step.On m v h → (m + 1 ≡ n) × Ended (now (s .entry)) scene first at (now (notes .entry)) (take n (now (status .entry))) (take m (now (status .exit))) v) × (CanEnd (now (s .entry)) scene first at (take n (now (status .entry))) → r ≡ Step.Stop → ⊥) ⌝ }
 {
     let t = bytes::segment(s, at);
     let top = if n < FEW {

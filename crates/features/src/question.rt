@@ -2,7 +2,6 @@
 use crate::Answer;
 use crate::Explored;
 use crate::Vectors;
-use checks::Noting;
 use checks::Verdict;
 use scene::CheckedScene;
 use scene::Fault;
@@ -16,27 +15,7 @@ ghost use lib.ListN.{length};
 ghost use Rattle.strands.specs.Noted.{Noted};
 ghost use Rattle.features.specs.Vectors.{sceneVectors, answerOf, vectorsOf};
 
-// The wanted flags of both objects of a scene that is taken.
-fn vectors_of(s: &[u8], scene: Scene, want_f: u16, want_g: u16) -> Vectors
-    requires { ⌜ checkScene (now s) ≡ Checked.Taken scene ⌝ }
-    ensures { λ r. ⌜ r ≡ sceneVectors (now (s .entry)) scene «want_f» «want_g» ⌝ }
-{
-    let f = scene.f;
-    let g = scene.g;
-    let of_f = f.shape;
-    let of_g = g.shape;
-    let all = masks::masks_of(of_f, of_g);
-    let mask_f = masks::wanted(all.f, want_f, want_g);
-    let mask_g = masks::wanted(all.g, want_g, want_f);
-    let flags_f = walk::walk(s, f, g, true, collected::unpacked(mask_f));
-    let flags_g = walk::walk(s, g, f, false, collected::unpacked(mask_g));
-    Vectors {
-        f: collected::packed(flags_f),
-        g: collected::packed(flags_g),
-    }
-}
-
-// The same, from what the sweep noted.
+// The wanted flags of both objects of a scene that is taken, from what the sweep noted.
 fn swept_vectors(s: &[u8], scene: Scene, want_f: u16, want_g: u16, notes: &[u8]) -> Vectors
     requires { ⌜ (checkScene (now s) ≡ Checked.Taken scene) × (2048 ≤ length (now notes)) × Noted (now s) scene (now notes) ⌝ }
     ensures { λ r. ⌜ r ≡ sceneVectors (now (s .entry)) scene «want_f» «want_g» ⌝ }
@@ -75,17 +54,11 @@ pub fn answer(s: &[u8], want_f: u16, want_g: u16) -> Answer
                 }
                 let mut notes = [0u8; 2048];
                 match checks::noted_verdict(s, scene, &mut notes) {
-                    Noting::Swept => Answer::Taken {
+                    Verdict::Sound => Answer::Taken {
                         scene,
                         vectors: swept_vectors(s, scene, want_f, want_g, &notes),
                     },
-                    Noting::Plain(v) => match v {
-                        Verdict::Refused(r) => Answer::Refused(r),
-                        Verdict::Sound => Answer::Taken {
-                            scene,
-                            vectors: vectors_of(s, scene, want_f, want_g),
-                        },
-                    },
+                    Verdict::Refused(r) => Answer::Refused(r),
                 }
             }
         },

@@ -3,7 +3,6 @@
 pub mod Bits
 pub mod Sentences
 pub mod ByElement
-pub mod Searching
 pub mod Inside
 pub mod Clear
 pub mod Gathered

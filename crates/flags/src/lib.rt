@@ -17,6 +17,3 @@ pub struct Middle {
     pub shared: bool,
     pub inside: bool,
 }
-
-pub mod position;
-pub mod searches;

@@ -20,7 +20,8 @@ use Rattle.checks.specs.declared.Verdict.the-variants.{Sound, Refused}
 use Rattle.checks.specs.Refusals.{geometryVerdict}
 use Rattle.checks.proofs.Verdicts.{check-refused, check-read}
 use Rattle.checks.proofs.Laws.{sound-scene}
-use Rattle.merging.specs.Walked.{TwoRegions, NotedIf}
+use Rattle.merging.specs.Walked.{TwoRegions}
+use Rattle.strands.specs.Noted.{Noted}
 use Rattle.listable.specs.Rules.{listOf, notRegions, shorter, listRules, judged, checkList, NotedWhere}
 
 -- ---- 16 and 17 come last
@@ -46,8 +47,8 @@ module _ (s : List ℕ) (sc : Scene) (room : ℕ) where
       go Nothing Nothing e = same-scene e
 
   -- so its notes are those of the scene that is taken
-  pub noted-judged : {checked : CheckedScene} {notes : List ℕ} → checked ≡ judged s sc room → NotedIf true s sc notes → NotedWhere true s checked notes
-  noted-judged {checked} {notes} e n o q = subst (λ (sc : Scene). NotedIf true s sc notes) (judged-same o (sym e ∙ q)) n
+  pub noted-judged : {checked : CheckedScene} {notes : List ℕ} → checked ≡ judged s sc room → Noted s sc notes → NotedWhere s checked notes
+  noted-judged {checked} {notes} e n o q = subst (λ (sc : Scene). Noted s sc notes) (judged-same o (sym e ∙ q)) n
 
 -- ---- the check, by the verdicts that led to it
 

@@ -1,7 +1,6 @@
 -- What the overlap list question turns away after all others, 16 and 17, and what the check of a scene promises of the sweep's notes.
 use Prim.Native.Nat.{ℕ}
 use mathlib.Core.Path.{_≡_}
-use mathlib.Core.Bool.{Bool}
 use mathlib.Core.List.{List, [], _∷_}
 use lib.ListN.{length}
 use lib.Dec.{leb}
@@ -12,7 +11,7 @@ use Rattle.scene.specs.Read.{unless, judge}
 use Rattle.scene.specs.Conditions.{isRegion, Rule, rule, orElse, conditions, sceneRules, checkSceneBy}
 use Rattle.flags.specs.Walk.{edges}
 use Rattle.adjoining.specs.Bytes.{overlapBytes}
-use Rattle.merging.specs.Walked.{NotedIf}
+use Rattle.strands.specs.Noted.{Noted}
 
 abbrev pub listOf : List ℕ → Scene → List ℕ
 listOf s sc = overlapBytes (edges s (sc .f)) (edges s (sc .g))
@@ -35,7 +34,7 @@ judged s sc room = judge CheckedScene.Refused (CheckedScene.Taken sc) (condition
 unfoldable pub checkList : List ℕ → ℕ → CheckedScene
 checkList s room = checkSceneBy (sceneRules [] (listRules room)) s
 
--- the notes are left where the scene is taken and the sweep has accepted it
-module _ (swept : Bool) (s : List ℕ) where
+-- the notes are left where the scene is taken
+module _ (s : List ℕ) where
   abbrev pub NotedWhere : CheckedScene → List ℕ → Type 0
-  NotedWhere checked notes = (sc : Scene) → checked ≡ CheckedScene.Taken sc → NotedIf swept s sc notes
+  NotedWhere checked notes = (sc : Scene) → checked ≡ CheckedScene.Taken sc → Noted s sc notes

@@ -36,16 +36,3 @@ either-clear {s} {sc} o t = ⊎-elim of-f of-g
           clear-of (segments s (sc .f)) (all-ordered (o .f-sound)) t d (λ u i. across-swap (across o) t u k i),
           clear-of (segments s (sc .g)) (all-ordered (o .g-sound)) t d (λ u i. split (o .g-sound) .apart t u k i),
         )
-
-pub next-clear : {s : List ℕ} {sc : Scene} → SoundScene s sc → {i j : ℕ} {t : Segment} {k m : ℕ} → NextIs s (sc .f) (sc .g) i j t k m → Clear (segments s (sc .f)) t × Clear (segments s (sc .g)) t
-unfolding segmentsFrom
-next-clear {s} {sc} o {i} {j} {t} n =
-    either-clear o t
-    (⊎-elim (λ h. inl (from-in (o .f-sound) i h)) (λ h. inr (from-in (o .g-sound) j h))
-    (merge-in (segmentsFrom s (sc .f) i) (segmentsFrom s (sc .g) j) (subst (λ (l : List Segment). t ∈ l) (sym (n .merged)) here)))
-  where
-    from-in : {l : Layout} → SoundObject s l → (i : ℕ) → t ∈ segmentsFrom s l i → t ∈ segments s l
-    from-in {l} o i h =
-        let w = map-in (λ k. half s l k .segment) (keep (isLeft s l) (indices (l .count - i) i)) h in
-        let k = keep-in (isLeft s l) (indices (l .count - i) i) (w .1) in
-        subst (λ (t : Segment). t ∈ segments s l) (w .2) (left-in o (w .0) (omega (arith, indices-in (l .count - i) i (w .0) (k .0))) (k .1))

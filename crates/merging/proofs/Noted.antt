@@ -11,6 +11,7 @@ use Rattle.scene.specs.declared.Layout.{Layout}
 use Rattle.scene.specs.declared.Scene.{Scene}
 use Rattle.scene.specs.Conditions.{hasSegments, isRegion, half, ia, isLeft, segments}
 use Rattle.segments.proofs.Elements.{region-segments}
+use Rattle.strands.specs.Noted.{Noted}
 use Rattle.checks.proofs.Laws.{SoundObject, left-in, segments-in-range, across}
 use Rattle.flags.specs.Flags.{hasSegment}
 use Rattle.flags.specs.Walk.{edges, sameIa}
@@ -18,13 +19,13 @@ use Rattle.flags.proofs.ByElement.{outline-edges}
 use Rattle.matrix.proofs.Common.{across-swap}
 use Rattle.classes.specs.Walked.{NextOfF, NextOfG, NextOfBoth}
 use Rattle.classes.proofs.Behind.{shared, edge-is}
-use Rattle.classes.proofs.Standing.{one-segment, standing-f, alone-f, standing-g, alone-g, standing-both}
+use Rattle.classes.proofs.Standing.{Standing, one-segment, standing-f, alone-f, standing-g, alone-g, standing-both}
 use Rattle.gathered.proofs.Noting.{Knows, knows-f, knows-g, middle-inside}
 use Rattle.adjoining.specs.declared.Sides.{Sides}
 use Rattle.adjoining.specs.Bytes.{adjoins}
 use Rattle.adjoining.proofs.Adjoins.{adjoins-own, adjoins-other}
 use Rattle.adjoining.proofs.BySides.{SidesAre, coded, coded-byte}
-use Rattle.merging.specs.Walked.{TwoRegions, NotedIf, Stands, NextByte}
+use Rattle.merging.specs.Walked.{TwoRegions, NextByte}
 use Rattle.merging.proofs.Merging.{list-f, list-g, list-both}
 
 -- ---- the sides of one region
@@ -69,15 +70,15 @@ module _ {s : List ℕ} {sc : Scene} (two : TwoRegions s sc) where
   is-g : isRegion (g .shape) ≡ true
   is-g = true-is (isRegion (g .shape)) (two .2)
 
-  module _ {notes : List ℕ} (noted : NotedIf true s sc notes) {i j a b : ℕ} (w : Stands true s f g i j) {x y : Sides} {r : ℕ} (code : r ≡ coded x y) where
-    pub noted-f : NextOfF s f g i j a b → OwnSides x (ia s f a) → NoteSides y (getD notes a 0) → NextByte true s f g i j r (a + 1) b
+  module _ {notes : List ℕ} (noted : Noted s sc notes) {i j a b : ℕ} (w : Standing s f g i j) {x y : Sides} {r : ℕ} (code : r ≡ coded x y) where
+    pub noted-f : NextOfF s f g i j a b → OwnSides x (ia s f a) → NoteSides y (getD notes a 0) → NextByte s f g i j r (a + 1) b
     noted-f n p q = record {
       segment = half s f a .segment;
       next = list-f s f g (segments-in-range (two .0 .f-sound) (left-in (two .0 .f-sound) a (n .there) left)) n refl;
       byte =
           coded-byte (edges s f) (edges s g) (half s f a .segment) code (own-sides (two .0 .f-sound) (n .there) left p)
-          (note-sides (two .0 .f-sound) (two .0 .g-sound) has is-g (across (two .0)) (knows-f (noted tt) has) a (n .there) (alone-f (two .0) (w tt) n) q);
-      stands = λ _. standing-f (two .0) (w tt) n;
+          (note-sides (two .0 .f-sound) (two .0 .g-sound) has is-g (across (two .0)) (knows-f noted has) a (n .there) (alone-f (two .0) w n) q);
+      stands = standing-f (two .0) w n;
     }
       where
         left : isLeft s f a ≡ true
@@ -86,15 +87,15 @@ module _ {s : List ℕ} {sc : Scene} (two : TwoRegions s sc) where
         has : hasSegments (f .shape) ≡ true
         has = region-segments (f .shape) is-f
 
-    pub noted-g : NextOfG s f g i j a b → NoteSides x (getD notes (1024 + b) 0) → OwnSides y (ia s g b) → NextByte true s f g i j r a (b + 1)
+    pub noted-g : NextOfG s f g i j a b → NoteSides x (getD notes (1024 + b) 0) → OwnSides y (ia s g b) → NextByte s f g i j r a (b + 1)
     noted-g n p q = record {
       segment = half s g b .segment;
       next = list-g s f g (segments-in-range (two .0 .g-sound) (left-in (two .0 .g-sound) b (n .there) left)) n refl;
       byte =
           coded-byte (edges s f) (edges s g) (half s g b .segment) code
-          (note-sides (two .0 .g-sound) (two .0 .f-sound) has is-f (across-swap (across (two .0))) (knows-g (noted tt) has) b (n .there) (alone-g (two .0) (w tt) n) p)
+          (note-sides (two .0 .g-sound) (two .0 .f-sound) has is-f (across-swap (across (two .0))) (knows-g noted has) b (n .there) (alone-g (two .0) w n) p)
           (own-sides (two .0 .g-sound) (n .there) left q);
-      stands = λ _. standing-g (two .0) (w tt) n;
+      stands = standing-g (two .0) w n;
     }
       where
         left : isLeft s g b ≡ true
@@ -103,14 +104,14 @@ module _ {s : List ℕ} {sc : Scene} (two : TwoRegions s sc) where
         has : hasSegments (g .shape) ≡ true
         has = region-segments (g .shape) is-g
 
-    pub noted-both : NextOfBoth s f g i j a b → OwnSides x (ia s f a) → OwnSides y (ia s g b) → NextByte true s f g i j r (a + 1) (b + 1)
+    pub noted-both : NextOfBoth s f g i j a b → OwnSides x (ia s f a) → OwnSides y (ia s g b) → NextByte s f g i j r (a + 1) (b + 1)
     noted-both n p q = record {
       segment = half s f a .segment;
       next = list-both s f g (segments-in-range (two .0 .f-sound) (left-in (two .0 .f-sound) a (n .there-f) left-f)) n refl;
       byte =
           coded-byte (edges s f) (edges s g) (half s f a .segment) code (own-sides (two .0 .f-sound) (n .there-f) left-f p)
           (subst (SidesAre y (edges s g)) (sym (one-segment n)) (own-sides (two .0 .g-sound) (n .there-g) (n .nexts .of-g .there (n .there-g)) q));
-      stands = λ _. standing-both (two .0) (w tt) n;
+      stands = standing-both (two .0) w n;
     }
       where
         left-f : isLeft s f a ≡ true

@@ -1,7 +1,6 @@
 -- What the walk over the different segments of two regions promises: the segments from an element on, and the next of both objects, with its byte.
 use Prim.Native.Nat.{ℕ, _+_, _-_, _<_, _≤_}
 use mathlib.Core.Path.{_≡_}
-use mathlib.Core.Bool.{Bool}
 use mathlib.Core.List.{List, [], _∷_, map}
 use lib.Dec.{T}
 use Rattle.plane.specs.declared.Segment.{Segment}
@@ -9,7 +8,6 @@ use Rattle.plane.specs.Plane.{segmentInRange}
 use Rattle.scene.specs.declared.Layout.{Layout}
 use Rattle.scene.specs.declared.Scene.{Scene}
 use Rattle.scene.specs.Conditions.{indices, keep, isRegion, half, isLeft}
-use Rattle.strands.specs.Noted.{Noted}
 use Rattle.checks.proofs.Laws.{SoundScene}
 use Rattle.flags.specs.Walk.{edges}
 use Rattle.classes.proofs.Standing.{Standing}
@@ -38,26 +36,19 @@ module _ (s : List ℕ) (f g : Layout) where
   Stepped i j (Next t k m) = NextIs i j t k m
   Stepped i j End = mergedFrom i j ≡ []
 
--- ---- with the byte, by the notes where the sweep has noted
+-- ---- with the byte, by the sweep's notes
 
 abbrev pub TwoRegions : List ℕ → Scene → Type 0
 TwoRegions s sc = SoundScene s sc × T (isRegion (sc .f .shape)) × T (isRegion (sc .g .shape))
 
-module _ (swept : Bool) (s : List ℕ) where
-  abbrev pub NotedIf : Scene → List ℕ → Type 0
-  NotedIf sc notes = T swept → Noted s sc notes
+module _ (s : List ℕ) (f g : Layout) where
+  -- what is passed of either region comes before all that is left of the other
+  pub record NextByte (i j b k m : ℕ) : Type 0 where
+    pub segment : Segment
+    pub next : NextIs s f g i j segment k m
+    pub byte : b ≡ byteOf (edges s f) (edges s g) segment
+    pub stands : Standing s f g k m
 
-  module _ (f g : Layout) where
-    -- what is passed of either region comes before all that is left of the other
-    abbrev pub Stands : ℕ → ℕ → Type 0
-    Stands i j = T swept → Standing s f g i j
-
-    pub record NextByte (i j b k m : ℕ) : Type 0 where
-      pub segment : Segment
-      pub next : NextIs s f g i j segment k m
-      pub byte : b ≡ byteOf (edges s f) (edges s g) segment
-      pub stands : Stands k m
-
-    abbrev pub ByteStepped : ℕ → ℕ → ByteStep → Type 0
-    ByteStepped i j (ByteStep.Next b k m) = NextByte i j b k m
-    ByteStepped i j ByteStep.End = mergedFrom s f g i j ≡ []
+  abbrev pub ByteStepped : ℕ → ℕ → ByteStep → Type 0
+  ByteStepped i j (ByteStep.Next b k m) = NextByte i j b k m
+  ByteStepped i j ByteStep.End = mergedFrom s f g i j ≡ []

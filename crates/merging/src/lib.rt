@@ -1,19 +1,20 @@
 // The different segments of two regions one after the other, in the order of left halfsegments, by a place in each of the two objects; how many they
-// are, and the byte of each, by what the sweep noted where it has noted, and else by searches.
+// are, and the byte of each, by what the sweep noted.
 use classes::merged;
 use plane::Segment;
 use scene::Layout;
 use scene::Scene;
 ghost use mathlib.Core.Path.{_≡_};
-ghost use mathlib.Core.Bool.{true, false};
 ghost use Prim.Native.Nat.{_≤_};
 ghost use lib.ListN.{length};
 ghost use lib.Dec.{T};
 ghost use Rattle.scene.specs.Read.{IsObject};
 ghost use Rattle.scene.specs.Conditions.{isRegion};
+ghost use Rattle.strands.specs.Noted.{Noted};
 ghost use Rattle.flags.specs.Walk.{edges};
+ghost use Rattle.classes.proofs.Standing.{Standing};
 ghost use Rattle.adjoining.specs.Bytes.{overlapBytes};
-ghost use Rattle.merging.specs.Walked.{Stepped, TwoRegions, NotedIf, Stands, ByteStepped};
+ghost use Rattle.merging.specs.Walked.{Stepped, TwoRegions, ByteStepped};
 
 // What comes next from a place in each object: a segment, with the places after it.
 pub enum Step {
@@ -84,31 +85,10 @@ pub enum ByteStep {
     End,
 }
 
-// By searches.
-fn next_plain(s: &[u8], scene: Scene, i: usize, j: usize) -> ByteStep
-    requires { ⌜ TwoRegions (now s) scene × (i ≤ scene .f .count) × (j ≤ scene .g .count) ⌝ }
-    ensures { λ r. ⌜ ByteStepped false (now (s .entry)) (scene .f) (scene .g) i j r ⌝ }
-{
-    let f = scene.f;
-    let g = scene.g;
-    match next_step(s, f, g, i, j) {
-        Step::Next {
-            segment,
-            i: k,
-            j: m,
-        } => ByteStep::Next {
-            byte: adjoining::byte(s, f, g, segment),
-            i: k,
-            j: m,
-        },
-        Step::End => ByteStep::End,
-    }
-}
-
 // By the notes: a segment of one region alone lies inside the other where its note is not 0.
-fn next_noted(s: &[u8], scene: Scene, notes: &[u8], i: usize, j: usize) -> ByteStep
-    requires { ⌜ TwoRegions (now s) scene × (i ≤ scene .f .count) × (j ≤ scene .g .count) × (2048 ≤ length (now notes)) × NotedIf true (now s) scene (now notes) × Stands true (now s) (scene .f) (scene .g) i j ⌝ }
-    ensures { λ r. ⌜ ByteStepped true (now (s .entry)) (scene .f) (scene .g) i j r ⌝ }
+pub fn next_byte(s: &[u8], scene: Scene, notes: &[u8], i: usize, j: usize) -> ByteStep
+    requires { ⌜ TwoRegions (now s) scene × (i ≤ scene .f .count) × (j ≤ scene .g .count) × (2048 ≤ length (now notes)) × Noted (now s) scene (now notes) × Standing (now s) (scene .f) (scene .g) i j ⌝ }
+    ensures { λ r. ⌜ ByteStepped (now (s .entry)) (scene .f) (scene .g) i j r ⌝ }
 {
     let f = scene.f;
     let g = scene.g;
@@ -135,16 +115,5 @@ fn next_noted(s: &[u8], scene: Scene, notes: &[u8], i: usize, j: usize) -> ByteS
             j: b + 1,
         },
         merged::Step::End => ByteStep::End,
-    }
-}
-
-pub fn next_byte(s: &[u8], scene: Scene, swept: bool, notes: &[u8], i: usize, j: usize) -> ByteStep
-    requires { ⌜ TwoRegions (now s) scene × (i ≤ scene .f .count) × (j ≤ scene .g .count) × (2048 ≤ length (now notes)) × NotedIf swept (now s) scene (now notes) × Stands swept (now s) (scene .f) (scene .g) i j ⌝ }
-    ensures { λ r. ⌜ ByteStepped swept (now (s .entry)) (scene .f) (scene .g) i j r ⌝ }
-{
-    if swept {
-        next_noted(s, scene, notes, i, j)
-    } else {
-        next_plain(s, scene, i, j)
     }
 }

@@ -5,7 +5,7 @@ use plane::Segment;
 use scene::Scene;
 use scene::bytes;
 ghost use mathlib.Core.Path.{_≡_};
-ghost use mathlib.Core.Bool.{not, _&&_, _||_};
+ghost use mathlib.Core.Bool.{false, not, _&&_, _||_};
 ghost use Prim.Native.Nat.{ℕ, suc, _<_, _≤_};
 ghost use lib.Dec.{T};
 ghost use lib.ListN.{length, getD};
@@ -84,7 +84,7 @@ fn segment_of(s: &[u8], status: &[u16], i: usize) -> Segment
 // The first entry that passes over p, by halving, where those below it do not; without that order, one that passes over p.
 pub fn first_over(s: &[u8], p: Point, status: &[u16], n: usize) -> usize
     requires { ⌜ T (inRange p) × Readable (now s) (now status) n ⌝ }
-    ensures { λ r. ⌜ (r ≤ n) × (r < n → T (passesOver (segmentAt (now (s .entry)) (getD (now (status .entry)) r 0)) p)) ⌝ }
+    ensures { λ r. ⌜ (r ≤ n) × (r < n → T (passesOver (segmentAt (now (s .entry)) (getD (now (status .entry)) r 0)) p)) × ((i : ℕ) → suc i ≡ r → passesOver (segmentAt (now (s .entry)) (getD (now (status .entry)) i 0)) p ≡ false) ⌝ }
 {
     let mut low: usize = 0;
     let mut high = n;
@@ -102,7 +102,7 @@ pub fn first_over(s: &[u8], p: Point, status: &[u16], n: usize) -> usize
 // Is k a place for p: the entry just below it does not pass over p, and the one there does?
 fn is_place(s: &[u8], p: Point, status: &[u16], n: usize, k: usize) -> bool
     requires { ⌜ T (inRange p) × Readable (now s) (now status) n ⌝ }
-    ensures { λ r. ⌜ (T r → (k ≤ n) × (k < n → T (passesOver (segmentAt (now (s .entry)) (getD (now (status .entry)) k 0)) p))) ⌝ }
+    ensures { λ r. ⌜ (T r → (k ≤ n) × (k < n → T (passesOver (segmentAt (now (s .entry)) (getD (now (status .entry)) k 0)) p)) × ((i : ℕ) → suc i ≡ k → passesOver (segmentAt (now (s .entry)) (getD (now (status .entry)) i 0)) p ≡ false)) ⌝ }
 {
     if n < k {
         return false;
@@ -122,7 +122,7 @@ fn is_place(s: &[u8], p: Point, status: &[u16], n: usize, k: usize) -> bool
 // the next one is there.
 pub fn near(s: &[u8], p: Point, status: &[u16], n: usize, hint: usize) -> usize
     requires { ⌜ T (inRange p) × Readable (now s) (now status) n ⌝ }
-    ensures { λ r. ⌜ (r ≤ n) × (r < n → T (passesOver (segmentAt (now (s .entry)) (getD (now (status .entry)) r 0)) p)) ⌝ }
+    ensures { λ r. ⌜ (r ≤ n) × (r < n → T (passesOver (segmentAt (now (s .entry)) (getD (now (status .entry)) r 0)) p)) × ((i : ℕ) → suc i ≡ r → passesOver (segmentAt (now (s .entry)) (getD (now (status .entry)) i 0)) p ≡ false) ⌝ }
 {
     if is_place(s, p, status, n, hint) {
         return hint;
@@ -138,7 +138,7 @@ pub fn near(s: &[u8], p: Point, status: &[u16], n: usize, hint: usize) -> usize
 // Does the entry just below place k belong under the segment that begins, and is it the lower of the two at the right?
 pub fn fits_over(s: &[u8], scene: Scene, first: bool, at: usize, status: &[u16], k: usize) -> bool
     requires { ⌜ GoodHalfsegment (now s) at × Readable (now s) (now status) k ⌝ }
-    ensures { λ r. ⌜ (T r → (i : ℕ) → suc i ≡ k → T (underBeginning (strandOf (now (s .entry)) scene first at) (strandAt (now (s .entry)) scene (getD (now (status .entry)) i 0))) × T (lowerAtRight (segmentAt (now (s .entry)) (getD (now (status .entry)) i 0)) (segmentAt (now (s .entry)) at))) ⌝ }
+    ensures { λ r. ⌜ (T r → (i : ℕ) → suc i ≡ k → T (underBeginning (strandOf (now (s .entry)) scene first at) (strandAt (now (s .entry)) scene (getD (now (status .entry)) i 0))) × T (lowerAtRight (segmentAt (now (s .entry)) (getD (now (status .entry)) i 0)) (segmentAt (now (s .entry)) at))) × (((i : ℕ) → suc i ≡ k → T (underBeginning (strandOf (now (s .entry)) scene first at) (strandAt (now (s .entry)) scene (getD (now (status .entry)) i 0))) × T (lowerAtRight (segmentAt (now (s .entry)) (getD (now (status .entry)) i 0)) (segmentAt (now (s .entry)) at))) → T r) ⌝ }
 {
     if k == 0 {
         return true;
@@ -153,7 +153,7 @@ pub fn fits_over(s: &[u8], scene: Scene, first: bool, at: usize, status: &[u16],
 // Is the segment that begins the lower of itself and the entry at place k at the right?
 pub fn fits_under(s: &[u8], at: usize, status: &[u16], k: usize, n: usize) -> bool
     requires { ⌜ GoodHalfsegment (now s) at × Readable (now s) (now status) n ⌝ }
-    ensures { λ r. ⌜ (T r → k < n → T (lowerAtRight (segmentAt (now (s .entry)) at) (segmentAt (now (s .entry)) (getD (now (status .entry)) k 0)))) ⌝ }
+    ensures { λ r. ⌜ (T r → k < n → T (lowerAtRight (segmentAt (now (s .entry)) at) (segmentAt (now (s .entry)) (getD (now (status .entry)) k 0)))) × ((k < n → T (lowerAtRight (segmentAt (now (s .entry)) at) (segmentAt (now (s .entry)) (getD (now (status .entry)) k 0)))) → T r) ⌝ }
 {
     if n <= k {
         return true;
@@ -165,7 +165,7 @@ pub fn fits_under(s: &[u8], at: usize, status: &[u16], k: usize, n: usize) -> bo
 // Where the entry at place k goes, is the one below it the lower of itself and the one above it at the right?
 pub fn can_meet(s: &[u8], status: &[u16], k: usize, n: usize) -> bool
     requires { ⌜ (k < n) × Readable (now s) (now status) n ⌝ }
-    ensures { λ r. ⌜ (T r → (i : ℕ) → suc i ≡ k → suc k < n → T (lowerAtRight (segmentAt (now (s .entry)) (getD (now (status .entry)) i 0)) (segmentAt (now (s .entry)) (getD (now (status .entry)) (suc k) 0)))) ⌝ }
+    ensures { λ r. ⌜ (T r → (i : ℕ) → suc i ≡ k → suc k < n → T (lowerAtRight (segmentAt (now (s .entry)) (getD (now (status .entry)) i 0)) (segmentAt (now (s .entry)) (getD (now (status .entry)) (suc k) 0)))) × (((i : ℕ) → suc i ≡ k → suc k < n → T (lowerAtRight (segmentAt (now (s .entry)) (getD (now (status .entry)) i 0)) (segmentAt (now (s .entry)) (getD (now (status .entry)) (suc k) 0)))) → T r) ⌝ }
 {
     if k == 0 {
         return true;

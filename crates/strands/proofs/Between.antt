@@ -20,12 +20,12 @@ use Rattle.strands.proofs.Under.{NotBefore, after-x, after-y, side-left
 
 -- ---- directions that point right or straight up
 
-turned : (s t : Segment) → turns s t ≡ negℤ (turns t s)
+pub turned : (s t : Segment) → turns s t ≡ negℤ (turns t s)
 unfolding turns
 turned s t = solve (run s ∷ rise s ∷ run t ∷ rise t ∷ []) (var 0 :* var 3 :- var 1 :* var 2) (opp (var 2 :* var 1 :- var 3 :* var 0)) tt
 
 -- by the x part of (s × u) t = (t × u) s + (s × t) u, × the turn
-turns-weak : {s t u : Segment} → Ordered s → Ordered t → Ordered u → NonNeg (turns s t) → NonNeg (turns t u) → NonNeg (turns s u)
+pub turns-weak : {s t u : Segment} → Ordered s → Ordered t → Ordered u → NonNeg (turns s t) → NonNeg (turns t u) → NonNeg (turns s u)
 unfolding turns
 turns-weak {s} {t} {u} o (slanting w) q h k =
     cancel-nonneg w
@@ -49,19 +49,19 @@ turns-weak {s} {t} {u} o (upright e w) q h k = go q
         (solve (run s ∷ rise s ∷ rise u ∷ []) (var 0 :* var 2) (var 0 :* var 2 :- var 1 :* con (pos 0)) tt ∙ ap (λ z. run s *ℤ rise u -ℤ rise s *ℤ z) (sym f))
         (nonneg-mul (width o) (pos-nonneg v))
 
-round : {s t u : Segment} → Ordered s → Ordered t → Ordered u → NonNeg (turns s t) → NonNeg (turns t u) → Pos (turns u s) → ⊥
+pub round : {s t u : Segment} → Ordered s → Ordered t → Ordered u → NonNeg (turns s t) → NonNeg (turns t u) → Pos (turns u s) → ⊥
 round {s} {t} {u} o p q h k l = nonneg-clash (turns-weak o p q h k) (neg-of-pos (turns s u) (subst Pos (turned u s) l))
 
 -- ---- from one point to another
 
-abbrev way : Point → Point → Segment
+abbrev pub way : Point → Point → Segment
 way p q = record { left = p; right = q }
 
-abbrev sideOf : Segment → Point → ℤ
+abbrev pub sideOf : Segment → Point → ℤ
 sideOf s p = side (s .left) (s .right) p
 
 -- how the side value changes on the way
-turns-to : (s : Segment) (p q : Point) → turns s (way p q) ≡ sideOf s q -ℤ sideOf s p
+pub turns-to : (s : Segment) (p q : Point) → turns s (way p q) ≡ sideOf s q -ℤ sideOf s p
 unfolding turns side
 turns-to s p q =
     solve (s .left .x ∷ s .left .y ∷ s .right .x ∷ s .right .y ∷ p .x ∷ p .y ∷ q .x ∷ q .y ∷ [])
@@ -69,7 +69,7 @@ turns-to s p q =
     ((var 2 :- var 0) :* (var 7 :- var 1) :- (var 3 :- var 1) :* (var 6 :- var 0) :- ((var 2 :- var 0) :* (var 5 :- var 1) :- (var 3 :- var 1) :* (var 4 :- var 0)))
     tt
 
-turns-from : (s : Segment) (p q : Point) → turns (way p q) s ≡ sideOf s p -ℤ sideOf s q
+pub turns-from : (s : Segment) (p q : Point) → turns (way p q) s ≡ sideOf s p -ℤ sideOf s q
 turns-from s p q =
     turned (way p q) s ∙ ap negℤ (turns-to s p q) ∙ solve (sideOf s p ∷ sideOf s q ∷ []) (opp (var 1 :- var 0)) (var 0 :- var 1) tt
 
@@ -80,7 +80,7 @@ turns-at s t e =
     ∙ ap (λ z. sideOf s (t .right) -ℤ z) (sym (subst (λ q. sideOf s q ≡ pos 0) e (side-left s)))
     ∙ sym (turns-to s (t .left) (t .right))
 
-not-before : (p q : Point) → NotBefore p q → (p ≡ q) ⊎ Ordered (way q p)
+pub not-before : (p q : Point) → NotBefore p q → (p ≡ q) ⊎ Ordered (way q p)
 not-before p q h = by-x (weak (after-x p q h))
   where
     by-x : Weak (p .x -ℤ q .x) → (p ≡ q) ⊎ Ordered (way q p)

@@ -1,6 +1,6 @@
 -- The entries of the status: each can be read where it stands in the bytes. And what holds of them by their places, as the loops find it, holds of
 -- them as members of a list.
-use Prim.Native.Nat.{ℕ, _+_, _-_, _<_, _≤_}
+use Prim.Native.Nat.{ℕ, suc, _+_, _-_, _<_, _≤_}
 use native.Mathlib.Decide.{ℕ-discrete}
 use native.Mathlib.Omega.{arith}
 use mathlib.Core.Path.{_≡_, refl, sym, ap, ap₂, subst, _∙_}
@@ -13,6 +13,7 @@ use native.Mathlib.Numerals.{add-one}
 use Rattle.whole.specs.Count.{_∈_, bit, count}
 use Rattle.whole.proofs.Logic.{in-at, in-index, in-left}
 use Rattle.whole.proofs.Parity.{_⊻_, xor-false, parity, parity-nil, parity-cons, parity-append}
+use Rattle.plane.specs.declared.Point.{Point}
 use Rattle.plane.specs.declared.Segment.{Segment}
 use Rattle.plane.specs.Plane.{segmentInRange}
 use Rattle.scene.specs.declared.Scene.{Scene}
@@ -20,6 +21,8 @@ use Rattle.scene.specs.Read.{place, segmentAt, iaAt, IsScene}
 use Rattle.scene.specs.Conditions.{hasSegments, isRegion}
 use Rattle.scene.proofs.Taken.{TakenScene, taken-scene, scene-short}
 use Rattle.scene.proofs.Given.{GoodHalfsegment, good-halfsegment, ia-there}
+use Rattle.strands.specs.Lower.{passesOver}
+use Rattle.strands.specs.Complete.{Place}
 use Rattle.strands.specs.Swept.{objectOf, isFirst, strandOf, strandAt, Entry}
 use Rattle.strands.specs.Ready.{Placed, Readable, Ready}
 use Rattle.strands.proofs.Objects.{few-elements}
@@ -75,6 +78,10 @@ in-range-at r e = subst (λ (t : Segment). T (segmentInRange t)) (sym e) (r .in-
 -- a test of two segments that was passed
 pub passed : (f : Segment → Segment → Bool) {u t x y : Segment} {r : Bool} → r ≡ f u t → u ≡ x → t ≡ y → T r → T (f x y)
 passed f k p q h = subst T (k ∙ ap₂ f p q) h
+
+-- and one that is passed
+pub passing : (f : Segment → Segment → Bool) {u t x y : Segment} {r : Bool} → r ≡ f u t → u ≡ x → t ≡ y → T (f x y) → T r
+passing f k p q h = subst T (sym (k ∙ ap₂ f p q)) h
 
 -- ---- the status
 
@@ -159,3 +166,22 @@ parity-one f l i h {odd} e =
     ∙ ap₂ _⊻_ e (sym (xor-false (f (getD l i 0))) ∙ ap (λ (b : Bool). f (getD l i 0) ⊻ b) (sym (parity-nil f)) ∙ sym (parity-cons f (getD l i 0) []))
     ∙ sym (parity-append f (take i l) (getD l i 0 ∷ []))
     ∙ ap (parity f) (sym (take-suc l i 0 h) ∙ ap (λ (m : ℕ). take m l) (sym (add-one i)))
+
+-- ---- a place in the first n entries
+
+module _ (s status : List ℕ) (n : ℕ) (room : n ≤ length status) where
+  pub first-entries : (P : ℕ → Type 0) (i : ℕ) → i < n → P (getD (take n status) i 0) → P (getD status i 0)
+  first-entries P i h p = subst P (getD-take n status i 0 h) p
+
+  pub place-of : (p : Point) (k : ℕ)
+      → (k ≤ n) × (k < n → T (passesOver (segmentAt s (getD status k 0)) p)) × ((i : ℕ) → suc i ≡ k → passesOver (segmentAt s (getD status i 0)) p ≡ false)
+      → Place s (take n status) p k
+  place-of p k w =
+      record {
+        within = omega (arith, size, w .0);
+        over-it = λ h. let b : k < n = omega (arith, size) in subst (λ (e : ℕ). T (passesOver (segmentAt s e) p)) (sym (getD-take n status k 0 b)) (w .1 b);
+        not-below = λ i e. let b : i < n = omega (arith, w .0) in subst (λ (m : ℕ). passesOver (segmentAt s m) p ≡ false) (sym (getD-take n status i 0 b)) (w .2 i e);
+      }
+    where
+      size : length (take n status) ≡ n
+      size = length-take-le n status room

@@ -60,7 +60,7 @@ module _ {A : Type 0} {R : A → A → Type 0} where
   sorted-before (c ∷ l) a m (sorted-cons first rest) b here = first a (at-between l a m)
   sorted-before (c ∷ l) a m (sorted-cons first rest) b (there k) = sorted-before l a m rest b k
 
-  sorted-after : (l : List A) (a : A) (m : List A) → Sorted R (l ++ (a ∷ m)) → (b : A) → b ∈ m → R a b
+  pub sorted-after : (l : List A) (a : A) (m : List A) → Sorted R (l ++ (a ∷ m)) → (b : A) → b ∈ m → R a b
   sorted-after [] a m (sorted-cons first rest) b k = first b k
   sorted-after (c ∷ l) a m (sorted-cons first rest) b k = sorted-after l a m rest b k
 
@@ -68,7 +68,7 @@ same-clear : (s t : Segment) → s ≡ t → touch s t ≡ false
 unfolding touch
 same-clear s t e = rw (true-is (sameSegment s t) (subst (λ r. T (sameSegment s r)) e (sameSegment-refl s)))
 
-no-and : (x y : Bool) → y ≡ false → x && y ≡ false
+pub no-and : (x y : Bool) → y ≡ false → x && y ≡ false
 no-and true y e = e
 no-and false y e = refl
 
@@ -165,7 +165,7 @@ module _ (isRegion : Bool → Bool) where
     still-under object b m = omega (arith, ap bit (no-and (isOf object a) (under (b .segment) (a .segment)) (not-under b m)))
 
     -- nor is it the same segment of the same object as one that has
-    new-segment : NoneEqual (a .first) a begun
+    pub new-segment : NoneEqual (a .first) a begun
     unfolding ordered
     new-segment b m d e = ⊎-elim (λ n. ⊎-elim (λ l. below (g .under-it b l)) (λ h. above (g .over-it b h)) (in-append low n)) past (k .placed b m)
       where

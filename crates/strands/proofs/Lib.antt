@@ -20,3 +20,13 @@ pub mod Entries
 pub mod Pairs
 pub mod Located
 pub mod PointRun
+pub mod Crossing
+pub mod Strict
+pub mod Fits
+pub mod Complete
+pub mod SoundObject
+pub mod Lasting
+pub mod Fairness
+pub mod Evened
+pub mod Few
+pub mod Sure

@@ -87,7 +87,7 @@ count-all f (a ∷ l) h = omega (arith, ap bit (true-is (f a) (h a here)), count
 -- ---- one segment beside a point that is no end of it
 
 -- points neither of which comes before the other are one
-not-before-both : (p q : Point) → NotBefore p q → NotBefore q p → p ≡ q
+pub not-before-both : (p q : Point) → NotBefore p q → NotBefore q p → p ≡ q
 not-before-both p q h k = point-eq same-x (both (p .y) (q .y) (after-y p q h same-x) (after-y q p k (sym same-x)))
   where
     both : (a b : ℤ) → NonNeg (a -ℤ b) → NonNeg (b -ℤ a) → a ≡ b

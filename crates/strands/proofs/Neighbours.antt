@@ -38,13 +38,13 @@ turns-left s t e l =
     (or-cases (passesUnder s (t .left) || passesOver t (s .left)) (samePoint (s .left) (t .left) && passesUnder s (t .right)) l)
 
 -- b stands just below c, and p comes between the ends of both
-record Below (p : Point) (b c : Strand) : Type 0 where
-  lower-spans : Spans p (b .segment)
-  upper-spans : Spans p (c .segment)
-  at-left : Lower b c
-  at-right : T (lowerAtRight (b .segment) (c .segment))
+pub record Below (p : Point) (b c : Strand) : Type 0 where
+  pub lower-spans : Spans p (b .segment)
+  pub upper-spans : Spans p (c .segment)
+  pub at-left : Lower b c
+  pub at-right : T (lowerAtRight (b .segment) (c .segment))
 
-over-up : {p : Point} {b c : Strand} → Below p b c → T (passesOver (b .segment) p) → T (passesOver (c .segment) p)
+pub over-up : {p : Point} {b c : Strand} → Below p b c → T (passesOver (b .segment) p) → T (passesOver (c .segment) p)
 over-up {p} {b} {c} n h =
     ⊎-elim (λ e. subst (λ (s : Segment). T (passesOver s p)) e h) (λ l. over-next (b .segment) (c .segment) p (n .lower-spans) (n .upper-spans) l (n .at-right) h) (n .at-left)
 
@@ -89,7 +89,7 @@ end-down a {b} {c} n u = go (n .at-left) u
 module _ (isRegion : Bool → Bool) {begun ended : List Strand} {E : Type 0} (strand : E → Strand) (d : E) (l : List E)
     (kept : Kept isRegion begun ended (map strand l)) (n : Linked (λ e f. T (lowerAtRight (strand e .segment) (strand f .segment))) l) where
   module _ {p : Point} (r : Reached p begun ended (map strand l)) where
-    spans : (e : E) → e ∈ l → Spans p (strand e .segment)
+    pub spans : (e : E) → e ∈ l → Spans p (strand e .segment)
     spans e m =
         record {
           in-order = ordered-read (strand e .segment) (kept .sound (strand e) (kept .active-begun (strand e) (in-map strand m)));
@@ -97,7 +97,7 @@ module _ (isRegion : Bool → Bool) {begun ended : List Strand} {E : Type 0} (st
           not-ended = r .active-on (strand e) (in-map strand m);
         }
 
-    linked : {S : E → E → Type 0} → ((e f : E) → e ∈ l → f ∈ l → Below p (strand e) (strand f) → S e f) → Linked S l
+    pub linked : {S : E → E → Type 0} → ((e f : E) → e ∈ l → f ∈ l → Below p (strand e) (strand f) → S e f) → Linked S l
     linked g = linked-sorted strand l n (kept .rising) (λ e f m h q o. g e f m h (record { lower-spans = spans e m; upper-spans = spans f h; at-left = o; at-right = q }))
 
     -- those from a place on pass over p

@@ -42,7 +42,7 @@ under-beginning-read a b t =
 -- ---- lists
 
 module _ {A B : Type 0} (f : A → B) where
-  map-append : (l m : List A) → map f (l ++ m) ≡ map f l ++ map f m
+  pub map-append : (l m : List A) → map f (l ++ m) ≡ map f l ++ map f m
   map-append [] m = refl
   map-append (a ∷ l) m = ap (λ r. f a ∷ r) (map-append l m)
 
@@ -101,7 +101,7 @@ module _ (s : List ℕ) (sc : Scene) where
   unfolding dominating
   left-point first k e = ap (λ b. choose b (segmentAt s (place (objectOf s sc first) k) .left) (segmentAt s (place (objectOf s sc first) k) .right)) e
 
-  right-point : (first : Bool) (k : ℕ) → isBeginning s sc first k ≡ false → pointOf first k ≡ segmentAt s (place (objectOf s sc first) k) .right
+  pub right-point : (first : Bool) (k : ℕ) → isBeginning s sc first k ≡ false → pointOf first k ≡ segmentAt s (place (objectOf s sc first) k) .right
   unfolding dominating
   right-point first k e = ap (λ b. choose b (segmentAt s (place (objectOf s sc first) k) .left) (segmentAt s (place (objectOf s sc first) k) .right)) e
 
@@ -147,13 +147,13 @@ module _ (s : List ℕ) (sc : Scene) where
 
   module _ (o : Orderly) {i j : ℕ} {entries : List ℕ} (run : Run i j entries) (first : Bool) (more : reached s sc i j first < total s sc first)
       (least : (other : Bool) (m : ℕ) → reached s sc i j other ≤ m → m < total s sc other → NotBefore (pointOf other m) (pointOf first (reached s sc i j first))) where
-    reaching : AllEndLater i j entries → Reached (pointOf first (reached s sc i j first)) (strands s sc true i j) (strands s sc false i j) (map (strandAt s sc) entries)
+    pub reaching : AllEndLater i j entries → Reached (pointOf first (reached s sc i j first)) (strands s sc true i j) (strands s sc false i j) (map (strandAt s sc) entries)
     reaching = reaches (pointOf first (reached s sc i j first)) (λ b k h. run .in-time b first k (reached s sc i j first) h (le-refl (reached s sc i j first)) more) least
 
-    own-is : strandAt s sc (placeOf i j first) ≡ (ownOf i j first)
+    pub own-is : strandAt s sc (placeOf i j first) ≡ (ownOf i j first)
     own-is = ap (λ b. strandOf s sc b (placeOf i j first)) (o .owned first (reached s sc i j first) more)
 
-    new-own : isBeginning s sc first (reached s sc i j first) ≡ true → (b : Strand) → b ∈ strands s sc true i j → sameObject (ownOf i j first) b ≡ true
+    pub new-own : isBeginning s sc first (reached s sc i j first) ≡ true → (b : Strand) → b ∈ strands s sc true i j → sameObject (ownOf i j first) b ≡ true
         → ownOf i j first .segment ≡ b .segment → ⊥
     new-own e b m d q =
         let w = find-of s sc true i j b m in

@@ -7,3 +7,4 @@ pub mod Evenly
 pub mod Ready
 pub mod Noted
 pub mod Located
+pub mod Complete

@@ -17,7 +17,8 @@ ghost use Rattle.scene.specs.Read.{IsObject, IsScene};
 ghost use Rattle.scene.specs.Conditions.{hasSegments, outOfOrder};
 ghost use Rattle.keys.specs.Keyed.{nextKey};
 ghost use Rattle.strands.specs.Evenly.{RegionsEndEvenly};
-ghost use Rattle.strands.specs.Swept.{objectOf, total, takesFirst, Taken, Entry, Passes};
+ghost use Rattle.strands.specs.Swept.{objectOf, total, isBeginning, takesFirst, Taken, Entry, Passes};
+ghost use Rattle.strands.specs.Complete.{Clear, CanTake};
 ghost use Rattle.strands.specs.Noted.{SegmentsNoted, Noted};
 
 pub mod points;
@@ -85,7 +86,7 @@ fn take_event(
     notes: &[u8],
 ) -> Step
     requires { ⌜ IsScene (now s) scene × (k < total (now s) scene first) × (n ≤ length (now status)) × ((e : ℕ) → e ∈ take n (now status) → Entry (now s) scene e) × (2048 ≤ length (now notes)) ⌝ }
-    ensures { λ r. ⌜ (length (now (status .exit)) ≡ length (now (status .entry))) × ((m v h : ℕ) → r ≡ Step.On m v h → (m ≤ length (now (status .exit))) × Taken (now (s .entry)) scene first k (now (notes .entry)) (take n (now (status .entry))) (take m (now (status .exit))) v) ⌝ }
+    ensures { λ r. ⌜ (length (now (status .exit)) ≡ length (now (status .entry))) × ((m v h : ℕ) → r ≡ Step.On m v h → (m ≤ length (now (status .exit))) × Taken (now (s .entry)) scene first k (now (notes .entry)) (take n (now (status .entry))) (take m (now (status .exit))) v) × ((isBeginning (now (s .entry)) scene first k ≡ true → n < length (now (status .entry))) → CanTake (now (s .entry)) scene first k (take n (now (status .entry))) → r ≡ Step.Stop → ⊥) ⌝ }
 {
     let l = if first { scene.f } else { scene.g };
     let at = records::place(l, k);
@@ -99,7 +100,7 @@ fn take_event(
 // All events, one after the other.
 fn run_events(s: &[u8], scene: Scene, status: &mut [u16], notes: &mut [u8]) -> bool
     requires { ⌜ IsScene (now s) scene × ((first : Bool) → outOfOrder (now s) (objectOf (now s) scene first) ≡ Nothing) × (2048 ≤ length (now notes)) ⌝ }
-    ensures { λ r. ⌜ (length (now (status .exit)) ≡ length (now (status .entry))) × (length (now (notes .exit)) ≡ length (now (notes .entry))) × (T r → RegionsEndEvenly (now (s .entry)) scene → Passes (now (s .entry)) scene × SegmentsNoted (now (s .entry)) scene (now (notes .exit))) ⌝ }
+    ensures { λ r. ⌜ (length (now (status .exit)) ≡ length (now (status .entry))) × (length (now (notes .exit)) ≡ length (now (notes .entry))) × (T r → RegionsEndEvenly (now (s .entry)) scene → Passes (now (s .entry)) scene × SegmentsNoted (now (s .entry)) scene (now (notes .exit))) × (1024 ≤ length (now (status .entry)) → Clear (now (s .entry)) scene → T r) ⌝ }
 {
     let f = scene.f;
     let g = scene.g;
@@ -140,7 +141,7 @@ fn has_points(scene: Scene) -> bool
 
 pub fn accepts(s: &[u8], scene: Scene, notes: &mut [u8]) -> bool
     requires { ⌜ IsScene (now s) scene × ((first : Bool) → outOfOrder (now s) (objectOf (now s) scene first) ≡ Nothing) × (2048 ≤ length (now notes)) ⌝ }
-    ensures { λ r. ⌜ (length (now (notes .exit)) ≡ length (now (notes .entry))) × (T r → Passes (now (s .entry)) scene × Noted (now (s .entry)) scene (now (notes .exit))) ⌝ }
+    ensures { λ r. ⌜ (length (now (notes .exit)) ≡ length (now (notes .entry))) × (T r → Passes (now (s .entry)) scene × Noted (now (s .entry)) scene (now (notes .exit))) × (Clear (now (s .entry)) scene → T r) ⌝ }
 {
     if !evenly::regions_end_evenly(s, scene) {
         return false;

@@ -22,6 +22,7 @@ ghost use Rattle.strands.specs.Located.{NearNote, pointBy, isPointNext, PointsT
 ghost use Rattle.strands.specs.Evenly.{RegionsEndEvenly};
 ghost use Rattle.strands.specs.Noted.{Noted};
 ghost use Rattle.strands.specs.Swept.{objectOf, total, Entry, Passes};
+ghost use Rattle.strands.specs.Complete.{Clear};
 
 // The note of a point by the first n entries. In order, those that pass under it come first, and those that pass over it last: the one just below
 // these decides. The search promises an entry that passes over it, and not the first, so the loop steps below any more of them.
@@ -95,7 +96,7 @@ fn note_points(
 // All points of F and all halfsegments of G, one after the other.
 pub fn run_points(s: &[u8], scene: Scene, status: &mut [u16], notes: &mut [u8]) -> bool
     requires { ⌜ IsScene (now s) scene × ((first : Bool) → outOfOrder (now s) (objectOf (now s) scene first) ≡ Nothing) × (scene .f .shape ≡ Points) × T (hasSegments (scene .g .shape)) × (2048 ≤ length (now notes)) ⌝ }
-    ensures { λ r. ⌜ (length (now (status .exit)) ≡ length (now (status .entry))) × (length (now (notes .exit)) ≡ length (now (notes .entry))) × (T r → RegionsEndEvenly (now (s .entry)) scene → Passes (now (s .entry)) scene × Noted (now (s .entry)) scene (now (notes .exit))) ⌝ }
+    ensures { λ r. ⌜ (length (now (status .exit)) ≡ length (now (status .entry))) × (length (now (notes .exit)) ≡ length (now (notes .entry))) × (T r → RegionsEndEvenly (now (s .entry)) scene → Passes (now (s .entry)) scene × Noted (now (s .entry)) scene (now (notes .exit))) × (1024 ≤ length (now (status .entry)) → Clear (now (s .entry)) scene → T r) ⌝ }
 {
     let g = scene.g;
     let all = crate::event_count(g);

@@ -3,12 +3,13 @@ use mathlib.Core.Path.{_≡_, refl}
 use mathlib.Core.Bool.{Bool, true, false}
 use borrow.Author.Needs.{needs}
 use borrow.Author.Tests.{not-false}
+use lib.Dec.{T-not}
 use Rattle.whole.proofs.Logic.{is-true}
 use Rattle.scene.specs.declared.Fault.the-variants.{Nothing}
 use Rattle.scene.specs.Conditions.{outOfOrder}
 use Rattle.strands.specs.Swept.{objectOf}
 use Rattle.strands.proofs.Objects.{read}
-use Rattle.checks.proofs.Verdicts.{swept}
+use Rattle.checks.proofs.Verdicts.{swept, clear-of}
 use Rattle.checks.proofs.is_swept.Statement.{statement}
 use Rattle.checks.proofs.is_swept.Tie as tie
 
@@ -28,13 +29,25 @@ is-ordered-requires : tie.Need-is-ordered-requires
 is-ordered-requires c κs = let z = c .before .before .before .before in read (z .args .s .now) (z .args .scene) (z .pre .0) true
 
 returns : tie.Need-returns
-returns c = (refl, λ no. absurd no)
+returns c =
+    let r = c .before .is-ordered in
+    let z = c .before .before .before .before .before .before in (
+      refl,
+      λ no. absurd no,
+      λ sound. absurd (T-not (r .result) (is-true _ (c .if1 .taken)) (r .ensures .1 (clear-of (z .args .s .now) (z .args .scene) sound .order true))),
+    )
 
 is-ordered-requires-2 : tie.Need-is-ordered-requires-2
 is-ordered-requires-2 c κs = let z = c .before .before .before .before .before .before in read (z .args .s .now) (z .args .scene) (z .pre .0) false
 
 returns-2 : tie.Need-returns-2
-returns-2 c = (refl, λ no. absurd no)
+returns-2 c =
+    let r = c .before .is-ordered2 in
+    let z = c .before .before .before .before .before .before .before .before in (
+      refl,
+      λ no. absurd no,
+      λ sound. absurd (T-not (r .result) (is-true _ (c .if2 .taken)) (r .ensures .1 (clear-of (z .args .s .now) (z .args .scene) sound .order false))),
+    )
 
 accepts-requires : tie.Need-accepts-requires
 accepts-requires c κs = let z = z (c .before) in (z .pre .0, in-order (c .before), z .pre .1)
@@ -48,6 +61,7 @@ returns-3 c =
     let o = r .before .before in (
       r .accepts .ensures .0,
       λ t. let w = r .accepts .ensures .1 t in (swept (z o .args .s .now) (z o .args .scene) (in-order o) (w .0), w .1),
+      λ sound. r .accepts .ensures .2 (clear-of (z o .args .s .now) (z o .args .scene) sound .clear),
     )
 
 pub is-swept-spec : {M : Type 1} → statement M

@@ -12,7 +12,7 @@ is-region-requires : tie.Need-is-region-requires
 is-region-requires c κs = search needs
 
 returns : tie.Need-returns
-returns c = λ yes region. absurd (subst T (refuted (c .before .is-region .ensures) (c .if1 .taken)) region)
+returns c = (λ yes region. absurd (subst T (refuted (c .before .is-region .ensures) (c .if1 .taken)) region), λ p. tt)
 
 ends-evenly-requires : tie.Need-ends-evenly-requires
 ends-evenly-requires c κs =
@@ -21,7 +21,10 @@ ends-evenly-requires c κs =
     (z .pre, is-true _ (region-segments (z .args .l .shape) (upheld (r .is-region .ensures) (c .if1 .left))))
 
 returns-2 : tie.Need-returns-2
-returns-2 c = λ yes region. c .ends-evenly .ensures yes
+returns-2 c = (
+  λ yes region. c .ends-evenly .ensures .0 yes,
+  λ p. c .ends-evenly .ensures .1 (p (is-true _ (upheld (c .before .before .is-region .ensures) (c .before .if1 .left)))),
+)
 
 pub is-even-spec : {M : Type 1} → statement M
 is-even-spec = tie.close (tie.spec is-region-requires returns ends-evenly-requires returns-2)

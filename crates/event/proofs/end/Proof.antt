@@ -2,12 +2,13 @@
 -- of the same object.
 use Prim.Native.Nat.{ℕ, suc, _+_, _-_, _<_, _≤_}
 use native.Mathlib.Omega.{arith}
-use mathlib.Core.Path.{_≡_, refl, sym, ap, subst, _∙_}
+use mathlib.Core.Path.{_≡_, refl, sym, ap, subst, subst₂, _∙_}
+use mathlib.Core.Bool.{false}
 use mathlib.Core.Logic.{⊎-elim}
 use mathlib.Core.List.{List}
 use borrow.Author.Needs.{needs}
 use borrow.Author.Tests.{not-false}
-use lib.Dec.{T}
+use lib.Dec.{T, T-not}
 use lib.ListN.{length, getD, take}
 use lib.Seq.{length-take-le, getD-take}
 use Rattle.whole.proofs.Logic.{is-true}
@@ -19,7 +20,8 @@ use Rattle.strands.specs.Lower.{passesOver, lowerAtRight}
 use Rattle.strands.specs.Kept.{Strand}
 use Rattle.strands.specs.Swept.{objectOf, strandOf, strandAt, Ended}
 use Rattle.strands.specs.Ready.{Readable, Placed}
-use Rattle.strands.proofs.Entries.{entry-readable, entry-placed, in-range-at, ready-readable, ready-entry, ready-fewer}
+use Rattle.strands.proofs.Entries.{entry-readable, entry-placed, in-range-at, ready-readable, ready-entry, ready-fewer, place-of}
+use Rattle.strands.specs.Complete.{Place, OwnAt, EndsAt, CanEnd}
 use Rattle.event.proofs.Answers.{not-on, same-on}
 use Rattle.event.proofs.end.Statement.{statement}
 use Rattle.event.proofs.end.Tie as tie
@@ -41,10 +43,23 @@ module _ (c : tie.Joined1) where
   x = y (c .before)
 
   abbrev IsPlace : ℕ → Type 0
-  IsPlace m = (m ≤ x .args .n) × (m < x .args .n → T (passesOver (segmentAt (x .args .s .now) (getD (x .args .status .now) m 0)) (c .before .segment .result .right)))
+  IsPlace m =
+      (m ≤ x .args .n) × (m < x .args .n → T (passesOver (segmentAt (x .args .s .now) (getD (x .args .status .now) m 0)) (c .before .segment .result .right)))
+      × ((i : ℕ) → suc i ≡ m → passesOver (segmentAt (x .args .s .now) (getD (x .args .status .now) i 0)) (c .before .segment .result .right) ≡ false)
 
   is-place : IsPlace (c .if1 .top)
   is-place = ⊎-elim (λ w. subst IsPlace (sym (w .3)) (w .2 .ensures)) (λ w. subst IsPlace (sym (w .3)) (w .2 .ensures)) (c .if1 .came)
+
+  -- where it ends at each place
+  abbrev Can : Type 0
+  Can = CanEnd (x .args .s .now) (x .args .scene) (x .args .first) (x .args .at) (take (x .args .n) (x .args .status .now))
+
+  ends-here : Can → EndsAt (x .args .s .now) (x .args .scene) (x .args .first) (x .args .at) (take (x .args .n) (x .args .status .now)) (c .if1 .top)
+  ends-here can =
+      can (c .if1 .top) (subst (λ (t : Segment). Place (x .args .s .now) (take (x .args .n) (x .args .status .now)) (t .right) (c .if1 .top)) (c .before .segment .ensures) (place-of (x .args .s .now) (x .args .status .now) (x .args .n) (x .pre .0 .room) (c .before .segment .result .right) (c .if1 .top) is-place))
+
+  same-entry : (i : ℕ) → i < c .if1 .top → getD (take (x .args .n) (x .args .status .now)) i 0 ≡ getD (x .args .status .now) i 0
+  same-entry i h = getD-take (x .args .n) (x .args .status .now) i 0 (omega (arith, is-place .0))
 
 -- its own entry was found
 module _ (c : tie.Else2) where
@@ -74,6 +89,14 @@ module _ (c : tie.Else2) where
 
   placed : (s : List ℕ) → Placed (objectOf s (z .args .scene) (z .args .first)) (getD (z .args .status .now) k 0)
   placed s = entry-placed (z .args .s .now) (z .args .scene) (z .pre .0 .scene) (ap (λ (a : Strand). a .first) own) (ready-entry (z .pre .0) k in-use) s
+
+  own-at : OwnAt (z .args .s .now) (z .args .scene) (z .args .first) (z .args .at) (take (z .args .n) (z .args .status .now)) top k
+  own-at =
+      record {
+        below = below-top;
+        own = ap (strandAt (z .args .s .now) (z .args .scene)) (same-entry over k below-top) ∙ own;
+        equals = λ i h l. ap (segmentAt (z .args .s .now)) (same-entry over i l) ∙ found .own-below .ensures .1 below-top .1 i h l;
+      }
 
 -- the segment has ended
 module _ (c : tie.After-remove) where
@@ -119,7 +142,7 @@ module _ (c : tie.After-remove) where
         meeting = λ i e h. let b : suc (k there) < a .args .n = omega (arith, size) in
             subst (λ (m : ℕ). T (lowerAtRight (segmentAt s (getD old i 0)) (segmentAt s m))) (sym (same (suc (k there)) b))
             (subst (λ (m : ℕ). T (lowerAtRight (segmentAt s m) (segmentAt s (getD status (suc (k there)) 0)))) (sym (same i (omega arith)))
-            (meet .before .can-meet .ensures (is-true _ (not-false (meet .before .can-meet .result) (meet .if3 .left))) i e b));
+            (meet .before .can-meet .ensures .0 (is-true _ (not-false (meet .before .can-meet .result) (meet .if3 .left))) i e b));
         noted = λ i is. told .note-at .ensures s i (told .before .wide .ensures ∙ sym (same (k there) (in-use there)) ∙ is);
       }
 
@@ -139,7 +162,20 @@ same-length : tie.Need-same-length
 same-length c = search needs
 
 returns : tie.Need-returns
-returns c = (refl, λ m v h e. absurd (not-on e))
+returns c =
+    let f = c .before in
+    let b = f .before .before in
+    let a = x b .args in (
+      refl,
+      λ m v h e. absurd (not-on e),
+      λ can e.
+          let w = ends-here b can in
+          let o = w .found in
+          let h : f .own-below .result < b .if1 .top = f .own-below .ensures .2 (w .position) (o .below)
+          (ap (strandAt (a .s .now) (a .scene)) (sym (same-entry b (w .position) (o .below))) ∙ o .own)
+          (λ i l m. ap (segmentAt (a .s .now)) (sym (same-entry b i m)) ∙ o .equals i l m) in
+          omega (arith, h, c .if2 .taken),
+    )
 
 can-meet-requires : tie.Need-can-meet-requires
 can-meet-requires c κs = (in-use (c .before), ready-readable (z (c .before) .pre .0))
@@ -148,7 +184,17 @@ same-length-2 : tie.Need-same-length-2
 same-length-2 c = search needs
 
 returns-2 : tie.Need-returns-2
-returns-2 c = (refl, λ m v h e. absurd (not-on e))
+returns-2 c =
+    let f = c .before in
+    let t = f .before .before in
+    let b = over t in
+    let a = x b .args in (
+      refl,
+      λ m v h e. absurd (not-on e),
+      λ can e. T-not (f .can-meet .result) (is-true _ (c .if3 .taken)) (f .can-meet .ensures .1 (λ i q h.
+          subst₂ (λ (m n : ℕ). T (lowerAtRight (segmentAt (a .s .now) m) (segmentAt (a .s .now) n))) (getD-take (a .n) (a .status .now) i 0 (omega arith)) (getD-take (a .n) (a .status .now) (suc (k t)) 0 h)
+          (ends-here b can .meeting (k t) (own-at t) i q (omega (arith, length-take-le (a .n) (a .status .now) (x b .pre .0 .room)))))),
+    )
 
 mul-wide : tie.Need-mul-wide
 mul-wide c = let e = c .before .before .before in omega (arith, in-use e, z e .pre .0 .room, z e .good)
@@ -184,6 +230,7 @@ returns-3 c =
           subst (λ (v : ℕ). (m + 1 ≡ x .n) × Ended (x .s .now) (x .scene) (x .first) (x .at) (x .notes .now) (take (x .n) (x .status .now)) (take m (r .remove .last .0)) v) (same-on e .1)
           (subst (λ (m : ℕ). (m + 1 ≡ x .n) × Ended (x .s .now) (x .scene) (x .first) (x .at) (x .notes .now) (take (x .n) (x .status .now)) (take m (r .remove .last .0)) (told r .note-at .result)) (same-on e .0)
           (omega (arith, in-use (there r)), ended r)),
+      λ can e. absurd (not-on (sym e)),
     )
 
 pub end-spec : {M : Type 1} → statement M

@@ -1,15 +1,18 @@
 -- `event::is_own` meets its contract: the object, the segment and the ia are the same.
-use mathlib.Core.Path.{_≡_, sym, ap, _∙_}
-use mathlib.Core.Bool.{Bool, _&&_, Bool·beq}
+use mathlib.Core.Path.{_≡_, sym, ap, subst, _∙_}
+use mathlib.Core.Bool.{Bool, true, _&&_, Bool·beq}
 use borrow.Author.Needs.{needs}
 use borrow.Author.Tests.{not-false}
-use lib.Dec.{T, ltb}
-use Rattle.whole.proofs.Logic.{is-true, true-is, beq-same}
-use Rattle.plane.proofs.Equal.{sameSegment-read}
-use Rattle.scene.specs.Read.{segmentAt}
+use lib.Dec.{T, T-not, ltb}
+use Rattle.whole.proofs.Logic.{is-true, true-is, beq-same, beq-refl}
+use Rattle.plane.proofs.Equal.{sameSegment-read, sameSegment-refl}
+use Rattle.plane.specs.declared.Segment.{Segment}
+use Rattle.plane.specs.Plane.{sameSegment}
+use Rattle.scene.specs.Read.{segmentAt, iaAt}
 use Rattle.scene.specs.Conditions.{isRegion}
 use Rattle.scene.proofs.Flags.{upheld, refuted}
-use Rattle.strands.specs.Swept.{objectOf, isFirst}
+use Rattle.strands.specs.Swept.{objectOf, isFirst, strandOf, strandAt}
+use Rattle.strands.specs.Kept.{Strand}
 use Rattle.strands.proofs.Entries.{entry-readable, entry-ia, same-strand, and-none}
 use Rattle.event.proofs.is_own.Statement.{statement}
 use Rattle.event.proofs.is_own.Tie as tie
@@ -39,7 +42,12 @@ region : (c : tie.Else3) → let a = z (d (c .before)) .args in T (isRegion (obj
 region c = let a = z (d (c .before)) .args in is-true _ (upheld (c .before .has-region .ensures (a .s .now)) (c .if3 .left))
 
 returns : tie.Need-returns
-returns c = λ no. absurd no
+returns c =
+    let z = c .before .before .before .before in
+    let first = z .args .first in (
+      λ no. absurd no,
+      λ w. absurd (T-not (Bool·beq first (ltb (z .args .e) (z .args .scene .g .start))) (is-true _ (c .if1 .taken)) (is-true _ (ap (Bool·beq first) (ap (λ (a : Strand). a .first) w) ∙ beq-refl first))),
+    )
 
 segment-requires : tie.Need-segment-requires
 segment-requires c κs = let a = z c .args in entry-readable (a .s .now) (a .scene) (z c .pre .0) (z c .pre .3) .there
@@ -53,7 +61,11 @@ is-same-segment-requires : tie.Need-is-same-segment-requires
 is-same-segment-requires c κs = search needs
 
 returns-2 : tie.Need-returns-2
-returns-2 c = λ no. absurd no
+returns-2 c =
+    let u = c .before .before in (
+      λ no. absurd no,
+      λ w. absurd (subst T (refuted (c .before .is-same-segment .ensures) (c .if2 .taken)) (subst (λ (t : Segment). T (sameSegment (u .before .segment .result) t)) (u .before .segment .ensures ∙ ap (λ (a : Strand). a .segment) w ∙ sym (u .segment2 .ensures)) (sameSegment-refl (u .before .segment .result)))),
+    )
 
 has-region-requires : tie.Need-has-region-requires
 has-region-requires c κs = search needs
@@ -61,9 +73,11 @@ has-region-requires c κs = search needs
 returns-3 : tie.Need-returns-3
 returns-3 c =
     let e = d (c .before) in
-    let a = z e .args in
-    λ yes. same-strand (a .s .now) (a .scene) (a .first) (a .at) (a .e) (same-object e) (same-segment (c .before))
-    (and-none _ _ _ (refuted (c .before .has-region .ensures (a .s .now)) (c .if3 .taken)))
+    let a = z e .args in (
+      λ yes. same-strand (a .s .now) (a .scene) (a .first) (a .at) (a .e) (same-object e) (same-segment (c .before))
+          (and-none _ _ _ (refuted (c .before .has-region .ensures (a .s .now)) (c .if3 .taken))),
+      λ w. tt,
+    )
 
 ia-requires : tie.Need-ia-requires
 ia-requires c κs =
@@ -75,14 +89,29 @@ ia-requires-2 c κs =
     let e = d (c .before .before) in
     entry-ia (z e .args .s .now) (z e .args .scene) (z e .pre .0) (z e .pre .2) (z e .pre .1) (region (c .before))
 
+-- the ia of one strand
+same-ia : (c : tie.After-ia2) → let a = z (d (c .before .before .before)) .args in strandAt (a .s .now) (a .scene) (a .e) ≡ strandOf (a .s .now) (a .scene) (a .first) (a .at) → c .before .ia .result ≡ c .ia2 .result
+same-ia c w =
+    let e = d (c .before .before .before) in
+    let a = z e .args in
+    let r : isRegion (objectOf (a .s .now) (a .scene) (a .first) .shape) ≡ true = true-is _ (region (c .before .before)) in
+    c .before .ia .ensures
+    ∙ sym (ap (λ (b : Bool). b && iaAt (a .s .now) (a .e)) r)
+    ∙ ap (λ (b : Bool). isRegion (objectOf (a .s .now) (a .scene) b .shape) && iaAt (a .s .now) (a .e)) (sym (same-object e))
+    ∙ ap (λ (b : Strand). b .ia) w
+    ∙ ap (λ (b : Bool). b && iaAt (a .s .now) (a .at)) r
+    ∙ sym (c .ia2 .ensures)
+
 returns-4 : tie.Need-returns-4
 returns-4 c =
     let r = c .before .before in
     let e = d (r .before) in
-    let a = z e .args in
-    λ yes. same-strand (a .s .now) (a .scene) (a .first) (a .at) (a .e) (same-object e) (same-segment (r .before))
-    (ap (λ (b : Bool). isRegion (objectOf (a .s .now) (a .scene) (a .first) .shape) && b)
-    (sym (c .before .ia .ensures) ∙ beq-same (c .before .ia .result) (c .ia2 .result) (true-is _ yes) ∙ c .ia2 .ensures))
+    let a = z e .args in (
+      λ yes. same-strand (a .s .now) (a .scene) (a .first) (a .at) (a .e) (same-object e) (same-segment (r .before))
+          (ap (λ (b : Bool). isRegion (objectOf (a .s .now) (a .scene) (a .first) .shape) && b)
+          (sym (c .before .ia .ensures) ∙ beq-same (c .before .ia .result) (c .ia2 .result) (true-is _ yes) ∙ c .ia2 .ensures)),
+      λ w. is-true _ (ap (Bool·beq (c .before .ia .result)) (sym (same-ia c w)) ∙ beq-refl (c .before .ia .result)),
+    )
 
 pub is-own-spec : {M : Type 1} → statement M
 is-own-spec =

@@ -2,20 +2,28 @@
 -- measure is the number of entries that are left.
 use Prim.Native.Nat.{ℕ, _-_, _<_, _≤_}
 use native.Mathlib.Omega.{arith}
-use mathlib.Core.Path.{_≡_, sym, ap, subst, _∙_}
+use native.Mathlib.Nat.{eq-or-lt-of-le}
+use mathlib.Core.Path.{_≡_, sym, ap, subst, subst₂, _∙_}
+use mathlib.Core.Logic.{⊎-elim}
+use lib.Dec.{T}
 use borrow.Author.Needs.{needs}
 use lib.ListN.{getD}
 use Rattle.whole.proofs.Logic.{is-true}
-use Rattle.plane.proofs.Equal.{sameSegment-read}
+use Rattle.plane.proofs.Equal.{sameSegment-read, sameSegment-refl}
+use Rattle.plane.specs.declared.Segment.{Segment}
+use Rattle.plane.specs.Plane.{sameSegment}
 use Rattle.scene.specs.Read.{segmentAt}
-use Rattle.scene.proofs.Flags.{upheld}
-use Rattle.strands.specs.Swept.{strandAt, Entry}
+use Rattle.scene.proofs.Flags.{upheld, refuted}
+use Rattle.strands.specs.Swept.{strandOf, strandAt, Entry}
 use Rattle.strands.proofs.Entries.{entry-readable, ready-entry, one-lower}
+use Rattle.strands.proofs.Complete.{less-or-not}
 use Rattle.event.proofs.own_below.Statement.{statement}
 use Rattle.event.proofs.own_below.Tie as tie
 
 abbrev Inv-loop : tie.InvT-loop
-Inv-loop s scene first at status top t k₀ k = (k ≤ top) × ((i : ℕ) → k ≤ i → i < top → segmentAt s (getD status i 0) ≡ segmentAt s at)
+Inv-loop s scene first at status top t k₀ k =
+    (k ≤ top) × ((i : ℕ) → k ≤ i → i < top → segmentAt s (getD status i 0) ≡ segmentAt s at)
+    × ((i : ℕ) → k ≤ i → i < top → strandAt s scene (getD status i 0) ≡ strandOf s scene first at → ⊥)
 
 abbrev μ-loop : tie.MeasureT-loop
 μ-loop s scene first at status top t k₀ k = k
@@ -33,11 +41,24 @@ module _ (c : tie.After-wide Inv-loop μ-loop) where
       subst (Entry (z .args .s .now) (z .args .scene)) (sym (c .wide .ensures))
       (ready-entry (z .pre) (d .loop .k - 1) (omega (arith, c .before .before .loop-test .taken)))
 
+before-it : (k n : ℕ) → k < n → k ≤ n - 1
+before-it k n h = omega arith
+
+-- it was found not to be its own
+not-own : (c : tie.Else1 Inv-loop μ-loop)
+    → let e = c .before .before in
+    let a = z e .args in
+    strandAt (a .s .now) (a .scene) (getD (a .status .now) (d e .loop .k - 1) 0) ≡ strandOf (a .s .now) (a .scene) (a .first) (a .at) → ⊥
+not-own c w =
+    let e = c .before .before in
+    let a = z e .args in
+    subst T (c .if1 .left) (c .before .is-own .ensures .1 (ap (strandAt (a .s .now) (a .scene)) (e .wide .ensures) ∙ w))
+
 segment-requires : tie.Need-segment-requires Inv-loop μ-loop
 segment-requires c κs = let z = c .before .before in entry-readable (z .args .s .now) (z .args .scene) (z .pre .scene) (z .pre .event) .there
 
 loop-holds : tie.Need-loop-holds Inv-loop μ-loop
-loop-holds c = (omega arith, λ i a b. absurd (omega arith))
+loop-holds c = (omega arith, λ i a b. absurd (omega arith), λ i a b. absurd (omega arith))
 
 sub-k : tie.Need-sub-k Inv-loop μ-loop
 sub-k c = omega arith
@@ -60,9 +81,10 @@ returns c =
     let a = z e .args in (
       omega (arith, d e .loop .inv .0),
       λ h. (
-        ap (strandAt (a .s .now) (a .scene)) (sym (e .wide .ensures)) ∙ c .before .is-own .ensures (is-true _ (c .if1 .taken)),
+        ap (strandAt (a .s .now) (a .scene)) (sym (e .wide .ensures)) ∙ c .before .is-own .ensures .0 (is-true _ (c .if1 .taken)),
         λ i l. d e .loop .inv .1 i (omega arith),
       ),
+      λ k h own equals. omega (arith, d e .loop .inv .0, e .before .before .loop-test .taken),
     )
 
 segment-requires-2 : tie.Need-segment-requires-2 Inv-loop μ-loop
@@ -72,7 +94,21 @@ is-same-segment-requires : tie.Need-is-same-segment-requires Inv-loop μ-loop
 is-same-segment-requires c κs = search needs
 
 returns-2 : tie.Need-returns-2 Inv-loop μ-loop
-returns-2 c = (omega arith, λ h. absurd (omega arith))
+returns-2 c =
+    let u = c .before .before in
+    let e = u .before .before .before in
+    let a = z e .args in
+    let s = a .s .now in (
+      omega arith,
+      λ h. absurd (omega arith),
+      λ k h own equals. absurd
+          (⊎-elim
+          (λ l. ⊎-elim (λ q. not-own (u .before) (subst (λ (m : ℕ). strandAt s (a .scene) (getD (a .status .now) m 0) ≡ strandOf s (a .scene) (a .first) (a .at)) q own))
+          (λ q. subst T (refuted (c .before .is-same-segment .ensures) (c .if2 .taken)) (subst₂ (λ (t v : Segment). T (sameSegment t v)) (sym (u .segment2 .ensures ∙ ap (segmentAt s) (e .wide .ensures))) (sym (d e .before .segment .ensures)) (subst (λ (t : Segment). T (sameSegment t (segmentAt s (a .at)))) (sym (equals (d e .loop .k - 1) q (omega (arith, d e .loop .inv .0, e .before .before .loop-test .taken)))) (sameSegment-refl (segmentAt s (a .at))))))
+          (eq-or-lt-of-le (before-it k (d e .loop .k) l)))
+          (λ l. d e .loop .inv .2 k l h own)
+          (less-or-not k (d e .loop .k))),
+    )
 
 loop-less : tie.Need-loop-less Inv-loop μ-loop
 loop-less c = omega arith
@@ -85,10 +121,11 @@ loop-again c =
       omega (arith, d e .loop .inv .0),
       one-lower (d e .loop .k) (a .top) (d e .loop .inv .1)
           (ap (segmentAt (a .s .now)) (sym (e .wide .ensures)) ∙ sym (u .segment2 .ensures) ∙ sameSegment-read _ _ (is-true _ (upheld (c .before .is-same-segment .ensures) (c .if2 .left))) ∙ d e .before .segment .ensures),
+      one-lower (d e .loop .k) (a .top) (d e .loop .inv .2) (not-own (u .before)),
     )
 
 returns-3 : tie.Need-returns-3 Inv-loop μ-loop
-returns-3 c = (omega arith, λ h. absurd (omega arith))
+returns-3 c = (omega arith, λ h. absurd (omega arith), λ k h own equals. absurd (c .before .loop .inv .2 k (omega arith) h own))
 
 pub own-below-spec : {M : Type 1} → statement M
 own-below-spec =

@@ -1,5 +1,6 @@
 -- `listable::check_list` meets its contract: reading, 8, 10 to 15, then 16 and 17, each of which may refuse; with the notes of a scene that the sweep accepts.
 use Prim.Native.Nat.{ℕ}
+use native.Mathlib.Omega.{arith}
 use mathlib.Core.Path.{_≡_, refl, sym, subst, _∙_}
 use mathlib.Core.List.{List}
 use mathlib.Core.Bool.{Bool, false}
@@ -11,8 +12,7 @@ use Rattle.scene.specs.declared.CheckedScene.{CheckedScene}
 use Rattle.scene.specs.Read.{IsScene, IsObject}
 use Rattle.scene.specs.Conditions.{typesDescend}
 use Rattle.scene.proofs.Taken.{taken-scene}
-use Rattle.checks.specs.declared.Verdict.{Verdict}
-use Rattle.checks.specs.declared.Noting.{Noting}
+use Rattle.scene.specs.declared.Refusal.{Refusal}
 use Rattle.checks.specs.Refusals.{geometryVerdict}
 use Rattle.listable.specs.Rules.{NotedWhere}
 use Rattle.listable.proofs.Checked.{unread, descending, at-fault, sound-list, noted-judged}
@@ -20,8 +20,11 @@ use Rattle.listable.proofs.check_list.Statement.{statement}
 use Rattle.listable.proofs.check_list.Tie as tie
 
 -- without notes
-not-noted : {swept : Bool} {s : List ℕ} {checked : CheckedScene} {notes : List ℕ} → swept ≡ false → NotedWhere swept s checked notes
-not-noted e sc q h = absurd (subst T e h)
+not-noted : {s : List ℕ} {r : Refusal} {notes : List ℕ} → NotedWhere s (CheckedScene.Refused r) notes
+not-noted sc q = absurd (other q)
+  where
+    other : {r : Refusal} {sc : Scene} → CheckedScene.Refused r ≡ CheckedScene.Taken sc → ⊥
+    other e = let z : _≡_ {A = ℕ} 0 1 = cc in omega arith
 
 -- a scene that was read
 module _ (c : tie.After-known-told2) where
@@ -48,17 +51,14 @@ module _ (c : tie.After-noted-verdict) where
   rising : typesDescend (bytes its) (scene its) ≡ Nothing
   rising = sym (c .before .before .before .before .types-fault .ensures (bytes its)) ∙ c .before .before .enum-told .given .1
 
-  plainly : (v : Verdict) → c .noted-verdict .result ≡ Noting.Plain v → v ≡ geometryVerdict (bytes its) (scene its)
-  plainly = c .noted-verdict .ensures .2
+  verdict-is : geometryVerdict (bytes its) (scene its) ≡ c .noted-verdict .result
+  verdict-is = sym (c .noted-verdict .ensures .1)
 
 read-scene-requires : tie.Need-read-scene-requires
 read-scene-requires c κs = search needs
 
 enum-known-r : tie.Need-enum-known-r
 enum-known-r c = search needs
-
-refused-requires : tie.Need-refused-requires
-refused-requires c κs = search needs
 
 enum-known-scene : tie.Need-enum-known-scene
 enum-known-scene c = search needs
@@ -68,9 +68,6 @@ types-fault-requires c κs = search needs
 
 enum-known-place : tie.Need-enum-known-place
 enum-known-place c = search needs
-
-refused-requires-2 : tie.Need-refused-requires-2
-refused-requires-2 c κs = search needs
 
 enum-told : tie.Need-enum-told
 enum-told c = search needs
@@ -84,37 +81,22 @@ enum-told-2 c = search needs
 judge-requires : tie.Need-judge-requires
 judge-requires c κs = both-read (its (c .before .before .before .before))
 
-enum-known-v : tie.Need-enum-known-v
-enum-known-v c = search needs
-
-enum-known-v-2 : tie.Need-enum-known-v-2
-enum-known-v-2 c = search needs
-
-refused-requires-3 : tie.Need-refused-requires-3
-refused-requires-3 c κs = search needs
-
-enum-told-3 : tie.Need-enum-told-3
-enum-told-3 c = search needs
-
-judge-requires-2 : tie.Need-judge-requires-2
-judge-requires-2 c κs = both-read (its (c .before .before .before .before .before .before .before))
+enum-known-r-2 : tie.Need-enum-known-r-2
+enum-known-r-2 c = search needs
 
 returns : tie.Need-returns
 returns c =
-    let k = c .before .before in
+    let k = c .before in
     let d = k .before .before in
     let a = d .before .before .before .args in
-    (refl, c .refused .ensures .0 ∙ unread (a .s .now) (a .room) (k .r .given .0 .0) (sym (d .read-scene .ensures) ∙ k .r .given .1), not-noted (c .refused .ensures .1))
+    (refl, unread (a .s .now) (a .room) (k .r .given .0 .0) (sym (d .read-scene .ensures) ∙ k .r .given .1), not-noted)
 
 returns-2 : tie.Need-returns-2
 returns-2 c =
-    let k = c .before .before in
+    let k = c .before in
     let t = k .before .before in
-    let d = t .before in (
-      refl,
-      c .refused2 .ensures .0 ∙ descending (bytes d) (z d .args .room) (scene d) (read d) (k .place .given .0 .0) (sym (t .types-fault .ensures (bytes d)) ∙ k .place .given .1),
-      not-noted (c .refused2 .ensures .1),
-    )
+    let d = t .before in
+    (refl, descending (bytes d) (z d .args .room) (scene d) (read d) (k .place .given .0 .0) (sym (t .types-fault .ensures (bytes d)) ∙ k .place .given .1), not-noted)
 
 same-length : tie.Need-same-length
 same-length c = search needs
@@ -123,10 +105,10 @@ returns-3 : tie.Need-returns-3
 returns-3 c =
     let n = c .before .before .before .before .before in
     let d = its n in
-    let swept = n .noted-verdict .ensures .1 (c .before .enum-told2 .given .1) in (
+    let is = c .before .enum-told2 .given .1 in (
       n .noted-verdict .ensures .0,
-      c .judge .ensures ∙ sound-list (bytes d) (z d .args .room) (scene d) (read d) (rising n) (swept .0),
-      noted-judged (bytes d) (scene d) (z d .args .room) (c .judge .ensures) (λ _. swept .1),
+      c .judge .ensures ∙ sound-list (bytes d) (z d .args .room) (scene d) (read d) (rising n) (verdict-is n ∙ is),
+      noted-judged (bytes d) (scene d) (z d .args .room) (c .judge .ensures) (n .noted-verdict .ensures .2 is),
     )
 
 same-length-2 : tie.Need-same-length-2
@@ -134,28 +116,12 @@ same-length-2 c = search needs
 
 returns-4 : tie.Need-returns-4
 returns-4 c =
-    let k = c .before .before in
-    let v = k .before .before .before in
-    let n = v .before .before .before .before in
+    let k = c .before in
+    let n = k .before .before .before .before in
     let d = its n in (
       n .noted-verdict .ensures .0,
-      c .refused3 .ensures .0
-          ∙ at-fault (bytes d) (z d .args .room) (scene d) (read d) (rising n) (k .v2 .given .0 .0) (sym (plainly n (v .v .given .0 .0) (v .v .given .1)) ∙ k .v2 .given .1),
-      not-noted (c .refused3 .ensures .1),
-    )
-
-same-length-3 : tie.Need-same-length-3
-same-length-3 c = search needs
-
-returns-5 : tie.Need-returns-5
-returns-5 c =
-    let e = c .before in
-    let v = e .before .before .before in
-    let n = v .before .before .before .before in
-    let d = its n in (
-      n .noted-verdict .ensures .0,
-      c .judge2 .ensures ∙ sound-list (bytes d) (z d .args .room) (scene d) (read d) (rising n) (sym (plainly n (v .v .given .0 .0) (v .v .given .1)) ∙ e .enum-told3 .given .1),
-      (λ _ _ h. absurd h),
+      at-fault (bytes d) (z d .args .room) (scene d) (read d) (rising n) (k .r2 .given .0 .0) (verdict-is n ∙ k .r2 .given .1),
+      not-noted,
     )
 
 pub check-list-spec : {M : Type 1} → statement M
@@ -164,25 +130,17 @@ check-list-spec =
     (tie.spec
     read-scene-requires
     enum-known-r
-    refused-requires
     enum-known-scene
     types-fault-requires
     enum-known-place
-    refused-requires-2
     enum-told
     noted-verdict-requires
     enum-told-2
     judge-requires
-    enum-known-v
-    enum-known-v-2
-    refused-requires-3
-    enum-told-3
-    judge-requires-2
+    enum-known-r-2
     returns
     returns-2
     same-length
     returns-3
     same-length-2
-    returns-4
-    same-length-3
-    returns-5)
+    returns-4)

@@ -1,14 +1,16 @@
 -- `sweep::accepts` meets its contract: the regions end evenly, and the run of all events ends with none active.
 use mathlib.Core.Path.{_≡_, refl, sym, ap, _∙_}
 use mathlib.Core.Bool.{not, _&&_, true≢false}
+use native.Mathlib.Nat.{le-refl}
 use borrow.Author.Needs.{needs}
 use borrow.Author.Tests.{not-false}
-use lib.Dec.{T}
+use lib.Dec.{T, T-not}
 use Rattle.whole.proofs.Logic.{is-true, is-false, true-is, false-is, and-left, and-right, and-make}
 use Rattle.scene.specs.declared.Shape.the-variants.{Points}
 use Rattle.scene.specs.Conditions.{hasSegments}
 use Rattle.segments.proofs.Elements.{no-segments-points}
 use Rattle.strands.specs.Evenly.{RegionsEndEvenly}
+use Rattle.strands.proofs.Sure.{regions-pairable}
 use Rattle.sweep.proofs.accepts.Statement.{statement}
 use Rattle.sweep.proofs.accepts.Tie as tie
 
@@ -18,7 +20,7 @@ module _ (c : tie.Else1) where
   z = c .before .before .before .before
 
   evenly : RegionsEndEvenly (z .args .s .now) (z .args .scene)
-  evenly = c .before .regions-end-evenly .ensures (is-true _ (not-false (c .before .regions-end-evenly .result) (c .if1 .left)))
+  evenly = c .before .regions-end-evenly .ensures .0 (is-true _ (not-false (c .before .regions-end-evenly .result) (c .if1 .left)))
 
 -- F has points, and G segments
 module _ (c : tie.Then2) where
@@ -49,7 +51,13 @@ regions-end-evenly-requires : tie.Need-regions-end-evenly-requires
 regions-end-evenly-requires c κs = search needs
 
 returns : tie.Need-returns
-returns c = (refl, λ no. absurd no)
+returns c =
+    let f = c .before in
+    let z = f .before .before .before in (
+      refl,
+      λ no. absurd no,
+      λ clear. absurd (T-not (f .regions-end-evenly .result) (is-true _ (c .if1 .taken)) (f .regions-end-evenly .ensures .1 (regions-pairable (z .args .s .now) (z .args .scene) (z .pre .0) (z .pre .1) clear))),
+    )
 
 has-points-requires : tie.Need-has-points-requires
 has-points-requires c κs = search needs
@@ -73,7 +81,7 @@ returns-2 : tie.Need-returns-2
 returns-2 c =
     let r = c .before .before .before in
     let b = r .before .before .before in
-    (r .run-points .ensures .1, λ t. r .run-points .ensures .2 t (evenly (b .before .before)))
+    (r .run-points .ensures .1, λ t. r .run-points .ensures .2 t (evenly (b .before .before)), λ clear. r .run-points .ensures .3 (le-refl 1024) clear)
 
 same-length-2 : tie.Need-same-length-2
 same-length-2 c = search needs
@@ -85,6 +93,7 @@ returns-3 c =
       r .run-events .ensures .1,
       λ t. let w = r .run-events .ensures .2 t (evenly (b .before .before)) in
           (w .0, record { of-segments = w .1; of-points = λ e h. absurd (none b e h) }),
+      λ clear. r .run-events .ensures .3 (le-refl 1024) clear,
     )
 
 pub accepts-spec : {M : Type 1} → statement M

@@ -7,14 +7,21 @@ use mir.Val.{boolByte}
 use mathlib.Core.Path.{_≡_, refl, sym, ap, subst, _∙_}
 use mathlib.Core.Bool.{Bool, true, false, not, cond, true≢false}
 use mathlib.Core.List.{List, []}
-use lib.Dec.{T, eqb→eq}
+use lib.Dec.{T, eqb, eqb→eq}
 use lib.ListN.{length, take, set, length-set}
 use borrow.Author.Needs.{needs}
 use Rattle.keys.specs.Keyed.{nextKey}
 use Rattle.scene.specs.Read.{IsObject}
-use Rattle.strands.specs.Swept.{slot, objectOf, total, Taken}
+use Rattle.strands.specs.Swept.{slot, objectOf, isBeginning, total, Taken}
 use Rattle.strands.proofs.Begun.{reached}
-use Rattle.strands.proofs.Run.{Run, Orderly, run-start, advance}
+use Rattle.strands.specs.Complete.{Clear, CanTake}
+use Rattle.strands.proofs.Run.{Run, Orderly, AllEndLater, run-start, advance}
+use Rattle.strands.proofs.Strict.{After, Earliest, rises, earliest, after-start, after-next}
+use Rattle.strands.proofs.Lasting.{none-active}
+use Rattle.strands.proofs.Sure
+use Rattle.strands.proofs.Sure.{goes-on, all-later}
+use Rattle.whole.proofs.Logic.{in-nil}
+use lib.Seq.{length-take-le}
 use Rattle.strands.proofs.Notes.{AllNoted, noted-start, noted-next, slot-room}
 use Rattle.strands.proofs.Objects.{read, few-events}
 use Rattle.strands.proofs.Ordered.{orderly}
@@ -28,6 +35,7 @@ abbrev Inv-loop : tie.InvT-loop
 Inv-loop s scene status₀ notes₀ f g all i₀ j₀ n₀ hint₀ key-f₀ key-g₀ status notes i j n hint key-f key-g =
     (length status ≡ length status₀) × (length notes ≡ length notes₀) × (i ≤ total s scene true) × (j ≤ total s scene false) × (n ≤ length status)
     × Run s scene i j (take n status) × AllNoted s scene i j (take n status) notes × (key-f ≡ nextKey s (scene .f) i) × (key-g ≡ nextKey s (scene .g) j)
+    × After s scene i j × (Clear s scene → AllEndLater s scene i j (take n status))
 
 abbrev μ-loop : tie.MeasureT-loop
 μ-loop s scene status₀ notes₀ f g all i₀ j₀ n₀ hint₀ key-f₀ key-g₀ status notes i j n hint key-f key-g = total s scene true + total s scene false - (i + j)
@@ -37,7 +45,7 @@ module _ (d : tie.At-loop Inv-loop μ-loop) where
   abbrev z : tie.Start Inv-loop μ-loop
   z = d .before .before .before .before .before .before .before .before .before .before
 
-  start : Orderly (z .args .s .now) (z .args .scene)
+  abbrev start : Orderly (z .args .s .now) (z .args .scene)
   start = orderly (z .args .s .now) (z .args .scene) (z .pre .0) (z .pre .1)
 
   few : (first : Bool) → total (z .args .s .now) (z .args .scene) first ≤ 1024
@@ -71,6 +79,27 @@ module _ (c : tie.After-next-of Inv-loop μ-loop) where
       go : (b : Bool) → reached (y .args .s .now) (y .args .scene) (d .loop .i) (d .loop .j) b ≡ cond b (d .loop .i) (d .loop .j)
       go true = refl
       go false = refl
+
+  first-one : Earliest (y .args .s .now) (y .args .scene) (d .loop .i) (d .loop .j) (c .before .takes-first .result)
+  first-one =
+      earliest (y .args .s .now) (y .args .scene) (start d) (rises (y .args .s .now) (y .args .scene) (y .pre .0) (y .pre .1)) (d .loop .i) (d .loop .j) (c .before .takes-first .result) (it .more)
+      (sym (c .before .takes-first .ensures))
+
+  -- where 11 to 15 find no fault, its tests hold, and there is room
+  module _ (clear : Clear (y .args .s .now) (y .args .scene)) where
+    can : CanTake (y .args .s .now) (y .args .scene) (c .before .takes-first .result) (c .next-of .result) (take (d .loop .n) (d .loop .status))
+    can =
+        subst (λ (k : ℕ). CanTake (y .args .s .now) (y .args .scene) (c .before .takes-first .result) k (take (d .loop .n) (d .loop .status))) its-index
+        (goes-on (y .args .s .now) (y .args .scene) (y .pre .0) (y .pre .1) clear (d .loop .inv .5) (d .loop .inv .10 clear) (c .before .takes-first .result) it (d .loop .inv .9) (reached-within d) first-one)
+
+    has-room : isBeginning (y .args .s .now) (y .args .scene) (c .before .takes-first .result) (c .next-of .result) ≡ true → d .loop .n < 1024
+    has-room e =
+        omega (
+          arith,
+          Sure.room (y .args .s .now) (y .args .scene) (y .pre .0) (y .pre .1) clear (d .loop .inv .5) (d .loop .inv .10 clear) (c .before .takes-first .result) it (reached-within d)
+              (subst (λ (k : ℕ). isBeginning (y .args .s .now) (y .args .scene) (c .before .takes-first .result) k ≡ true) (sym its-index) e),
+          length-take-le (d .loop .n) (d .loop .status) (d .loop .inv .4),
+        )
 
   within : c .next-of .result < total (y .args .s .now) (y .args .scene) (c .before .takes-first .result)
   within = subst (λ (k : ℕ). k < total (y .args .s .now) (y .args .scene) (c .before .takes-first .result)) its-index (it .more)
@@ -128,6 +157,22 @@ module _ (c : tie.After-slot Inv-loop μ-loop) where
       (noted-next (y x .args .s .now) (y x .args .scene) (start (d x)) (d x .loop .inv .5) (x .before .takes-first .result) (it x .more) (it x .least)
       (next-by (y x .args .s .now) (y x .args .scene) (start (d x)) (d x .loop .i) (d x .loop .j) (x .before .takes-first .result)) (reached-within (d x)) (d x .loop .notes) (room (d x)) (d x .loop .inv .6) event)
 
+-- every segment that is active then ends later, too
+module _ (c : tie.After-slot Inv-loop μ-loop) where
+  abbrev n : tie.After-next-of Inv-loop μ-loop
+  n = x c
+
+  after-on : After (y n .args .s .now) (y n .args .scene) (d n .loop .i + boolByte (n .before .takes-first .result)) (d n .loop .j + boolByte (not (n .before .takes-first .result)))
+  after-on =
+      after-next (y n .args .s .now) (y n .args .scene) (d n .loop .inv .9) (first-one n)
+      (next-by (y n .args .s .now) (y n .args .scene) (start (d n)) (d n .loop .i) (d n .loop .j) (n .before .takes-first .result))
+
+  later-on : Clear (y n .args .s .now) (y n .args .scene)
+      → AllEndLater (y n .args .s .now) (y n .args .scene) (d n .loop .i + boolByte (n .before .takes-first .result)) (d n .loop .j + boolByte (not (n .before .takes-first .result))) (take (m (told c)) (new (told c)))
+  later-on clear =
+      all-later (y n .args .s .now) (y n .args .scene) (y n .pre .0) (y n .pre .1) clear (d n .loop .inv .5) (d n .loop .inv .10 clear) (n .before .takes-first .result) (it n)
+      (next-by (y n .args .s .now) (y n .args .scene) (start (d n)) (d n .loop .i) (d n .loop .j) (n .before .takes-first .result)) (event c)
+
 event-count-requires : tie.Need-event-count-requires Inv-loop μ-loop
 event-count-requires c κs = search needs
 
@@ -153,7 +198,7 @@ key-after-requires-2 c κs =
 loop-holds : tie.Need-loop-holds Inv-loop μ-loop
 loop-holds c =
     let a = c .before .before .before .before .before .before .before .before .before .args in
-    (refl, refl, omega arith, omega arith, omega arith, run-start (a .s .now) (a .scene), noted-start (a .s .now) (a .scene) (a .notes .now), c .before .key-after .ensures, c .key-after2 .ensures)
+    (refl, refl, omega arith, omega arith, omega arith, run-start (a .s .now) (a .scene), noted-start (a .s .now) (a .scene) (a .notes .now), c .before .key-after .ensures, c .key-after2 .ensures, after-start (a .s .now) (a .scene), λ clear e m. absurd (in-nil m))
 
 add-loop : tie.Need-add-loop Inv-loop μ-loop
 add-loop c = omega (arith, c .loop .inv .2, c .loop .inv .3, few c true, few c false)
@@ -198,7 +243,13 @@ same-length-2 : tie.Need-same-length-2 Inv-loop μ-loop
 same-length-2 c = w c .loop .inv .1
 
 returns : tie.Need-returns Inv-loop μ-loop
-returns c = (still c, w c .loop .inv .1, λ no. absurd no)
+returns c =
+    let e = t c .before .before .before in (
+      still c,
+      w c .loop .inv .1,
+      λ no. absurd no,
+      λ size clear. absurd (t c .take-event .ensures .2 (λ b. omega (arith, has-room e clear b, d e .loop .inv .0)) (can e clear) (c .enum-told .given .1)),
+    )
 
 slot-requires : tie.Need-slot-requires Inv-loop μ-loop
 slot-requires c κs = short (e c)
@@ -262,6 +313,8 @@ loop-again c =
       noted-on t,
       c .before .key-after3 .ensures,
       c .key-after4 .ensures,
+      after-on t,
+      later-on t,
     )
 
 same-length-3 : tie.Need-same-length-3 Inv-loop μ-loop
@@ -301,6 +354,9 @@ returns-2 c =
           let none = eqb→eq (b .loop .n) 0 t in
           let run = at-end c (Run s sc) none (b .loop .inv .5) in
           (passes s sc (start b) run evenly, notes-hold s sc (start b) run evenly (b .loop .notes) (at-end c (λ i j l. AllNoted s sc i j l (b .loop .notes)) none (b .loop .inv .6))),
+      λ size clear.
+          let none = none-active s sc (take (b .loop .n) (b .loop .status)) (subst (λ (i : ℕ). AllEndLater s sc i (all-of c false) (take (b .loop .n) (b .loop .status))) (of-f c) (subst (λ (j : ℕ). AllEndLater s sc (b .loop .i) j (take (b .loop .n) (b .loop .status))) (of-g c) (b .loop .inv .10 clear))) in
+          subst (λ (n : ℕ). T (eqb n 0)) (sym none ∙ length-take-le (b .loop .n) (b .loop .status) (b .loop .inv .4)) tt,
     )
 
 pub run-events-spec : {M : Type 1} → statement M

@@ -12,6 +12,7 @@ use Rattle.scene.specs.declared.Layout.{Layout}
 use Rattle.scene.specs.Read.{byte, place}
 use Rattle.strands.specs.Ready.{Ready}
 use Rattle.strands.specs.Swept.{objectOf, isFirst, Entry, Began, Ended, it-began, it-ended}
+use Rattle.strands.specs.Complete.{CanBegin, CanEnd}
 use Rattle.strands.proofs.Objects.{good, owned, entry}
 use Rattle.sweep.proofs.take_event.Statement.{statement}
 use Rattle.sweep.proofs.take_event.Tie as tie
@@ -85,6 +86,8 @@ returns c =
         it-began (beginning-is p (eq-eqb _ _ (t .if2 .taken)))
             (subst (λ (at : ℕ). Began (x .s .now) (x .scene) (x .first) at (take (x .n) (x .status .now)) (take m (r .begin .last .1 .1 .1 .1 .0)) v) (at-is p) (w .2)),
       ),
+      λ room can. let e = beginning-is p (eq-eqb _ _ (t .if2 .taken)) in
+          r .begin .ensures .2 (room e) (subst (λ (at : ℕ). CanBegin (x .s .now) (x .scene) (x .first) at (take (x .n) (x .status .now))) (sym (at-is p)) (can .can-begin e)),
     )
 
 same-length-2 : tie.Need-same-length-2
@@ -102,6 +105,7 @@ returns-2 c =
         it-ended (beginning-is p (ne-eqb _ _ (t .if2 .left)))
             (subst (λ (at : ℕ). Ended (x .s .now) (x .scene) (x .first) at (x .notes .now) (take (x .n) (x .status .now)) (take m (r .end .last .1 .1 .1 .1 .0)) v) (at-is p) (w .1)),
       ),
+      λ room can. r .end .ensures .2 (subst (λ (at : ℕ). CanEnd (x .s .now) (x .scene) (x .first) at (take (x .n) (x .status .now))) (sym (at-is p)) (can .can-end (beginning-is p (ne-eqb _ _ (t .if2 .left))))),
     )
 
 pub take-event-spec : {M : Type 1} → statement M

@@ -1,5 +1,5 @@
 -- `features::question::answer` meets its contract: reading, 8, 9, then 10 to 15, each of which may refuse; and the vectors of a scene that is taken, by the
--- sweep's notes or without them.
+-- sweep's notes.
 use Prim.Native.Nat.{ℕ}
 use native.Mathlib.Omega.{arith}
 use mathlib.Core.Path.{_≡_, sym, _∙_}
@@ -10,8 +10,6 @@ use Rattle.scene.specs.Conditions.{typesDescend}
 use Rattle.scene.specs.Read.{shapeNumber, IsScene}
 use Rattle.scene.specs.declared.Fault.the-variants.{Nothing}
 use Rattle.scene.specs.declared.Scene.{Scene}
-use Rattle.checks.specs.declared.Verdict.{Verdict}
-use Rattle.checks.specs.declared.Noting.{Noting}
 use Rattle.checks.specs.Refusals.{geometryVerdict}
 use Rattle.masks.specs.Wanted.{anyStray}
 use Rattle.features.proofs.Answered.{unread, descending, stray, at-fault, taken, sound}
@@ -51,8 +49,8 @@ module _ (c : tie.After-noted-verdict) where
   tidy : anyStray (shapeNumber (scene its .f .shape)) (shapeNumber (scene its .g .shape)) (z its .args .want-f) (z its .args .want-g) ≡ false
   tidy = sym (c .before .before .before .any-stray .ensures) ∙ c .before .before .if1 .left
 
-  plainly : (v : Verdict) → c .noted-verdict .result ≡ Noting.Plain v → v ≡ geometryVerdict (bytes its) (scene its)
-  plainly = c .noted-verdict .ensures .2
+  judged : geometryVerdict (bytes its) (scene its) ≡ c .noted-verdict .result
+  judged = sym (c .noted-verdict .ensures .1)
 
 read-scene-requires : tie.Need-read-scene-requires
 read-scene-requires c κs = search needs
@@ -97,24 +95,11 @@ swept-vectors-requires : tie.Need-swept-vectors-requires
 swept-vectors-requires c κs =
     let n = c .before .before .before .before in
     let d = its n in
-    let swept = n .noted-verdict .ensures .1 (c .before .enum-told2 .given .1) in
-    (sound (bytes d) (scene d) (read d) (rising (risen n)) (swept .0), omega (arith, n .noted-verdict .ensures .0), swept .1)
+    let is = c .before .enum-told2 .given .1 in
+    (sound (bytes d) (scene d) (read d) (rising (risen n)) (judged n ∙ is), omega (arith, n .noted-verdict .ensures .0), n .noted-verdict .ensures .2 is)
 
-enum-known-v : tie.Need-enum-known-v
-enum-known-v c = search needs
-
-enum-known-v-2 : tie.Need-enum-known-v-2
-enum-known-v-2 c = search needs
-
-enum-told-3 : tie.Need-enum-told-3
-enum-told-3 c = search needs
-
-vectors-of-requires : tie.Need-vectors-of-requires
-vectors-of-requires c κs =
-    let v = c .before .before .before in
-    let n = v .before .before .before in
-    let d = its n in
-    sound (bytes d) (scene d) (read d) (rising (risen n)) (sym (plainly n (v .v .given .0 .0) (v .v .given .1)) ∙ c .enum-told3 .given .1)
+enum-known-r-2 : tie.Need-enum-known-r-2
+enum-known-r-2 c = search needs
 
 returns-2 : tie.Need-returns-2
 returns-2 c =
@@ -132,23 +117,13 @@ returns-4 : tie.Need-returns-4
 returns-4 c =
     let n = c .before .before .before .before .before in
     let d = its n in
-    taken (bytes d) (scene d) (read d) (z d .args .want-f) (z d .args .want-g) (rising (risen n)) (tidy n) (n .noted-verdict .ensures .1 (c .before .before .enum-told2 .given .1) .0) (c .swept-vectors .ensures)
+    taken (bytes d) (scene d) (read d) (z d .args .want-f) (z d .args .want-g) (rising (risen n)) (tidy n) (judged n ∙ c .before .before .enum-told2 .given .1) (c .swept-vectors .ensures)
 
 returns-5 : tie.Need-returns-5
 returns-5 c =
-    let v = c .before .before .before .before in
-    let n = v .before .before .before in
+    let n = c .before .before .before .before in
     let d = its n in
-    at-fault (bytes d) (scene d) (read d) (z d .args .want-f) (z d .args .want-g) (rising (risen n)) (tidy n) (c .before .v2 .given .0 .0)
-    (sym (plainly n (v .v .given .0 .0) (v .v .given .1)) ∙ c .before .v2 .given .1)
-
-returns-6 : tie.Need-returns-6
-returns-6 c =
-    let v = c .before .before .before .before in
-    let n = v .before .before .before in
-    let d = its n in
-    taken (bytes d) (scene d) (read d) (z d .args .want-f) (z d .args .want-g) (rising (risen n)) (tidy n)
-    (sym (plainly n (v .v .given .0 .0) (v .v .given .1)) ∙ c .before .enum-told3 .given .1) (c .vectors-of .ensures)
+    at-fault (bytes d) (scene d) (read d) (z d .args .want-f) (z d .args .want-g) (rising (risen n)) (tidy n) (c .before .r2 .given .0 .0) (judged n ∙ c .before .r2 .given .1)
 
 pub answer-spec : {M : Type 1} → statement M
 answer-spec =
@@ -167,12 +142,8 @@ answer-spec =
     enum-told-2
     slice-aggregate-swept-vectors
     swept-vectors-requires
-    enum-known-v
-    enum-known-v-2
-    enum-told-3
-    vectors-of-requires
+    enum-known-r-2
     returns-2
     returns-3
     returns-4
-    returns-5
-    returns-6)
+    returns-5)

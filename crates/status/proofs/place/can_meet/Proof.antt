@@ -7,18 +7,18 @@ use lib.ListN.{getD}
 use Rattle.plane.specs.declared.Segment.{Segment}
 use Rattle.scene.specs.Read.{segmentAt}
 use Rattle.strands.specs.Lower.{lowerAtRight}
-use Rattle.strands.proofs.Entries.{passed}
+use Rattle.strands.proofs.Entries.{passed, passing}
 use Rattle.status.proofs.place.can_meet.Statement.{statement}
 use Rattle.status.proofs.place.can_meet.Tie as tie
 
 returns : tie.Need-returns
-returns c = λ t i e h. absurd (omega arith)
+returns c = (λ t i e h. absurd (omega arith), λ w. tt)
 
 add-if2 : tie.Need-add-if2
 add-if2 c = search needs
 
 returns-2 : tie.Need-returns-2
-returns-2 c = λ t i e h. absurd (omega arith)
+returns-2 c = (λ t i e h. absurd (omega arith), λ w. tt)
 
 sub-segment-of : tie.Need-sub-segment-of
 sub-segment-of c = search needs
@@ -41,8 +41,10 @@ is-lower-requires c κs = search needs
 returns-3 : tie.Need-returns-3
 returns-3 c =
     let z = c .before .before .before .before .before .before .before in
-    let at : ℕ → Segment = λ m. segmentAt (z .args .s .now) (getD (z .args .status .now) m 0) in
-    λ t i e h. passed lowerAtRight (c .is-lower .ensures) (c .before .before .segment-of .ensures .0 ∙ ap at (omega arith)) (c .before .segment-of2 .ensures .0 ∙ ap at (omega arith)) t
+    let at : ℕ → Segment = λ m. segmentAt (z .args .s .now) (getD (z .args .status .now) m 0) in (
+      λ t i e h. passed lowerAtRight (c .is-lower .ensures) (c .before .before .segment-of .ensures .0 ∙ ap at (omega arith)) (c .before .segment-of2 .ensures .0 ∙ ap at (omega arith)) t,
+      λ w. passing lowerAtRight (c .is-lower .ensures) (c .before .before .segment-of .ensures .0) (c .before .segment-of2 .ensures .0 ∙ ap at (omega arith)) (w (z .args .k - 1) (omega arith) (omega arith)),
+    )
 
 pub can-meet-spec : {M : Type 1} → statement M
 can-meet-spec =

@@ -1,8 +1,9 @@
 -- `status::place::first_over` meets its contract. The loop's invariant: the entry at `high`, if there is one, passes over the point. The measure is
 -- the number of entries in question.
-use Prim.Native.Nat.{_-_, _<_, _≤_}
+use Prim.Native.Nat.{ℕ, suc, _-_, _<_, _≤_}
 use native.Mathlib.Omega.{arith}
-use mathlib.Core.Path.{sym, ap, _∙_}
+use mathlib.Core.Bool.{false}
+use mathlib.Core.Path.{_≡_, sym, ap, _∙_}
 use lib.Dec.{T}
 use lib.ListN.{getD}
 use Rattle.whole.proofs.Logic.{is-true}
@@ -13,13 +14,13 @@ use Rattle.status.proofs.place.first_over.Statement.{statement}
 use Rattle.status.proofs.place.first_over.Tie as tie
 
 abbrev Inv-loop : tie.InvT-loop
-Inv-loop s p status n low₀ high₀ low high = (low ≤ high) × (high ≤ n) × (high < n → T (passesOver (segmentAt s (getD status high 0)) p))
+Inv-loop s p status n low₀ high₀ low high = (low ≤ high) × (high ≤ n) × (high < n → T (passesOver (segmentAt s (getD status high 0)) p)) × ((i : ℕ) → suc i ≡ low → passesOver (segmentAt s (getD status i 0)) p ≡ false)
 
 abbrev μ-loop : tie.MeasureT-loop
 μ-loop s p status n low₀ high₀ low high = high - low
 
 loop-holds : tie.Need-loop-holds Inv-loop μ-loop
-loop-holds c = (omega arith, omega arith, λ h. absurd (omega arith))
+loop-holds c = (omega arith, omega arith, λ h. absurd (omega arith), λ i e. absurd (omega arith))
 
 sub-middle : tie.Need-sub-middle Inv-loop μ-loop
 sub-middle c = omega arith
@@ -43,6 +44,7 @@ loop-again c =
       omega arith,
       omega arith,
       λ h. is-true _ (ap (λ (t : Segment). passesOver t (z .args .p)) (sym (u .segment-of .ensures .0)) ∙ sym (c .before .is-over .ensures) ∙ c .if1 .taken),
+      u .before .before .loop .inv .3,
     )
 
 add-low : tie.Need-add-low Inv-loop μ-loop
@@ -52,10 +54,18 @@ loop-less-2 : tie.Need-loop-less-2 Inv-loop μ-loop
 loop-less-2 c = omega arith
 
 loop-again-2 : tie.Need-loop-again-2 Inv-loop μ-loop
-loop-again-2 c = let i = c .before .before .before .before .loop .inv in (omega arith, i .1, i .2)
+loop-again-2 c =
+    let u = c .before .before in
+    let z = u .before .before .before .before .before in
+    let i = u .before .before .loop .inv in (
+      omega arith,
+      i .1,
+      i .2,
+      λ k e. ap (λ (m : ℕ). passesOver (segmentAt (z .args .s .now) (getD (z .args .status .now) m 0)) (z .args .p)) (omega arith) ∙ ap (λ (t : Segment). passesOver t (z .args .p)) (sym (u .segment-of .ensures .0)) ∙ sym (c .before .is-over .ensures) ∙ c .if1 .left,
+    )
 
 returns : tie.Need-returns Inv-loop μ-loop
-returns c = let i = c .before .loop .inv in (i .1, i .2)
+returns c = let i = c .before .loop .inv in (i .1, i .2, λ k e. i .3 k (omega arith))
 
 pub first-over-spec : {M : Type 1} → statement M
 first-over-spec =

@@ -11,7 +11,7 @@ use Rattle.plane.specs.declared.Segment.{Segment}
 use Rattle.plane.specs.Plane.{segmentInRange, samePoint, sameSegment}
 use Rattle.scene.specs.Read.{segmentAt}
 use Rattle.strands.specs.Lower.{passesUnder, lowerAtRight}
-use Rattle.strands.proofs.Entries.{in-range-at, passed}
+use Rattle.strands.proofs.Entries.{in-range-at, passed, passing}
 use Rattle.status.proofs.place.fits_over.Statement.{statement}
 use Rattle.status.proofs.place.fits_over.Tie as tie
 
@@ -43,8 +43,16 @@ module _ (c : tie.After-segment) where
     its-own : own (c .before .before .before .wide .result) ≡ own (entry i)
     its-own = ap own (c .before .before .before .wide .ensures ∙ ap entry same)
 
+one : (a : tie.After-segment) → suc (z a .args .k - 1) ≡ z a .args .k
+one a = omega arith
+
+-- its test
+module _ (w : tie.After-is-under-beginning) where
+  of-own : (i : ℕ) → (e : suc i ≡ z (w .before) .args .k) → w .is-under-beginning .result ≡ isUnder (w .before .before .segment-of .result) (w .before .segment .result) (own (w .before) (entry (w .before) i))
+  of-own i e = subst (λ (b : Bool). w .is-under-beginning .result ≡ isUnder (w .before .before .segment-of .result) (w .before .segment .result) b) (its-own (w .before) i e) (w .is-under-beginning .ensures)
+
 returns : tie.Need-returns
-returns c = λ t i e. absurd (omega arith)
+returns c = (λ t i e. absurd (omega arith), λ w. tt)
 
 sub-wide : tie.Need-sub-wide
 sub-wide c = search needs
@@ -76,15 +84,21 @@ is-lower-requires c κs = in-range (c .before .before)
 returns-2 : tie.Need-returns-2
 returns-2 c =
     let w = c .before .before in
-    let a = w .before in
-    λ t i e. (
-      passed (λ u v. isUnder u v (own a (entry a i))) (subst (λ (b : Bool). w .is-under-beginning .result ≡ isUnder (a .before .segment-of .result) (a .segment .result) b) (its-own a i e) (w .is-under-beginning .ensures)) (below a i e) (a .segment .ensures)
-          (is-true _ (c .before .if2 .taken)),
-      passed lowerAtRight (c .is-lower .ensures) (below a i e) (a .segment .ensures) t,
+    let a = w .before in (
+      λ t i e. (
+        passed (λ u v. isUnder u v (own a (entry a i))) (of-own w i e) (below a i e) (a .segment .ensures) (is-true _ (c .before .if2 .taken)),
+        passed lowerAtRight (c .is-lower .ensures) (below a i e) (a .segment .ensures) t,
+      ),
+      λ q. passing lowerAtRight (c .is-lower .ensures) (below a (z a .args .k - 1) (one a)) (a .segment .ensures) (q (z a .args .k - 1) (one a) .1),
     )
 
 returns-3 : tie.Need-returns-3
-returns-3 c = λ t i e. absurd (subst T (c .if2 .left) t)
+returns-3 c =
+    let w = c .before in
+    let a = w .before in (
+      λ t i e. absurd (subst T (c .if2 .left) t),
+      λ q. (passing (λ u v. isUnder u v (own a (entry a (z a .args .k - 1)))) (of-own w (z a .args .k - 1) (one a)) (below a (z a .args .k - 1) (one a)) (a .segment .ensures) (q (z a .args .k - 1) (one a) .0)),
+    )
 
 pub fits-over-spec : {M : Type 1} → statement M
 fits-over-spec =

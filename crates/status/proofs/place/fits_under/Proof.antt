@@ -2,12 +2,12 @@
 use native.Mathlib.Omega.{arith}
 use borrow.Author.Needs.{needs}
 use Rattle.strands.specs.Lower.{lowerAtRight}
-use Rattle.strands.proofs.Entries.{in-range-at, passed}
+use Rattle.strands.proofs.Entries.{in-range-at, passed, passing}
 use Rattle.status.proofs.place.fits_under.Statement.{statement}
 use Rattle.status.proofs.place.fits_under.Tie as tie
 
 returns : tie.Need-returns
-returns c = λ t h. absurd (omega arith)
+returns c = (λ t h. absurd (omega arith), λ w. tt)
 
 segment-requires : tie.Need-segment-requires
 segment-requires c κs = search needs
@@ -19,7 +19,10 @@ is-lower-requires : tie.Need-is-lower-requires
 is-lower-requires c κs = (in-range-at (c .before .before .before .before .before .pre .0) (c .before .segment .ensures), c .segment-of .ensures .1)
 
 returns-2 : tie.Need-returns-2
-returns-2 c = λ t h. passed lowerAtRight (c .is-lower .ensures) (c .before .before .segment .ensures) (c .before .segment-of .ensures .0) t
+returns-2 c = (
+  λ t h. passed lowerAtRight (c .is-lower .ensures) (c .before .before .segment .ensures) (c .before .segment-of .ensures .0) t,
+  λ w. passing lowerAtRight (c .is-lower .ensures) (c .before .before .segment .ensures) (c .before .segment-of .ensures .0) (w (omega (arith, c .before .before .before .if1 .left))),
+)
 
 pub fits-under-spec : {M : Type 1} → statement M
 fits-under-spec = tie.close (tie.spec returns segment-requires segment-of-requires is-lower-requires returns-2)

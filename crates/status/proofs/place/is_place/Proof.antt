@@ -1,13 +1,31 @@
 -- `status::place::is_place` meets its contract, by its last test.
-use Prim.Native.Nat.{_-_, _<_}
+use Prim.Native.Nat.{ℕ, suc, _-_, _<_}
 use native.Mathlib.Omega.{arith}
-use mathlib.Core.Path.{ap, subst, _∙_}
+use mathlib.Core.Path.{_≡_, sym, ap, subst, _∙_}
+use mathlib.Core.Logic.{⊎-elim}
+use mathlib.Core.Bool.{false}
+use lib.ListN.{getD}
+use Rattle.scene.specs.Read.{segmentAt}
 use borrow.Author.Needs.{needs}
 use lib.Dec.{T}
 use Rattle.plane.specs.declared.Segment.{Segment}
 use Rattle.strands.specs.Lower.{passesOver}
 use Rattle.status.proofs.place.is_place.Statement.{statement}
 use Rattle.status.proofs.place.is_place.Tie as tie
+
+-- the entry just below was tested, if there is one
+module _ (d : tie.Joined2) where
+  abbrev y : tie.Start
+  y = d .before .before .before .before
+
+  not-below : (i : ℕ) → suc i ≡ y .args .k → passesOver (segmentAt (y .args .s .now) (getD (y .args .status .now) i 0)) (y .args .p) ≡ false
+  not-below i e =
+      ⊎-elim
+      (λ w. ap (λ (m : ℕ). passesOver (segmentAt (y .args .s .now) (getD (y .args .status .now) m 0)) (y .args .p)) same ∙ ap (λ (t : Segment). passesOver t (y .args .p)) (sym (w .1 .ensures .0)) ∙ sym (w .2 .ensures) ∙ w .3 .left)
+      (λ w. absurd (omega (arith, w .left))) (d .if2 .came)
+    where
+      same : i ≡ y .args .k - 1
+      same = omega arith
 
 returns : tie.Need-returns
 returns c = λ no. absurd no
@@ -27,7 +45,7 @@ returns-2 : tie.Need-returns-2
 returns-2 c = λ no. absurd no
 
 returns-3 : tie.Need-returns-3
-returns-3 c = λ yes. (omega arith, λ h. absurd (omega arith))
+returns-3 c = λ yes. (omega arith, λ h. absurd (omega arith), not-below (c .before))
 
 segment-of-requires-2 : tie.Need-segment-of-requires-2
 segment-of-requires-2 c κs =
@@ -41,7 +59,7 @@ is-over-requires-2 c κs = search needs
 returns-4 : tie.Need-returns-4
 returns-4 c =
     let z = c .before .before .before .before .before .before .before in
-    λ yes. (omega arith, λ h. subst T (c .is-over2 .ensures ∙ ap (λ (t : Segment). passesOver t (z .args .p)) (c .before .segment-of2 .ensures .0)) yes)
+    λ yes. (omega arith, λ h. subst T (c .is-over2 .ensures ∙ ap (λ (t : Segment). passesOver t (z .args .p)) (c .before .segment-of2 .ensures .0)) yes, not-below (c .before .before .before))
 
 pub is-place-spec : {M : Type 1} → statement M
 is-place-spec =

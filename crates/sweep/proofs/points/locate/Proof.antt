@@ -70,7 +70,7 @@ first-over-requires : tie.Need-first-over-requires Inv-loop μ-loop
 first-over-requires c κs = let p = c .before .before .pre in (p .1, p .0)
 
 loop-holds : tie.Need-loop-holds Inv-loop μ-loop
-loop-holds c = c .first-over .ensures
+loop-holds c = (c .first-over .ensures .0, c .first-over .ensures .1)
 
 sub-wide : tie.Need-sub-wide Inv-loop μ-loop
 sub-wide c = omega arith

@@ -5,15 +5,21 @@ use native.Mathlib.Omega.{arith}
 use mathlib.Core.Path.{_≡_, refl, sym, subst, _∙_}
 use mathlib.Core.Bool.{Bool, true, false}
 use mathlib.Core.List.{List, []}
-use lib.Dec.{eqb→eq}
+use lib.Dec.{T, eqb, eqb→eq}
 use lib.ListN.{length, take, set, length-set}
-use lib.Seq.{getD-set-other}
+use lib.Seq.{getD-set-other, length-take-le}
 use borrow.Author.Needs.{needs}
 use Rattle.whole.specs.Count.{_∈_}
-use Rattle.strands.specs.Swept.{total, Taken, Entry}
+use Rattle.strands.specs.Swept.{isBeginning, total, Taken, Entry}
 use Rattle.strands.specs.Located.{isPointNext}
 use Rattle.strands.proofs.Begun.{reached, Next}
-use Rattle.strands.proofs.Run.{Run, Orderly, run-start, later-taken, advance}
+use Rattle.strands.specs.Complete.{Clear, CanTake}
+use Rattle.strands.proofs.Strict.{After, Earliest, rises, not-earlier, after-start, after-next}
+use Rattle.strands.proofs.Lasting.{none-active}
+use Rattle.strands.proofs.Sure
+use Rattle.strands.proofs.Sure.{goes-on, all-later}
+use Rattle.whole.proofs.Logic.{in-nil}
+use Rattle.strands.proofs.Run.{Run, Orderly, AllEndLater, run-start, later-taken, advance}
 use Rattle.strands.proofs.Notes.{AllNoted, noted-start, noted-next}
 use Rattle.strands.proofs.Objects.{few-elements, few-events}
 use Rattle.strands.proofs.Final.{passes, notes-hold}
@@ -26,6 +32,7 @@ abbrev Inv-loop : tie.InvT-loop
 Inv-loop s scene status₀ notes₀ all i₀ j₀ n₀ hint₀ status notes i j n hint =
     (length status ≡ length status₀) × (length notes ≡ length notes₀) × (i ≤ scene .f .count) × (j ≤ total s scene false) × (n ≤ length status)
     × Run s scene 0 j (take n status) × AllNoted s scene 0 j (take n status) notes × Passed s scene i j (take n status) notes
+    × After s scene 0 j × (Clear s scene → AllEndLater s scene 0 j (take n status))
 
 abbrev μ-loop : tie.MeasureT-loop
 μ-loop s scene status₀ notes₀ all i₀ j₀ n₀ hint₀ status notes i j n hint = total s scene false - j
@@ -84,6 +91,27 @@ module _ (c : tie.After-note-points Inv-loop μ-loop) where
   next : Next (y .args .s .now) (y .args .scene) false 0 (d .loop .j) 0 (d .loop .j + 1)
   next = next-by (y .args .s .now) (y .args .scene) (orderly d) 0 (d .loop .j) false
 
+  first-one : Earliest (y .args .s .now) (y .args .scene) 0 (d .loop .j) false
+  first-one true m h l =
+      absurd (none (no-events (y .args .s .now) (y .args .scene) (y .pre .0) (y .pre .1) (y .pre .2) (y .pre .3)) l)
+    where
+      none : total (y .args .s .now) (y .args .scene) true ≡ 0 → m < total (y .args .s .now) (y .args .scene) true → ⊥
+      none e l = omega arith
+  first-one false m h l = not-earlier (y .args .s .now) (y .args .scene) (orderly d) (rises (y .args .s .now) (y .args .scene) (y .pre .0) (y .pre .1)) false (d .loop .j) m h l
+
+  -- where 11 to 15 find no fault, its tests hold, and there is room
+  module _ (clear : Clear (y .args .s .now) (y .args .scene)) where
+    can : CanTake (y .args .s .now) (y .args .scene) false (d .loop .j) (take (d .loop .n) (d .loop .status))
+    can = goes-on (y .args .s .now) (y .args .scene) (y .pre .0) (y .pre .1) clear (d .loop .inv .5) (d .loop .inv .9 clear) false it (d .loop .inv .8) (reached-within d) first-one
+
+    has-room : isBeginning (y .args .s .now) (y .args .scene) false (d .loop .j) ≡ true → d .loop .n < 1024
+    has-room e =
+        omega (
+          arith,
+          Sure.room (y .args .s .now) (y .args .scene) (y .pre .0) (y .pre .1) clear (d .loop .inv .5) (d .loop .inv .9 clear) false it (reached-within d) e,
+          length-take-le (d .loop .n) (d .loop .status) (d .loop .inv .4),
+        )
+
 -- that element has been taken
 module _ (c : tie.After-known-told Inv-loop μ-loop) where
   abbrev e : tie.After-note-points Inv-loop μ-loop
@@ -114,6 +142,12 @@ module _ (c : tie.After-known-told Inv-loop μ-loop) where
       passed-event (y e .args .s .now) (y e .args .scene) (y e .pre .0) (y e .pre .1) (y e .pre .2) (y e .pre .3) (passed e) (e .note-points .ensures .1) (more e)
       (later-taken (y e .args .s .now) (y e .args .scene) (orderly (d e)) (d e .loop .inv .5) false (it e .more) (it e .least) (next e) (done .1))
       (λ p h. getD-set-other (noted e) (1024 + d e .loop .j) p v 0 (λ q. omega (arith, q, h, e .note-points .ensures .0, few (d e))))
+
+  after-on : After (y e .args .s .now) (y e .args .scene) 0 (d e .loop .j + 1)
+  after-on = after-next (y e .args .s .now) (y e .args .scene) (d e .loop .inv .8) (first-one e) (next e)
+
+  later-on : Clear (y e .args .s .now) (y e .args .scene) → AllEndLater (y e .args .s .now) (y e .args .scene) 0 (d e .loop .j + 1) (take m new)
+  later-on clear = all-later (y e .args .s .now) (y e .args .scene) (y e .pre .0) (y e .pre .1) clear (d e .loop .inv .5) (d e .loop .inv .9 clear) false (it e) (next e) (done .1)
 
 -- or the sweep has stopped
 module _ (c : tie.After-enum-told Inv-loop μ-loop) where
@@ -155,7 +189,7 @@ event-count-requires c κs = search needs
 loop-holds : tie.Need-loop-holds Inv-loop μ-loop
 loop-holds c =
     let a = c .before .before .before .before .before .args in
-    (refl, refl, omega arith, omega arith, omega arith, run-start (a .s .now) (a .scene), noted-start (a .s .now) (a .scene) (a .notes .now), passed-none (a .s .now) (a .scene) [] (a .notes .now))
+    (refl, refl, omega arith, omega arith, omega arith, run-start (a .s .now) (a .scene), noted-start (a .s .now) (a .scene) (a .notes .now), passed-none (a .s .now) (a .scene) [] (a .notes .now), after-start (a .s .now) (a .scene), λ clear e m. absurd (in-nil m))
 
 note-points-requires : tie.Need-note-points-requires Inv-loop μ-loop
 note-points-requires c κs =
@@ -180,7 +214,13 @@ same-length-2 : tie.Need-same-length-2 Inv-loop μ-loop
 same-length-2 c = still-notes c
 
 returns : tie.Need-returns Inv-loop μ-loop
-returns c = (still c, still-notes c, λ no. absurd no)
+returns c =
+    let b = x c in (
+      still c,
+      still-notes c,
+      λ no. absurd no,
+      λ size clear. absurd (c .before .before .before .before .take-event .ensures .2 (λ e. omega (arith, has-room b clear e, d b .loop .inv .0)) (can b clear) (c .enum-told .given .1)),
+    )
 
 add-notes : tie.Need-add-notes Inv-loop μ-loop
 add-notes c = omega (arith, short (e c))
@@ -204,6 +244,8 @@ loop-again c = (
   run-on c,
   noted-on c,
   passed-on c,
+  after-on c,
+  later-on c,
 )
 
 note-points-requires-2 : tie.Need-note-points-requires-2 Inv-loop μ-loop
@@ -238,6 +280,9 @@ returns-2 c =
                   (subst (λ (j : ℕ). isPointNext s sc (b .note-points2 .result) j ≡ false) (of-g b) (b .note-points2 .ensures .1));
             },
           ),
+      λ size clear.
+          let none = none-active s sc (take (l .n) (l .status)) (subst (λ (i : ℕ). AllEndLater s sc i (all-of b false) (take (l .n) (l .status))) (of-f b) (subst (λ (j : ℕ). AllEndLater s sc 0 j (take (l .n) (l .status))) (of-g b) (l .inv .9 clear))) in
+          subst (λ (n : ℕ). T (eqb n 0)) (sym none ∙ length-take-le (l .n) (l .status) (l .inv .4)) tt,
     )
 
 pub run-points-spec : {M : Type 1} → statement M
