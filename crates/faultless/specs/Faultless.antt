@@ -1,4 +1,4 @@
--- Elements of one shape that stand one after the other, none of them at fault.
+-- Elements of one type that stand one after the other, none of them at fault, as many as there are.
 use Prim.Native.Nat.{ℕ, _+_, _*_, _<_, _≤_}
 use mathlib.Core.Path.{_≡_}
 use mathlib.Core.Bool.{Bool, false, _&&_}
@@ -16,12 +16,13 @@ abbrev pub isSound : Segment → Bool
 isSound t = segmentInRange t && ordered t
 
 module _ (s : List ℕ) (k : Shape) where
-  -- the record at an offset is an element, where one more may stand
+  -- the record at an offset is an element without fault, where one more may stand
   abbrev pub IsElement : ℕ → Type 0
   IsElement at = recordAt s at (standsIn k) false ≡ Good (Element k)
 
-  -- so many of them from an offset on
+  -- exactly so many of them from an offset on: where an object may have one more, none follows
   pub record Faultless (start n : ℕ) : Type 0 where
     pub few : n ≤ most
     pub there : start + n * size k ≤ length s
     pub each : (i : ℕ) → i < n → IsElement (start + i * size k)
+    pub no-more : n < most → IsElement (start + n * size k) → ⊥

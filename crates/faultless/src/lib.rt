@@ -1,5 +1,5 @@
-// How many elements in a row are without fault. Nearly all records of nearly all scenes are, so reading counts them here and goes on from there record
-// by record. Only a yes says something: what is wrong with a record, and whether anything is, reading decides.
+// How many elements in a row are without fault: all that stand before the first record that is none, as far as an object may have them. It is reading's one
+// loop over elements. What is wrong with the record at which it stops, if anything is, reading decides.
 use plane::Segment;
 use scene::Shape;
 use scene::bytes;
@@ -17,21 +17,35 @@ fn is_sound(t: Segment) -> bool
     plane::is_in_range(t.left) && plane::is_in_range(t.right) && plane::is_before(t.left, t.right)
 }
 
-// Does an element stand at an offset, without fault?
+// Does an element of the object's type stand at an offset, without fault?
 fn is_faultless(s: &[u8], k: Shape, at: usize) -> bool
     requires { ⌜ at ≤ length (now s) ⌝ }
-    ensures { λ r. ⌜ (T r → IsElement (now (s .entry)) k at) ⌝ }
+    ensures { λ r. ⌜ (T r → IsElement (now (s .entry)) k at) × (IsElement (now (s .entry)) k at → T r) ⌝ }
 {
     if s.len() - at < records::size(k) {
         return false;
     }
-    match k {
-        Shape::Points => s[at] == 80 && plane::is_in_range(bytes::point(s, at)),
-        Shape::Line => s[at] == 76 && s[at + 17] <= 1 && is_sound(bytes::segment(s, at)),
-        Shape::Region => s[at] == 82
-            && s[at + 17] <= 1
-            && s[at + 18] <= 1
-            && is_sound(bytes::segment(s, at)),
+    let kind = s[at];
+    match kind {
+        80 => {
+            let Shape::Points = k else {
+                return false;
+            };
+            plane::is_in_range(bytes::point(s, at))
+        }
+        76 => {
+            let Shape::Line = k else {
+                return false;
+            };
+            s[at + 17] <= 1 && is_sound(bytes::segment(s, at))
+        }
+        82 => {
+            let Shape::Region = k else {
+                return false;
+            };
+            s[at + 17] <= 1 && s[at + 18] <= 1 && is_sound(bytes::segment(s, at))
+        }
+        _ => false,
     }
 }
 

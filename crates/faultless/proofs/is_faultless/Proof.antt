@@ -1,101 +1,146 @@
--- `faultless::is_faultless` meets its contract: in each arm the shape is known, and the tests that led to a yes are those of the definition.
+-- `faultless::is_faultless` meets its contract: in each arm the kind is known, and where the type is that of the kind the tests of its fields are those
+-- of the definition.
 use Prim.Native.Nat.{ℕ, _+_, _≤_}
 use native.Mathlib.Omega.{arith}
 use mathlib.Core.Path.{_≡_, refl, sym, ap, subst, subst⁻¹, _∙_}
-use mathlib.Core.Bool.{true, false, true≢false}
-use mathlib.Core.Logic.{⊎-elim}
+use mathlib.Core.Bool.{Bool, true, false, _&&_, cond, and-true}
+use mathlib.Core.Logic.{⊎-elim, inl, inr}
 use mathlib.Core.List.{List}
-use lib.Dec.{T, leb, le→leb, eqb→eq}
+use lib.Dec.{T, leb, eqb}
 use lib.ListN.{length}
 use borrow.Author.Needs.{needs}
-use borrow.Author.Tests.{eq-eqb, eqb-true, leb-true}
-use Rattle.plane.specs.Plane.{inRange, segmentInRange, ordered}
+use borrow.Author.Tests.{eq-eqb, ne-eqb, le-leb, lt-leb}
+use Rattle.plane.specs.Plane.{inRange}
+use Rattle.plane.proofs.Machine.{and-met}
 use Rattle.scene.specs.declared.Shape.{Shape}
 use Rattle.scene.specs.declared.Shape.the-variants.{Points, Line, Region}
-use Rattle.scene.specs.declared.Kind.the-variants.{Element}
-use Rattle.scene.specs.Read.{byte, kindOf, kindAt, shapeNumber, size, standsIn, pointAt, segmentAt, fieldsGood, coordinatesGood, endsGood}
-use Rattle.scene.proofs.Passed.{whole-body}
+use Rattle.scene.specs.declared.Kind.the-variants.{Start, Element, End, Unknown}
+use Rattle.scene.specs.Read.{byte, kindOf, kindAt, shapeNumber, size, standsIn, fieldsGood, coordinatesGood, endsGood}
+use Rattle.scene.proofs.Passed.{Passed, passed, whole-body}
 use Rattle.whole.proofs.Logic.{and-left, and-right, and-make, true-is}
 use Rattle.faultless.specs.Faultless.{isSound, IsElement}
 use Rattle.faultless.proofs.is_faultless.Statement.{statement}
 use Rattle.faultless.proofs.is_faultless.Tie as tie
 
+-- ---- the kind byte
+same-type : {k k′ : Shape} → Element k ≡ Element k′ → k ≡ k′
+same-type e = cc
+
+abbrev kindByte : Shape → ℕ
+kindByte Points = 80
+kindByte Line = 76
+kindByte Region = 82
+
+element-kind : (k : Shape) {b : ℕ} → b ≡ kindByte k → kindOf b ≡ Element k
+unfolding kindOf
+element-kind Points e = ap kindOf e
+element-kind Line e = ap kindOf e
+element-kind Region e = ap kindOf e
+
+no-element : (b : ℕ) (k : Shape) → (b ≡ 80 → ⊥) → (b ≡ 76 → ⊥) → (b ≡ 82 → ⊥) → kindOf b ≡ Element k → ⊥
+unfolding kindOf
+no-element b k no-point no-line no-region e =
+    go (eqb b 84) (eqb b 69) (rw (ne-eqb b 80 no-point, ne-eqb b 76 no-line, ne-eqb b 82 no-region) at e)
+  where
+    go : (t u : Bool) → cond t Start (cond u End Unknown) ≡ Element k → ⊥
+    go true u e = let z : _≡_ {A = ℕ} 0 1 = cc in omega arith
+    go false true e = let z : _≡_ {A = ℕ} 0 1 = cc in omega arith
+    go false false e = let z : _≡_ {A = ℕ} 0 1 = cc in omega arith
+
+-- ---- the record at an offset
+each-true : (a b c : Bool) → T (a && (b && c)) → (a ≡ true) × (b ≡ true) × (c ≡ true)
+each-true a b c t =
+    let u = and-right a (b && c) t in
+    (true-is a (and-left a (b && c) t), true-is b (and-left b c u), true-is c (and-right b c u))
+
 module _ (s : List ℕ) (at : ℕ) where
-  -- from the tests to the answer
-  element : (k : Shape) → kindAt s at ≡ Element k → at + size k ≤ length s
-      → T (fieldsGood s at (Element k)) → T (coordinatesGood s at (Element k)) → T (endsGood s at (Element k)) → IsElement s k at
-  element k kind whole f c e =
-      whole-body s at (standsIn k) false (Element k) (omega arith) kind (eq-eqb (shapeNumber k) (shapeNumber k) refl) refl (omega arith)
-      ∙ rw (true-is (fieldsGood s at (Element k)) f, true-is (coordinatesGood s at (Element k)) c, true-is (endsGood s at (Element k)) e)
+  -- neither 3 nor 4 nor 5
+  abbrev good : Shape → Bool
+  good k = fieldsGood s at (Element k) && (coordinatesGood s at (Element k) && endsGood s at (Element k))
 
-  -- what holds of k holds at the arm's shape, and what is shown there holds of k
-  module _ {k k′ : Shape} (e : k ≡ k′) (whole : at + size k ≤ length s) where
-    there : at + size k′ ≤ length s
-    there = subst (λ (k : Shape). at + size k ≤ length s) e whole
+  -- what an answer is to say
+  abbrev Says : Shape → Bool → Type 0
+  Says k r = (T r → IsElement s k at) × (IsElement s k at → T r)
 
-    element-there : (at + size k′ ≤ length s → IsElement s k′ at) → IsElement s k at
-    element-there h = subst⁻¹ (λ (k : Shape). IsElement s k at) e (h there)
+  says-no : {k : Shape} → (IsElement s k at → ⊥) → Says k false
+  says-no never = (λ no. absurd no, λ e. absurd (never e))
 
-  in-range : T (isSound (segmentAt s at)) → T (segmentInRange (segmentAt s at))
-  in-range = and-left (segmentInRange (segmentAt s at)) (ordered (segmentAt s at))
+  tests : (k : Shape) → IsElement s k at → Passed s at (standsIn k) false (Element k)
+  tests k e = passed s at (standsIn k) false (Element k) e
 
-  in-order : T (isSound (segmentAt s at)) → T (ordered (segmentAt s at))
-  in-order = and-right (segmentInRange (segmentAt s at)) (ordered (segmentAt s at))
+  -- a record of the kind of a type's elements, where the object is of another type, and where it is of that type and the body is there
+  module _ (k′ : Shape) (kind : kindAt s at ≡ Element k′) {k : Shape} where
+    of-another-type : (k ≡ k′ → ⊥) → Says k false
+    of-another-type other = says-no (λ e. other (same-type (sym (tests k e .kind) ∙ kind)))
 
-  module _ {k : Shape} (whole : at + size k ≤ length s) where
-    point-sound : k ≡ Points → byte s at ≡ 80 → T (inRange (pointAt s at)) → IsElement s k at
-    unfolding kindOf
-    point-sound e b t = element-there e whole (λ w. element Points (rw b) w tt t tt)
+    of-its-type : k ≡ k′ → at + size k′ ≤ length s → (r : Bool) → r ≡ good k′ → Says k r
+    of-its-type same whole r is = subst⁻¹ (λ (k : Shape). Says k r) same (λ t. yes (subst T is t), λ e. subst⁻¹ T is (passes (tests k′ e)))
+      where
+        yes : T (good k′) → IsElement s k′ at
+        yes t =
+            let all = each-true (fieldsGood s at (Element k′)) (coordinatesGood s at (Element k′)) (endsGood s at (Element k′)) t in
+            whole-body s at (standsIn k′) false (Element k′) (omega arith) kind (eq-eqb (shapeNumber k′) (shapeNumber k′) refl) refl (omega arith)
+            ∙ rw (all .0, all .1, all .2)
 
-    line-sound : k ≡ Line → byte s at ≡ 76 → byte s (at + 17) ≤ 1 → T (isSound (segmentAt s at)) → IsElement s k at
-    unfolding kindOf
-    line-sound e b d t = element-there e whole (λ w. element Line (rw b) w (le→leb (byte s (at + 17)) 1 d) (in-range t) (in-order t))
+        passes : Passed s at (standsIn k′) false (Element k′) → T (good k′)
+        passes p =
+            and-make (fieldsGood s at (Element k′)) (coordinatesGood s at (Element k′) && endsGood s at (Element k′)) (p .fields)
+            (and-make (coordinatesGood s at (Element k′)) (endsGood s at (Element k′)) (p .coordinates) (p .ends))
 
-    region-sound : k ≡ Region → byte s at ≡ 82 → byte s (at + 17) ≤ 1 → byte s (at + 18) ≤ 1 → T (isSound (segmentAt s at)) → IsElement s k at
-    unfolding kindOf
-    region-sound e b d ia t =
-        element-there e whole
-        (λ w. element Region (rw b) w
-        (and-make (leb (byte s (at + 17)) 1) (leb (byte s (at + 18)) 1) (le→leb (byte s (at + 17)) 1 d) (le→leb (byte s (at + 18)) 1 ia))
-        (in-range t) (in-order t))
+-- ---- what is known in the arms
+module _ (c : tie.Else1) where
+  abbrev z : tie.Start
+  z = c .before .before .before
 
--- a body that is there, whatever the shape and in each arm
-whole : (c : tie.Else1) → let z = c .before .before .before .args in z .at + size (z .k) ≤ length (z .s .now)
-whole c = let z = c .before .before .before in omega (arith, c .before .size .ensures, z .pre)
+  abbrev bytes : List ℕ
+  bytes = z .args .s .now
 
-point-there : (c : tie.After-enum-told) → let z = c .before .before .before .before .before .args in z .at + size Points ≤ length (z .s .now)
-point-there c = let z = c .before .before .before .before .before .args in there (z .s .now) (z .at) (c .enum-told .given .1) (whole (c .before .before))
+  abbrev offset : ℕ
+  offset = z .args .at
 
-line-there : (c : tie.After-enum-told2) → let z = c .before .before .before .before .before .args in z .at + size Line ≤ length (z .s .now)
-line-there c = let z = c .before .before .before .before .before .args in there (z .s .now) (z .at) (c .enum-told2 .given .1) (whole (c .before .before))
+  whole : {k : Shape} → z .args .k ≡ k → offset + size k ≤ length bytes
+  whole e = subst (λ (k : Shape). offset + size k ≤ length bytes) e (omega (arith, c .before .size .ensures, z .pre))
 
-region-there : (c : tie.After-enum-told3) → let z = c .before .before .before .before .before .args in z .at + size Region ≤ length (z .s .now)
-region-there c = let z = c .before .before .before .before .before .args in there (z .s .now) (z .at) (c .enum-told3 .given .1) (whole (c .before .before))
+  -- an arm's answer tells whether the fields of its type are good
+  abbrev Answers : Shape → Type 0
+  Answers k = (r : Bool) → r ≡ good bytes offset k → Says bytes offset (z .args .k) r
 
--- the flags where the ways of two tests meet
-line-flag : (c : tie.Joined3) → let z = c .before .before .before .before .before .before .before .args in
-    c .if3 .if4 ≡ true → (byte (z .s .now) (z .at) ≡ 76) × (byte (z .s .now) (z .at + 17) ≤ 1)
-line-flag c t =
-    ⊎-elim
-    (λ w. (w .0 .taken, leb-true _ _ (sym (w .2) ∙ t)))
-    (λ w. absurd (w .0 .left (eqb-true _ _ (sym (w .1) ∙ t))))
-    (c .if3 .came)
+  answers : {k : Shape} → z .args .k ≡ k → byte bytes offset ≡ kindByte k → Answers k
+  answers {k} e b = of-its-type bytes offset k (element-kind k b) e (whole e)
 
-region-flag : (c : tie.Joined5) → let z = c .before .before .before .before .before .before .before .args in
-    c .if5 .if6 ≡ true → (byte (z .s .now) (z .at) ≡ 82) × (byte (z .s .now) (z .at + 17) ≤ 1)
-region-flag c t =
-    ⊎-elim
-    (λ w. (w .0 .taken, leb-true _ _ (sym (w .2) ∙ t)))
-    (λ w. absurd (w .0 .left (eqb-true _ _ (sym (w .1) ∙ t))))
-    (c .if5 .came)
+module _ (c : tie.After-enum-told) where
+  abbrev of-point : tie.Else1
+  of-point = c .before .before .before .before
 
-region-flags : (c : tie.Joined6) → let z = c .before .before .before .before .before .before .before .before .args in
-    c .if6 .if7 ≡ true → (byte (z .s .now) (z .at) ≡ 82) × (byte (z .s .now) (z .at + 17) ≤ 1) × (byte (z .s .now) (z .at + 18) ≤ 1)
-region-flags c t =
-    ⊎-elim
-    (λ w. let f = region-flag (c .before) (w .0 .taken) in (f .0, f .1, leb-true _ _ (sym (w .2) ∙ t)))
-    (λ w. absurd (true≢false (sym t ∙ w .1 ∙ w .0 .left)))
-    (c .if6 .came)
+  point-whole : offset of-point + 9 ≤ length (bytes of-point)
+  point-whole = whole of-point (c .enum-told .given .1)
+
+  point-answers : Answers of-point Points
+  point-answers = answers of-point (c .enum-told .given .1) (c .before .before .match .keys1)
+
+module _ (c : tie.After-enum-told2) where
+  abbrev of-line : tie.Else1
+  of-line = c .before .before .before .before
+
+  line-whole : offset of-line + 18 ≤ length (bytes of-line)
+  line-whole = whole of-line (c .enum-told2 .given .1)
+
+  line-answers : Answers of-line Line
+  line-answers = answers of-line (c .enum-told2 .given .1) (c .before .before .match .keys2)
+
+module _ (c : tie.After-enum-told3) where
+  abbrev of-region : tie.Else1
+  of-region = c .before .before .before .before
+
+  region-whole : offset of-region + 19 ≤ length (bytes of-region)
+  region-whole = whole of-region (c .enum-told3 .given .1)
+
+  region-answers : Answers of-region Region
+  region-answers = answers of-region (c .enum-told3 .given .1) (c .before .before .match .keys3)
+
+-- the flag where the ways of the tests of d and ia meet
+flags : (c : tie.Joined3) → let d = of-region (c .before .before) in c .if3 .if4 ≡ fieldsGood (bytes d) (offset d) (Element Region)
+flags c = and-met (⊎-elim (λ w. inl (le-leb _ _ (w .0 .taken), w .2)) (λ w. inr (lt-leb _ _ (w .0 .left), w .1)) (c .if3 .came))
 
 sub-if1 : tie.Need-sub-if1
 sub-if1 c = search needs
@@ -104,16 +149,24 @@ size-requires : tie.Need-size-requires
 size-requires c κs = search needs
 
 returns : tie.Need-returns
-returns c = λ no. absurd no
+returns c =
+    let z = c .before .before .before in
+    says-no (z .args .s .now) (z .args .at) (λ e. omega (arith, c .before .size .ensures, z .pre, tests (z .args .s .now) (z .args .at) (z .args .k) e .whole))
+
+shared-slice-read-kind : tie.Need-shared-slice-read-kind
+shared-slice-read-kind c = search needs
 
 enum-told : tie.Need-enum-told
 enum-told c = search needs
 
-shared-slice-read-if2 : tie.Need-shared-slice-read-if2
-shared-slice-read-if2 c = search needs
+returns-2 : tie.Need-returns-2
+returns-2 c =
+    let d = c .before .before .before in
+    of-another-type (bytes d) (offset d) Points (element-kind Points (c .before .match .keys1))
+    (λ e. ⊎-elim (λ q. omega arith) (λ q. omega arith) (rw e at (c .match2 .keys2)))
 
 point-requires : tie.Need-point-requires
-point-requires c κs = point-there (c .before .before)
+point-requires c κs = point-whole c
 
 is-in-range-requires : tie.Need-is-in-range-requires
 is-in-range-requires c κs = search needs
@@ -121,17 +174,20 @@ is-in-range-requires c κs = search needs
 enum-told-2 : tie.Need-enum-told-2
 enum-told-2 c = search needs
 
-shared-slice-read-if3 : tie.Need-shared-slice-read-if3
-shared-slice-read-if3 c = search needs
+returns-3 : tie.Need-returns-3
+returns-3 c =
+    let d = c .before .before .before in
+    of-another-type (bytes d) (offset d) Line (element-kind Line (c .before .match .keys2))
+    (λ e. ⊎-elim (λ q. omega arith) (λ q. omega arith) (rw e at (c .match3 .keys2)))
 
-add-if4 : tie.Need-add-if4
-add-if4 c = search needs
+add-if2 : tie.Need-add-if2
+add-if2 c = search needs
 
-shared-slice-read-if4 : tie.Need-shared-slice-read-if4
-shared-slice-read-if4 c = omega (arith, line-there (c .before .before .before))
+shared-slice-read-if2 : tie.Need-shared-slice-read-if2
+shared-slice-read-if2 c = omega (arith, line-whole (c .before))
 
 segment-requires : tie.Need-segment-requires
-segment-requires c κs = line-there (c .before .before .before)
+segment-requires c κs = line-whole (c .before .before)
 
 is-sound-requires : tie.Need-is-sound-requires
 is-sound-requires c κs = search needs
@@ -139,58 +195,57 @@ is-sound-requires c κs = search needs
 enum-told-3 : tie.Need-enum-told-3
 enum-told-3 c = search needs
 
-shared-slice-read-if5 : tie.Need-shared-slice-read-if5
-shared-slice-read-if5 c = search needs
+returns-4 : tie.Need-returns-4
+returns-4 c =
+    let d = c .before .before .before in
+    of-another-type (bytes d) (offset d) Region (element-kind Region (c .before .match .keys3))
+    (λ e. ⊎-elim (λ q. omega arith) (λ q. omega arith) (rw e at (c .match4 .keys2)))
 
-add-if6 : tie.Need-add-if6
-add-if6 c = search needs
+add-if3 : tie.Need-add-if3
+add-if3 c = search needs
 
-shared-slice-read-if6 : tie.Need-shared-slice-read-if6
-shared-slice-read-if6 c = omega (arith, region-there (c .before .before .before))
+shared-slice-read-if3 : tie.Need-shared-slice-read-if3
+shared-slice-read-if3 c = omega (arith, region-whole (c .before))
 
-add-if7 : tie.Need-add-if7
-add-if7 c = search needs
+add-if4 : tie.Need-add-if4
+add-if4 c = search needs
 
-shared-slice-read-if7 : tie.Need-shared-slice-read-if7
-shared-slice-read-if7 c = omega (arith, region-there (c .before .before .before .before))
+shared-slice-read-if4 : tie.Need-shared-slice-read-if4
+shared-slice-read-if4 c = omega (arith, region-whole (c .before .before .before))
 
 segment-requires-2 : tie.Need-segment-requires-2
-segment-requires-2 c κs = omega (arith, region-there (c .before .before .before .before))
+segment-requires-2 c κs = omega (arith, region-whole (c .before .before .before))
 
 is-sound-requires-2 : tie.Need-is-sound-requires-2
 is-sound-requires-2 c κs = search needs
 
-returns-2 : tie.Need-returns-2
-returns-2 c =
-    let d = c .before .before .before .before in
-    let z = d .before .before .before .before .before .args in
-    λ yes. point-sound (z .s .now) (z .at) (whole (d .before .before)) (d .enum-told .given .1) (c .before .before .if2 .taken)
-    (subst T (c .is-in-range .ensures ∙ ap inRange (c .before .point .ensures)) yes)
-
-returns-3 : tie.Need-returns-3
-returns-3 c = λ no. absurd (c .if2 .left (eqb→eq _ _ no))
-
-returns-4 : tie.Need-returns-4
-returns-4 c =
-    let d = c .before .before .before .before .before in
-    let z = d .before .before .before .before .before .args in
-    let f = line-flag (c .before .before .before) (c .before .before .if4 .taken) in
-    λ yes. line-sound (z .s .now) (z .at) (whole (d .before .before)) (d .enum-told2 .given .1) (f .0) (f .1)
-    (subst T (c .is-sound .ensures ∙ ap isSound (c .before .segment .ensures)) yes)
-
 returns-5 : tie.Need-returns-5
-returns-5 c = λ no. absurd (subst T (c .if4 .left) no)
+returns-5 c = point-answers (c .before .before) (c .is-in-range .result) (c .is-in-range .ensures ∙ ap inRange (c .before .point .ensures) ∙ rw and-true)
 
 returns-6 : tie.Need-returns-6
 returns-6 c =
-    let d = c .before .before .before .before .before .before in
-    let z = d .before .before .before .before .before .args in
-    let f = region-flags (c .before .before .before) (c .before .before .if7 .taken) in
-    λ yes. region-sound (z .s .now) (z .at) (whole (d .before .before)) (d .enum-told3 .given .1) (f .0) (f .1) (f .2)
-    (subst T (c .is-sound2 .ensures ∙ ap isSound (c .before .segment2 .ensures)) yes)
+    line-answers (c .before .before .before .before) (c .is-sound .result)
+    (c .is-sound .ensures ∙ ap isSound (c .before .segment .ensures) ∙ rw (le-leb _ _ (c .before .before .if2 .taken)))
 
 returns-7 : tie.Need-returns-7
-returns-7 c = λ no. absurd (subst T (c .if7 .left) no)
+returns-7 c =
+    let d = of-line (c .before .before) in
+    line-answers (c .before .before) (leb (byte (bytes d) (offset d + 17)) 1) (rw (lt-leb _ _ (c .if2 .left)))
+
+returns-8 : tie.Need-returns-8
+returns-8 c =
+    region-answers (c .before .before .before .before .before) (c .is-sound2 .result)
+    (c .is-sound2 .ensures ∙ ap isSound (c .before .segment2 .ensures) ∙ rw (sym (flags (c .before .before .before)) ∙ c .before .before .if4 .taken))
+
+returns-9 : tie.Need-returns-9
+returns-9 c = region-answers (c .before .before .before) (c .before .if3 .if4) (flags (c .before) ∙ rw (sym (flags (c .before)) ∙ c .if4 .left))
+
+returns-10 : tie.Need-returns-10
+returns-10 c =
+    let d = c .before .before in
+    let not = c .match .rest in
+    says-no (bytes d) (offset d)
+    (λ e. no-element (byte (bytes d) (offset d)) (z d .args .k) (not .0 .0 .1) (not .0 .1) (not .1) (tests (bytes d) (offset d) (z d .args .k) e .kind))
 
 pub is-faultless-spec : {M : Type 1} → statement M
 is-faultless-spec =
@@ -199,27 +254,28 @@ is-faultless-spec =
     sub-if1
     size-requires
     returns
+    shared-slice-read-kind
     enum-told
-    shared-slice-read-if2
+    returns-2
     point-requires
     is-in-range-requires
     enum-told-2
-    shared-slice-read-if3
-    add-if4
-    shared-slice-read-if4
+    returns-3
+    add-if2
+    shared-slice-read-if2
     segment-requires
     is-sound-requires
     enum-told-3
-    shared-slice-read-if5
-    add-if6
-    shared-slice-read-if6
-    add-if7
-    shared-slice-read-if7
+    returns-4
+    add-if3
+    shared-slice-read-if3
+    add-if4
+    shared-slice-read-if4
     segment-requires-2
     is-sound-requires-2
-    returns-2
-    returns-3
-    returns-4
     returns-5
     returns-6
-    returns-7)
+    returns-7
+    returns-8
+    returns-9
+    returns-10)
