@@ -14,7 +14,7 @@ ghost use mathlib.Core.Path.{_≡_};
 ghost use Prim.Native.Nat.{_+_, _≤_};
 ghost use mathlib.Core.Bool.{Bool};
 ghost use lib.ListN.{length};
-ghost use Rattle.scene.specs.Read.{size, recordAt, startsObject, standsIn, isEnd, most, elementsFrom, readObject, readScene, readAlone};
+ghost use Rattle.scene.specs.Read.{size, recordAt, startsObject, standsIn, most, elementsFrom, readObject, readScene, readAlone};
 ghost use Rattle.scene.specs.Inner.{fieldsAt, segmentFields};
 
 fn bad(number: u8, place: usize) -> Record
@@ -125,43 +125,21 @@ fn type_record(s: &[u8], at: usize) -> Record
     }
 }
 
-fn is_end(k: Kind) -> bool
-    ensures { λ r. ⌜ r ≡ isEnd k ⌝ }
-{
-    match k {
-        Kind::Start => false,
-        Kind::Element(_) => false,
-        Kind::End => true,
-        Kind::Unknown => false,
-    }
-}
-
-// The elements and the end of an object whose type record stands at start. Elements without fault are counted first; what comes after them is read record
-// by record.
+// The elements and the end of an object whose type record stands at start. The elements without fault are counted; the record after them is the object's end,
+// or is refused.
 fn elements(s: &[u8], k: Shape, start: usize) -> CheckedObject
     requires { ⌜ start + 2 ≤ length (now s) ⌝ }
     ensures { λ r. ⌜ r ≡ elementsFrom (now (s .entry)) most (record { shape = k; start = start; count = 0 }) ⌝ }
 {
-    let size = records::size(k);
-    let mut count = faultless::count(s, k, start + 2);
-    let mut at = start + 2 + count * size;
-    loop {
-        match element_record(s, at, k, count == 1024) {
-            Record::Bad(r) => {
-                return CheckedObject::Refused(r);
-            }
-            Record::Good(j) => {
-                if is_end(j) {
-                    return CheckedObject::Taken(Layout {
-                        shape: k,
-                        start,
-                        count,
-                    });
-                }
-            }
-        }
-        at += size;
-        count += 1;
+    let count = faultless::count(s, k, start + 2);
+    let l = Layout {
+        shape: k,
+        start,
+        count,
+    };
+    match element_record(s, records::place(l, count), k, count == 1024) {
+        Record::Bad(r) => CheckedObject::Refused(r),
+        Record::Good(_) => CheckedObject::Taken(l),
     }
 }
 
