@@ -9,7 +9,7 @@ use Rattle.plane.specs.declared.Segment.{Segment}
 use Rattle.plane.specs.Plane.{midpoint, sameSegment, inside}
 use Rattle.plane.proofs.Equal.{sameSegment-read, sameSegment-refl}
 use Rattle.flags.specs.Flags.{Edge, outline, hasSegment}
-use Rattle.flags.specs.Walk.{sameIa, sameEdge, hasEdge}
+use Rattle.flags.specs.Elements.{sameIa, sameEdge, hasEdge}
 use Rattle.classes.proofs.Behind.{edge-segment}
 use Rattle.adjoining.specs.Bytes.{adjoins}
 

@@ -8,7 +8,7 @@ use Rattle.whole.specs.Count.{bit}
 use Rattle.plane.specs.declared.Segment.{Segment}
 use Rattle.plane.specs.Plane.{midpoint, sameSegment, inside}
 use Rattle.flags.specs.Flags.{Edge, outline, hasSegment}
-use Rattle.flags.specs.Walk.{hasEdge}
+use Rattle.flags.specs.Elements.{hasEdge}
 use Rattle.classes.specs.Walked.{leftBefore}
 
 -- ---- the different segments of two regions, in the order of left halfsegments

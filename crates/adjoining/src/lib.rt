@@ -8,7 +8,7 @@ ghost use Rattle.whole.specs.Count.{bit};
 ghost use Rattle.plane.specs.Plane.{segmentInRange};
 ghost use Rattle.scene.specs.Read.{IsObject};
 ghost use Rattle.scene.specs.Conditions.{isRegion, ia, segments};
-ghost use Rattle.flags.specs.Walk.{edges, Clear};
+ghost use Rattle.flags.specs.Elements.{edges, Clear};
 ghost use Rattle.adjoining.specs.Bytes.{adjoinsBelow, adjoinsAbove, byteOf};
 
 // Whether the interior of a region adjoins a segment below (right, if vertical) and above (left).

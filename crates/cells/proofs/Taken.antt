@@ -25,10 +25,10 @@ use Rattle.checks.proofs.Laws.{SoundObject, SoundScene, sound-scene, split, reg
 use Rattle.segments.proofs.Indices.{keep-in, element-in, in-element}
 use Rattle.flags.specs.Flags as F
 use Rattle.flags.specs.Flags.{Edge, Elements, outline, segmentsOf, flagsOfF, flagsOfG, pack}
-use Rattle.flags.specs.Walk.{edges, edgeOf, pointOf, pointsOf, elementsAs, elementsOf}
+use Rattle.flags.specs.Elements.{edges, edgeOf, pointOf, pointsOf, elementsAs, elementsOf}
 use Rattle.features.specs.declared.Vectors.{Vectors}
 use Rattle.features.specs.Vectors.{sceneVectors}
-use Rattle.flags.proofs.ByElement.{outline-edges}
+use Rattle.flags.proofs.Elements.{outline-edges}
 use Rattle.masks.proofs.Masks.{vector-all-F, vector-all-G}
 use Rattle.cells.specs.declared.Explored.{Explored}
 use Rattle.matrix.specs.Matrix.{Part, interior, boundary, exterior, Meet, matrixOf, cellAt}

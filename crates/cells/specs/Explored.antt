@@ -12,7 +12,7 @@ use Rattle.scene.specs.declared.Refusal.{Refusal}
 use Rattle.scene.specs.declared.CheckedScene.{CheckedScene}
 use Rattle.scene.specs.Read.{shapeNumber}
 use Rattle.scene.specs.Conditions.{object, checkScene}
-use Rattle.flags.specs.Walk.{elementsOf}
+use Rattle.flags.specs.Elements.{elementsOf}
 use Rattle.masks.specs.Wanted.{vectorOfF, vectorOfG}
 use Rattle.cells.specs.declared.Row.{Row}
 use Rattle.cells.specs.declared.Explored.{Explored}

@@ -4,11 +4,11 @@ use Prim.Native.Nat.{ℕ, _+_, _<_, _≤_}
 use native.Mathlib.Nat.{eq-or-lt-of-le}
 use native.Mathlib.Decide.{decLt}
 use native.Mathlib.Omega.{arith}
-use mathlib.Core.Path.{_≡_, sym, ap, subst, subst₂, _∙_}
+use mathlib.Core.Path.{_≡_, refl, sym, ap, subst, subst₂, _∙_}
 use mathlib.Core.Logic.{⊎-elim}
-use mathlib.Core.Bool.{Bool, true, false, not, true≢false}
+use mathlib.Core.Bool.{Bool, true, false, not, _&&_, _||_, true≢false}
 use mathlib.Core.List.{List, [], _∷_}
-use lib.Dec.{T}
+use lib.Dec.{T, eqb}
 use Rattle.whole.proofs.Logic.{and-left, and-right, and-make, or-cases, or-left, or-right, is-true, true-is, refute, same-test, some-find, some-make, in-map, map-in}
 use Rattle.plane.specs.declared.Segment.{Segment}
 use Rattle.plane.specs.Plane.{sameSegment, ordered, comesBefore}
@@ -18,10 +18,10 @@ use Rattle.scene.specs.declared.Layout.{Layout}
 use Rattle.scene.specs.Conditions.{elements, keep, hasSegments, half, ia, isLeft, segments}
 use Rattle.segments.proofs.Indices.{element-in, in-element, keep-in, in-keep, halves-rise}
 use Rattle.checks.proofs.Laws.{SoundObject, left-in, in-left, all-ordered}
-use Rattle.flags.specs.Flags.{Edge, outline, hasSegment}
-use Rattle.flags.specs.Walk.{edgeOf, edges, sameIa, sameEdge, hasEdge}
-use Rattle.flags.proofs.ByElement.{outline-edges}
-use Rattle.classes.specs.Classed.{classTests, classOf}
+use Rattle.flags.specs.Flags.{Edge, outline, hasSegment, pack}
+use Rattle.flags.specs.Elements.{edgeOf, edges, sameIa, sameEdge, hasEdge}
+use Rattle.flags.proofs.Elements.{outline-edges}
+use Rattle.classes.specs.Marked.{unsharedMarks, sharedMarks, testsAt}
 use Rattle.classes.specs.Walked.{NoneLeft}
 use Rattle.classes.proofs.Merging.{left-has}
 
@@ -127,8 +127,14 @@ module _ (s : List ℕ) (own other : Layout) (p : SoundObject s other) {i : ℕ}
         refute (hasEdge (edges s other) t above)
         (λ r. true≢false (sym (true-is (hasSegment (outline (edges s other)) t) (edge-segment (edges s other) t above r)) ∙ ap (λ (l : List Segment). hasSegment l t) (outline-edges s other) ∙ alone))
 
-    pub class-unshared : (note : ℕ) → classTests (ia s own i) false false false note ≡ classOf s own other note i
-    class-unshared note = sym (rw (e, alone, no-edge true, no-edge false))
+    pub marks-unshared : (note : ℕ → ℕ) → unsharedMarks (ia s own i) (note i) ≡ pack (testsAt s own other note i)
+    marks-unshared note = sym (rw (e, alone, no-edge true, no-edge false) (go (ia s own i)))
+      where
+        go : (above : Bool)
+            → pack ((above && eqb (note i) 0) ∷ (not above && eqb (note i) 0) ∷ (above && not (eqb (note i) 0)) ∷ (not above && not (eqb (note i) 0)) ∷ (above && false) ∷ (not above && false) ∷ (above && false || not above && false) ∷ [])
+            ≡ unsharedMarks above (note i)
+        go true = refl
+        go false = refl
 
   -- or the next of them is
   module _ {j : ℕ} (k : j < other .count) (f : isLeft s other j ≡ true) (d : t ≡ half s other j .segment) where
@@ -154,5 +160,11 @@ module _ (s : List ℕ) (own other : Layout) (p : SoundObject s other) {i : ℕ}
             some-make (sameEdge t above) (in-map (edgeOf s other) (in-keep (isLeft s other) (element-in other j k) f))
             (and-make (sameSegment t (half s other j .segment)) (sameIa above (ia s other j)) (subst (λ (u : Segment). T (sameSegment t u)) d (sameSegment-refl t)) r)
 
-    pub class-shared : (note : ℕ) → classTests (ia s own i) true (ia s other j) (not (ia s other j)) note ≡ classOf s own other note i
-    class-shared note = sym (rw (e, shared, edge-is true, edge-is false))
+    pub marks-shared : (note : ℕ → ℕ) → sharedMarks (ia s own i) (ia s other j) ≡ pack (testsAt s own other note i)
+    marks-shared note = sym (rw (e, shared, edge-is true, edge-is false) (go (ia s own i)))
+      where
+        go : (above : Bool)
+            → pack ((above && false) ∷ (not above && false) ∷ (above && false) ∷ (not above && false) ∷ (above && ia s other j) ∷ (not above && not (ia s other j)) ∷ (above && not (ia s other j) || not above && ia s other j) ∷ [])
+            ≡ sharedMarks above (ia s other j)
+        go true = refl
+        go false = refl

@@ -1,27 +1,53 @@
 // The classes of the segments of two objects, each beside the other object: shared or not, by the sides of the interiors and the notes of the sweep.
 // Both are found in one walk over the left halfsegments of both objects in their order.
-use flags::Found;
 use merged::Step;
 use scene::Layout;
 use scene::Scene;
 use scene::bytes;
 use scene::records;
 ghost use mathlib.Core.Path.{_≡_};
-ghost use mathlib.Core.Bool.{true, false, not};
-ghost use Prim.Native.Nat.{ℕ, _<_, _≤_};
+ghost use Prim.Native.Nat.{_<_, _≤_};
 ghost use lib.ListN.{length};
 ghost use Rattle.scene.specs.declared.CheckedScene.{CheckedScene as Checked};
 ghost use Rattle.scene.specs.Read.{IsObject};
 ghost use Rattle.scene.specs.Conditions.{ia, checkScene};
-ghost use Rattle.classes.specs.Classed.{classTests, classesOfF, classesOfG};
+ghost use Rattle.classes.specs.Classed.{classesOfF, classesOfG};
+ghost use Rattle.classes.specs.Marked.{unsharedMarks, sharedMarks, named};
 
 pub mod merged;
 
-// The classes that an object's segments have.
+// Which classes the segments of an object have beside the other object. Each has its own interior above it, or not, and not where the object is a line.
 pub struct Classes {
-    pub f: Found,
-    pub g: Found,
+    // None of the other's, outside it or inside, by a note of 0 or another: (0/1), (1/0), (1/2), (2/1).
+    pub above_outside: bool,
+    pub below_outside: bool,
+    pub above_inside: bool,
+    pub below_inside: bool,
+    // One of the other's, too, with both interiors above it, with both below it, or with one on each side: (0/2), (2/0), (1/1).
+    pub both_above: bool,
+    pub both_below: bool,
+    pub opposite: bool,
 }
+
+pub struct ClassesOfBoth {
+    pub f: Classes,
+    pub g: Classes,
+}
+
+// The walk collects them as marks, a bit of a number for each.
+const ABOVE_OUTSIDE: u16 = 1;
+
+const BELOW_OUTSIDE: u16 = 2;
+
+const ABOVE_INSIDE: u16 = 4;
+
+const BELOW_INSIDE: u16 = 8;
+
+const BOTH_ABOVE: u16 = 16;
+
+const BOTH_BELOW: u16 = 32;
+
+const OPPOSITE: u16 = 64;
 
 // Is the interior of a region above the segment of an element?
 pub fn is_above(s: &[u8], l: Layout, i: usize) -> bool
@@ -36,72 +62,82 @@ pub fn is_above(s: &[u8], l: Layout, i: usize) -> bool
     }
 }
 
-// A segment that is none of the other object's.
-fn unshared(above: bool, note: u8) -> Found
-    ensures { λ r. ⌜ r ≡ classTests above false false false note ⌝ }
+// The mark of a segment that is none of the other object's.
+fn unshared(above: bool, note: u8) -> u16
+    ensures { λ r. ⌜ r ≡ unsharedMarks above note ⌝ }
 {
-    let zero = note == 0;
-    Found {
-        b0: above & zero,
-        b1: !above & zero,
-        b2: above & !zero,
-        b3: !above & !zero,
-        b4: false,
-        b5: false,
-        b6: false,
-        b7: false,
+    if note == 0 {
+        if above { ABOVE_OUTSIDE } else { BELOW_OUTSIDE }
+    } else if above {
+        ABOVE_INSIDE
+    } else {
+        BELOW_INSIDE
     }
 }
 
-// A segment of both, with the interior of the other object above it or not.
-fn shared(above: bool, other: bool) -> Found
-    ensures { λ r. ⌜ ((note : ℕ) → r ≡ classTests above true other (not other) note) ⌝ }
+// The mark of a segment of both, with the interior of the other object above it or not.
+fn shared(above: bool, other: bool) -> u16
+    ensures { λ r. ⌜ r ≡ sharedMarks above other ⌝ }
 {
-    Found {
-        b0: false,
-        b1: false,
-        b2: false,
-        b3: false,
-        b4: above & other,
-        b5: !above & !other,
-        b6: above != other,
-        b7: false,
+    if above {
+        if other { BOTH_ABOVE } else { OPPOSITE }
+    } else if other {
+        OPPOSITE
+    } else {
+        BOTH_BELOW
+    }
+}
+
+fn named(marks: u16) -> Classes
+    ensures { λ r. ⌜ r ≡ named marks ⌝ }
+{
+    Classes {
+        above_outside: marks & ABOVE_OUTSIDE != 0,
+        below_outside: marks & BELOW_OUTSIDE != 0,
+        above_inside: marks & ABOVE_INSIDE != 0,
+        below_inside: marks & BELOW_INSIDE != 0,
+        both_above: marks & BOTH_ABOVE != 0,
+        both_below: marks & BOTH_BELOW != 0,
+        opposite: marks & OPPOSITE != 0,
     }
 }
 
 // The classes of both objects of a scene that is taken.
-pub fn classes_of(s: &[u8], scene: Scene, notes: &[u8]) -> Classes
+pub fn classes_of(s: &[u8], scene: Scene, notes: &[u8]) -> ClassesOfBoth
     requires { ⌜ (checkScene (now s) ≡ Checked.Taken scene) × (2048 ≤ length (now notes)) ⌝ }
     ensures { λ r. ⌜ (r .f ≡ classesOfF (now (s .entry)) scene (now (notes .entry))) × (r .g ≡ classesOfG (now (s .entry)) scene (now (notes .entry))) ⌝ }
 {
     let f = scene.f;
     let g = scene.g;
-    let mut of_f = collected::nothing();
-    let mut of_g = collected::nothing();
+    let mut of_f: u16 = 0;
+    let mut of_g: u16 = 0;
     let mut i: usize = 0;
     let mut j: usize = 0;
     loop {
         match merged::next_step(s, f, g, i, j) {
             Step::OfF { i: a, j: b } => {
-                of_f = collected::either(of_f, unshared(is_above(s, f, a), notes[a]));
+                of_f = of_f | unshared(is_above(s, f, a), notes[a]);
                 i = a + 1;
                 j = b;
             }
             Step::OfG { i: a, j: b } => {
-                of_g = collected::either(of_g, unshared(is_above(s, g, b), notes[1024 + b]));
+                of_g = of_g | unshared(is_above(s, g, b), notes[1024 + b]);
                 i = a;
                 j = b + 1;
             }
             Step::OfBoth { i: a, j: b } => {
                 let above_f = is_above(s, f, a);
                 let above_g = is_above(s, g, b);
-                of_f = collected::either(of_f, shared(above_f, above_g));
-                of_g = collected::either(of_g, shared(above_g, above_f));
+                of_f = of_f | shared(above_f, above_g);
+                of_g = of_g | shared(above_g, above_f);
                 i = a + 1;
                 j = b + 1;
             }
             Step::End => {
-                return Classes { f: of_f, g: of_g };
+                return ClassesOfBoth {
+                    f: named(of_f),
+                    g: named(of_g),
+                };
             }
         }
     }

@@ -17,14 +17,12 @@ use Rattle.checks.specs.declared.Verdict.the-variants.{Sound, Refused}
 use Rattle.checks.specs.Refusals.{geometryVerdict}
 use Rattle.checks.proofs.Laws.{SoundScene, sound-scene}
 use Rattle.checks.proofs.Verdicts.{check-refused, check-read}
-use Rattle.flags.specs.declared.Found.{Found}
 use Rattle.features.specs.declared.Vectors.{Vectors}
 use Rattle.features.specs.declared.Answer.{Answer}
-use Rattle.flags.specs.Flags.{flagsOfF, flagsOfG, pack, hasBit}
+use Rattle.flags.specs.Flags.{flagsOfF, flagsOfG, pack}
 use Rattle.masks.specs.Wanted.{hasStray, anyStray, only, typeOf, maskOfF, maskOfG, wanted, vectorOfF, vectorOfG}
-use Rattle.flags.specs.Walk.{bits, bitwise, masked, elementsAs, elementsOf, allFlags}
+use Rattle.flags.specs.Elements.{elementsAs, elementsOf}
 use Rattle.features.specs.Vectors.{sceneVectors, strayWanted, vectorsRules, answered, answerOf}
-use Rattle.features.proofs.Packed.{walked}
 
 -- ---- a scene that is taken
 
@@ -42,22 +40,19 @@ type-of s l = go (l .shape)
     go Line = refl
     go Region = refl
 
-module _ (s : List ℕ) (sc : Scene) (wantF wantG : ℕ) {all mask r : ℕ} {want flags : Found} (w : want ≡ bitwise (λ k. hasBit mask k)) (p : r ≡ pack (bits flags)) where
+-- the flags that the masks want, once all flags and the masks are found
+module _ (s : List ℕ) (sc : Scene) (wantF wantG : ℕ) {all mask flags : ℕ} where
   pub vector-f :
       all ≡ maskOfF (shapeNumber (sc .f .shape)) (shapeNumber (sc .g .shape)) → mask ≡ wanted all wantF wantG
-      → flags ≡ masked want (allFlags true s (sc .f) (sc .g)) → r ≡ sceneVectors s sc wantF wantG .f
+      → flags ≡ pack (flagsOfF (elementsOf s (sc .f)) (elementsOf s (sc .g))) → only mask flags ≡ sceneVectors s sc wantF wantG .f
   unfolding vectorOfF
-  vector-f a m q =
-      p ∙ ap (λ f. pack (bits f)) (q ∙ ap (λ w. masked w (allFlags true s (sc .f) (sc .g))) w) ∙ walked true s (sc .f) (sc .g) mask
-      ∙ ap (λ m. only m (pack (flagsOfF (elementsOf s (sc .f)) (elementsOf s (sc .g))))) (m ∙ ap (λ a. wanted a wantF wantG) (a ∙ sym (ap₂ maskOfF (type-of s (sc .f)) (type-of s (sc .g)))))
+  vector-f a m q = ap₂ only (m ∙ ap (λ a. wanted a wantF wantG) (a ∙ sym (ap₂ maskOfF (type-of s (sc .f)) (type-of s (sc .g))))) q
 
   pub vector-g :
       all ≡ maskOfG (shapeNumber (sc .f .shape)) (shapeNumber (sc .g .shape)) → mask ≡ wanted all wantG wantF
-      → flags ≡ masked want (allFlags false s (sc .g) (sc .f)) → r ≡ sceneVectors s sc wantF wantG .g
+      → flags ≡ pack (flagsOfG (elementsOf s (sc .f)) (elementsOf s (sc .g))) → only mask flags ≡ sceneVectors s sc wantF wantG .g
   unfolding vectorOfG
-  vector-g a m q =
-      p ∙ ap (λ f. pack (bits f)) (q ∙ ap (λ w. masked w (allFlags false s (sc .g) (sc .f))) w) ∙ walked false s (sc .g) (sc .f) mask
-      ∙ ap (λ m. only m (pack (flagsOfG (elementsOf s (sc .f)) (elementsOf s (sc .g))))) (m ∙ ap (λ a. wanted a wantG wantF) (a ∙ sym (ap₂ maskOfG (type-of s (sc .f)) (type-of s (sc .g)))))
+  vector-g a m q = ap₂ only (m ∙ ap (λ a. wanted a wantG wantF) (a ∙ sym (ap₂ maskOfG (type-of s (sc .f)) (type-of s (sc .g))))) q
 
 -- ---- the answer
 

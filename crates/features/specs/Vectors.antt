@@ -10,7 +10,7 @@ use Rattle.scene.specs.Conditions.{Rule, rule, sceneRules, checkSceneBy}
 use Rattle.features.specs.declared.Vectors.{Vectors}
 use Rattle.features.specs.declared.Explored.{Explored}
 use Rattle.features.specs.declared.Answer.{Answer}
-use Rattle.flags.specs.Walk.{elementsOf}
+use Rattle.flags.specs.Elements.{elementsOf}
 use Rattle.masks.specs.Wanted.{anyStray, vectorOfF, vectorOfG}
 
 -- both vectors of a scene that is taken

@@ -27,13 +27,11 @@ fn swept_vectors(s: &[u8], scene: Scene, want_f: u16, want_g: u16, notes: &[u8])
     let all = masks::masks_of(of_f, of_g);
     let mask_f = masks::wanted(all.f, want_f, want_g);
     let mask_g = masks::wanted(all.g, want_g, want_f);
-    let met = meetings::meetings(s, scene, notes);
+    let met = meetings::meetings_of(s, scene, notes);
     let beside = classes::classes_of(s, scene, notes);
-    let flags_f = gathered::flags_of_f(of_f, of_g, met, beside.f);
-    let flags_g = gathered::flags_of_g(of_f, of_g, met, beside.g);
     Vectors {
-        f: collected::packed(collected::masked(collected::unpacked(mask_f), flags_f)),
-        g: collected::packed(collected::masked(collected::unpacked(mask_g), flags_g)),
+        f: gathered::flags_of_f(of_f, of_g, met, beside.f) & mask_f,
+        g: gathered::flags_of_g(of_f, of_g, met, beside.g) & mask_g,
     }
 }
 

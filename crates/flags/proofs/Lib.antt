@@ -1,8 +1,8 @@
--- What belongs to no one function: the bits of a vector, the flags' sentences, the flags element by element, the searches over an object's elements, and
--- what two objects that are taken give them.
+-- What belongs to no one function: the bits of a number, the boundary rule, the flags' sentences, tests over an object's elements, and where the midpoint
+-- of a segment lies by the other object.
 pub mod Bits
+pub mod Boundary
 pub mod Sentences
-pub mod ByElement
+pub mod Elements
 pub mod Inside
 pub mod Clear
-pub mod Gathered

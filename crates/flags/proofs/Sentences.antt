@@ -18,6 +18,7 @@ use Rattle.plane.proofs.Touch.{isAt-read, isAt-make}
 use Rattle.flags.specs.Flags.{Edge, Elements, points, line, region, outline, isBound, joins, someEnd, midInside, midOutside, boundOnInterior, boundDisjoint, class01, class10, class12, class21, flagsOfF, flagsOfG, pack, hasBit}
 use Rattle.flags.specs.Sentences.{Some, Every, EndOf, EndOfSome, Bound, SomeEnd, SomeBound, MeetAt, Shared, Unshared, BoundOnInterior, BoundDisjoint, InInterior, InExterior, Above, Class01, Class10, Class12, Class21, sentencesOfF, sentencesOfG, sentence, Means}
 use Rattle.flags.proofs.Bits.{pack-bit}
+use Rattle.flags.proofs.Boundary.{boundary-none}
 
 -- ---- operation by operation
 
@@ -82,10 +83,6 @@ end-of-some l v = some-is l λ s. end-of s v
 
 -- ---- boundary points, by any rule that takes no point at which nothing ends
 
-rule-zero : isBoundary 0 ≡ false
-unfolding isBoundary
-rule-zero = refl
-
 none-count : {A : Type 0} (f : A → Bool) (l : List A) → T (not (some f l)) → count f l ≡ 0
 none-count f [] t = refl
 none-count f (a ∷ l) t = go (f a) (some f l) (none-count f l) t
@@ -103,7 +100,7 @@ bound l v = record { read = λ t. (end t (decide (some ends l)), t); make = λ w
 
     end : T (isBound l v) → T (some ends l) ⊎ T (not (some ends l)) → EndOfSome l v
     end t (inl h) = end-of-some l v .read h
-    end t (inr h) = absurd (subst T (ap isBoundary (none-count ends l h) ∙ rule-zero) t)
+    end t (inr h) = absurd (subst T (ap isBoundary (none-count ends l h) ∙ boundary-none) t)
 
 -- ---- some end of a list of segments
 

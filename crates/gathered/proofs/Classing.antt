@@ -1,7 +1,7 @@
--- The classes of an object's segments, bit by bit: some left halfsegment whose segment is one of the other object's, or is none, with such a note.
+-- Several classes of an object's segments together, as one test of the segment of some left halfsegment.
 use Prim.Native.Nat.{ℕ, _<_}
 use mathlib.Core.Path.{_≡_, refl, sym, ap, ap₂, _∙_}
-use mathlib.Core.Bool.{Bool, true, false, not, _&&_, _||_, and-false, or-assoc, or-false}
+use mathlib.Core.Bool.{Bool, true, false, not, _&&_, _||_, or-assoc, or-false}
 use mathlib.Core.List.{List}
 use lib.Dec.{eqb}
 use Rattle.whole.specs.Count.{some}
@@ -11,13 +11,12 @@ use Rattle.scene.specs.declared.Layout.{Layout}
 use Rattle.scene.specs.Conditions.{elements, half, ia, isLeft, segments}
 use Rattle.segments.proofs.Indices.{in-element}
 use Rattle.segments.proofs.Walk.{all-between, leftPasses, some-segments}
-use Rattle.flags.specs.declared.Found.{Found}
 use Rattle.flags.specs.Flags.{Edge, hasSegment}
-use Rattle.flags.specs.Walk.{edges, sameEdge, hasEdge, gather}
-use Rattle.flags.proofs.ByElement.{some-same, some-never, some-map, outline-edges}
-use Rattle.classes.specs.Classed.{classOf}
+use Rattle.flags.specs.Elements.{edges, sameEdge, hasEdge}
+use Rattle.flags.proofs.Elements.{some-same, some-on, some-map, outline-edges}
+use Rattle.classes.specs.Classed.{isShared, otherAbove, otherBelow, aboveOutside, belowOutside, aboveInside, belowInside, bothAbove, bothBelow, opposite, someLeft, classes}
 use Rattle.gathered.specs.Table.{unshared, shared}
-use Rattle.gathered.proofs.Counting.{some-on, some-or}
+use Rattle.gathered.proofs.Counting.{some-or}
 
 -- a segment is one of the object's with the interior above it, or with the interior below it
 has-either : (s : List ℕ) (l : Layout) (t : Segment) → hasEdge (edges s l) t true || hasEdge (edges s l) t false ≡ hasSegment (segments s l) t
@@ -37,57 +36,45 @@ pub some-lefts : (s : List ℕ) (l : Layout) (f : Segment → Bool) → some f (
 some-lefts s l f = some-segments s l f ∙ ap (some (leftPasses s l f)) (sym (all-between (l .count)))
 
 module _ (s : List ℕ) (own : Layout) where
-  -- some left halfsegment passes
-  abbrev pub lefts : (ℕ → Bool) → Bool
-  lefts p = some (λ i. isLeft s own i && p i) (elements own)
-
-  pub lefts-on : (p q : ℕ → Bool) → ((i : ℕ) → i < own .count → p i ≡ q i) → lefts p ≡ lefts q
+  pub lefts-on : (p q : ℕ → Bool) → ((i : ℕ) → i < own .count → p i ≡ q i) → someLeft s own p ≡ someLeft s own q
   lefts-on p q e = some-on _ (λ i. isLeft s own i && q i) (elements own) (λ i m. ap (λ b. isLeft s own i && b) (e i (in-element own i m)))
 
-  pub lefts-never : lefts (λ i. false) ≡ false
-  lefts-never = some-same _ (λ i. false) (λ i. and-false (isLeft s own i)) (elements own) ∙ some-never (elements own)
-
-  lefts-or : (p q r : ℕ → Bool) {x y : Bool} → x ≡ lefts p → y ≡ lefts q → ((i : ℕ) → p i || q i ≡ r i) → x || y ≡ lefts r
-  lefts-or p q r e f g =
-      ap₂ _||_ e f ∙ some-or (λ i. isLeft s own i && p i) (λ i. isLeft s own i && q i) (elements own)
-      ∙ some-same _ (λ i. isLeft s own i && r i) (λ i. go (isLeft s own i) (p i) (q i) ∙ ap (λ b. isLeft s own i && b) (g i)) (elements own)
+  -- two classes, as one test
+  either : (p q r : ℕ → Bool) → ((i : ℕ) → p i || q i ≡ r i) → someLeft s own p || someLeft s own q ≡ someLeft s own r
+  either p q r e =
+      some-or (λ i. isLeft s own i && p i) (λ i. isLeft s own i && q i) (elements own)
+      ∙ some-same _ (λ i. isLeft s own i && r i) (λ i. go (isLeft s own i) (p i) (q i) ∙ ap (λ b. isLeft s own i && b) (e i)) (elements own)
     where
       go : (x a b : Bool) → x && a || x && b ≡ x && (a || b)
       go true a b = refl
       go false a b = refl
 
--- ---- the classes
-
-module _ (s : List ℕ) (own other : Layout) where
-  -- the segment is one of the other's; with the interior above it there, and with the interior below it
-  abbrev pub isShared : ℕ → Bool
-  isShared i = hasSegment (segments s other) (half s own i .segment)
-
-  abbrev withAbove : ℕ → Bool
-  withAbove i = hasEdge (edges s other) (half s own i .segment) true
-
-  abbrev withBelow : ℕ → Bool
-  withBelow i = hasEdge (edges s other) (half s own i .segment) false
-
-  -- either side of it its own interior may be
-  pub with-note : (z : ℕ → Bool) → lefts s own (λ i. ia s own i && (not (isShared i) && z i)) || lefts s own (λ i. not (ia s own i) && (not (isShared i) && z i)) ≡ lefts s own (λ i. not (isShared i) && z i)
-  with-note z =
-      lefts-or s own (λ i. ia s own i && (not (isShared i) && z i)) (λ i. not (ia s own i) && (not (isShared i) && z i)) (λ i. not (isShared i) && z i) refl refl
-      (λ i. go (ia s own i) (not (isShared i) && z i))
+  -- the interior is above it, or not
+  either-side : (t : ℕ → Bool) → someLeft s own (λ i. ia s own i && t i) || someLeft s own (λ i. not (ia s own i) && t i) ≡ someLeft s own t
+  either-side t = either (λ i. ia s own i && t i) (λ i. not (ia s own i) && t i) t (λ i. go (ia s own i) (t i))
     where
       go : (x b : Bool) → x && b || not x && b ≡ b
       go true true = refl
       go true false = refl
       go false b = refl
 
-  abbrev pub classes : (ℕ → ℕ) → Found
-  classes note = gather (λ i. classOf s own other (note i) i) (elements own)
+module _ (s : List ℕ) (own other : Layout) (note : ℕ → ℕ) where
+  abbrev lefts : (ℕ → Bool) → Bool
+  lefts = someLeft s own
 
-  pub unshared-some : (note : ℕ → ℕ) → unshared (classes note) ≡ some (λ t. not (hasSegment (segments s other) t)) (segments s own)
-  unshared-some note =
-      or-assoc (classes note .b0 || classes note .b1) (classes note .b2) (classes note .b3)
-      ∙ lefts-or s own (λ i. not (isShared i) && eqb (note i) 0) (λ i. not (isShared i) && not (eqb (note i) 0)) (λ i. not (isShared i))
-      (with-note (λ i. eqb (note i) 0)) (with-note (λ i. not (eqb (note i) 0))) (λ i. go (isShared i) (eqb (note i) 0))
+  -- ---- none of the other's
+
+  pub lefts-outside : lefts (aboveOutside s own other note) || lefts (belowOutside s own other note) ≡ lefts (λ i. not (isShared s own other i) && eqb (note i) 0)
+  lefts-outside = either-side s own (λ i. not (isShared s own other i) && eqb (note i) 0)
+
+  pub lefts-inside : lefts (aboveInside s own other note) || lefts (belowInside s own other note) ≡ lefts (λ i. not (isShared s own other i) && not (eqb (note i) 0))
+  lefts-inside = either-side s own (λ i. not (isShared s own other i) && not (eqb (note i) 0))
+
+  pub unshared-some : unshared (classes s own other note) ≡ some (λ t. not (hasSegment (segments s other) t)) (segments s own)
+  unshared-some =
+      or-assoc (lefts (aboveOutside s own other note) || lefts (belowOutside s own other note)) (lefts (aboveInside s own other note)) (lefts (belowInside s own other note))
+      ∙ ap₂ _||_ lefts-outside lefts-inside
+      ∙ either s own (λ i. not (isShared s own other i) && eqb (note i) 0) (λ i. not (isShared s own other i) && not (eqb (note i) 0)) (λ i. not (isShared s own other i)) (λ i. go (isShared s own other i) (eqb (note i) 0))
       ∙ sym (some-lefts s own (λ t. not (hasSegment (segments s other) t)))
     where
       go : (h z : Bool) → not h && z || not h && not z ≡ not h
@@ -95,13 +82,17 @@ module _ (s : List ℕ) (own other : Layout) where
       go false true = refl
       go false false = refl
 
-  pub shared-some : (note : ℕ → ℕ) → shared (classes note) ≡ some (hasSegment (segments s other)) (segments s own)
-  shared-some note =
-      lefts-or s own (λ i. ia s own i && withAbove i || not (ia s own i) && withBelow i) (λ i. ia s own i && withBelow i || not (ia s own i) && withAbove i) isShared
-      (lefts-or s own (λ i. ia s own i && withAbove i) (λ i. not (ia s own i) && withBelow i) (λ i. ia s own i && withAbove i || not (ia s own i) && withBelow i) refl refl (λ i. refl)) refl
-      (λ i. go (ia s own i) (withAbove i) (withBelow i) ∙ has-either s other (half s own i .segment))
+  -- ---- one of the other's
+
+  pub shared-some : shared (classes s own other note) ≡ some (hasSegment (segments s other)) (segments s own)
+  shared-some =
+      ap (λ b. b || lefts (opposite s own other)) (either s own (bothAbove s own other) (bothBelow s own other) one-side (λ i. refl))
+      ∙ either s own one-side (opposite s own other) (isShared s own other) (λ i. go (ia s own i) (otherAbove s own other i) (otherBelow s own other i) ∙ has-either s other (half s own i .segment))
       ∙ sym (some-lefts s own (hasSegment (segments s other)))
     where
+      one-side : ℕ → Bool
+      one-side i = bothAbove s own other i || bothBelow s own other i
+
       go : (x a b : Bool) → (x && a || not x && b) || (x && b || not x && a) ≡ a || b
       go true true b = refl
       go true false b = or-false b

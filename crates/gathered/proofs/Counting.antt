@@ -1,8 +1,7 @@
--- Tests and counts over lists: of tests that agree on the list, of two tests together, of a test that one element passes at most, and of elements that
--- are matched one to one.
+-- Tests and counts over lists: of two tests together, of a test that one element passes at most, and of elements that are matched one to one.
 use Prim.Native.Nat.{_+_, _≤_}
 use native.Mathlib.Omega.{arith}
-use mathlib.Core.Path.{_≡_, refl, sym, ap, ap₂, subst, _∙_}
+use mathlib.Core.Path.{_≡_, refl, sym, ap, subst, _∙_}
 use mathlib.Core.Logic.{⊎-elim}
 use mathlib.Core.Bool.{Bool, true, false, _||_}
 use mathlib.Core.List.{List, [], _∷_, _++_}
@@ -15,10 +14,6 @@ use Rattle.whole.proofs.Counted.{count-between, count-none, or-between}
 -- ---- "some"
 
 module _ {A : Type 0} where
-  pub some-on : (f g : A → Bool) (l : List A) → ((a : A) → a ∈ l → f a ≡ g a) → some f l ≡ some g l
-  some-on f g [] e = refl
-  some-on f g (a ∷ l) e = ap₂ _||_ (e a here) (some-on f g l (λ b m. e b (there m)))
-
   pub some-or : (f g : A → Bool) (l : List A) → some f l || some g l ≡ some (λ a. f a || g a) l
   some-or f g [] = refl
   some-or f g (a ∷ l) = swap (f a) (some f l) (g a) (some g l) ∙ ap (λ b. f a || g a || b) (some-or f g l)

@@ -10,7 +10,7 @@ use Rattle.whole.proofs.Logic.{and-never, true-is, same-test, some-make, in-map
 use Rattle.whole.proofs.Counted.{count-same}
 use Rattle.plane.specs.declared.Point.{Point}
 use Rattle.plane.specs.declared.Segment.{Segment}
-use Rattle.plane.specs.Plane.{grid, samePoint, dominating, isEnd, endsAt}
+use Rattle.plane.specs.Plane.{grid, samePoint, dominating, isEnd, isBoundary, endsAt}
 use Rattle.plane.proofs.Equal.{samePoint-read, samePoint-refl}
 use Rattle.plane.proofs.OnSegment.{ordered-read}
 use Rattle.plane.proofs.Order.{ends-differ}
@@ -22,12 +22,13 @@ use Rattle.segments.proofs.Indices.{indices-in, element-in, in-element}
 use Rattle.segments.proofs.Walk.{all-between, leftPasses, count-segments}
 use Rattle.checks.proofs.Laws.{SoundObject, no-half-twice, no-point-twice, partner-of, all-ordered}
 use Rattle.flags.specs.Flags.{hasPoint}
-use Rattle.flags.specs.Walk.{pointOf, pointsOf}
-use Rattle.flags.proofs.ByElement.{some-map}
+use Rattle.flags.specs.Elements.{pointOf, pointsOf}
+use Rattle.flags.proofs.Boundary.{boundary-none, boundary-one}
+use Rattle.flags.proofs.Elements.{some-on, some-map}
 use Rattle.keys.specs.Keyed.{pointAs, elementPoint}
 use Rattle.keys.proofs.Elements.{point-of-half}
 use Rattle.meetings.specs.Met.{degree}
-use Rattle.gathered.proofs.Counting.{some-on, count-sum, Distinct, count-one, count-matched}
+use Rattle.gathered.proofs.Counting.{count-sum, Distinct, count-one, count-matched}
 
 distinct-indices : (n j : ℕ) → Distinct (indices n j)
 distinct-indices zero j = sorted-nil
@@ -137,13 +138,13 @@ module _ {s : List ℕ} {l : Layout} (o : SoundObject s l) (is : l .shape ≡ Po
       one i j m k e =
           one-index i j (λ h. no-point-twice o none i j h (in-element l j k) e) (λ h. no-point-twice o none j i h (in-element l i m) (sym e))
 
-  -- 1 where the point is one of them, else 0
-  pub point-there : (v : Point) → hasPoint (pointsOf s l) v ≡ eqb (degree s l v) 1
-  point-there v = go (hasPoint (pointsOf s l) v) ∙ ap (λ n. eqb n 1) (sym (degree-point v))
+  -- the degree is 1 where the point is one of them, which makes it bound, and else 0
+  pub point-there : (v : Point) → hasPoint (pointsOf s l) v ≡ isBoundary (degree s l v)
+  point-there v = go (hasPoint (pointsOf s l) v) ∙ ap isBoundary (sym (degree-point v))
     where
-      go : (b : Bool) → b ≡ eqb (bit b) 1
-      go true = refl
-      go false = refl
+      go : (b : Bool) → b ≡ isBoundary (bit b)
+      go true = sym boundary-one
+      go false = sym boundary-none
 
   pub point-absent : (v : Point) → not (hasPoint (pointsOf s l) v) ≡ eqb (degree s l v) 0
   point-absent v = go (hasPoint (pointsOf s l) v) ∙ ap (λ n. eqb n 0) (sym (degree-point v))
@@ -153,7 +154,7 @@ module _ {s : List ℕ} {l : Layout} (o : SoundObject s l) (is : l .shape ≡ Po
       go false = refl
 
   -- its own points are
-  pub own-point : (i : ℕ) → i < l .count → eqb (degree s l (elementPoint s l i)) 1 ≡ true
+  pub own-point : (i : ℕ) → i < l .count → isBoundary (degree s l (elementPoint s l i)) ≡ true
   unfolding pointsOf
   own-point i h =
       sym (point-there (elementPoint s l i))

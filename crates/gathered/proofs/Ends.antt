@@ -5,7 +5,7 @@ use mathlib.Core.Path.{_≡_, sym, ap, subst, _∙_}
 use mathlib.Core.Logic.{_⊎_, inl, inr, ⊎-elim}
 use mathlib.Core.Bool.{Bool, true, false, not, _&&_, _||_}
 use mathlib.Core.List.{List}
-use lib.Dec.{T, eqb, ltb}
+use lib.Dec.{T, ltb}
 use Rattle.whole.specs.Count.{_∈_, some, count}
 use Rattle.whole.proofs.Sign.{one-pos}
 use Rattle.whole.proofs.Logic.{and-right, and-make, or-cases, or-left, or-right, true-is, same-test, decide, some-find, some-make}
@@ -35,9 +35,8 @@ use Rattle.gathered.proofs.Degrees.{degree-ends}
 -- ---- one object
 
 module _ {s : List ℕ} {l : Layout} (o : SoundObject s l) (has : hasSegments (l .shape) ≡ true) where
-  pub bound-degree : (v : Point) → isBound (segments s l) v ≡ eqb (degree s l v) 1
-  unfolding isBoundary
-  bound-degree v = ap (λ n. eqb n 1) (sym (degree-ends o has v))
+  pub bound-degree : (v : Point) → isBound (segments s l) v ≡ isBoundary (degree s l v)
+  bound-degree v = ap isBoundary (sym (degree-ends o has v))
 
   pub end-degree : (v : Point) → hasEnd (segments s l) v ≡ ltb 0 (degree s l v)
   unfolding endsAt

@@ -7,7 +7,6 @@ pub mod Sizes
 pub mod Meeting
 pub mod Classing
 pub mod RegionRegion
-pub mod Shapes
 pub mod LineLine
 pub mod LineRegion
 pub mod PointsPoints

@@ -31,7 +31,7 @@ use Rattle.strands.specs.Noted.{segmentNote, pointNote, Noted}
 use Rattle.strands.proofs.Start.{start-inside}
 use Rattle.checks.proofs.Laws.{SoundObject, segment-in, all-ordered, regular}
 use Rattle.flags.specs.Flags.{hasSegment, onObject}
-use Rattle.flags.specs.Walk.{pointOf}
+use Rattle.flags.specs.Elements.{pointOf}
 use Rattle.flags.proofs.Clear.{clear-of}
 use Rattle.matrix.proofs.Common.{end-along, is-in, in-has, moving}
 use Rattle.keys.specs.Keyed.{elementPoint}
@@ -65,9 +65,13 @@ untouched t u o p apart = refute (touch t u) (λ h. shares (touch-sound t u (ord
         T-not (isEnd t (fractions (w .shared)) && isEnd u (fractions (w .shared))) (w .not-both-ends)
         (and-make (isEnd t (fractions (w .shared))) (isEnd u (fractions (w .shared))) (end-make t (fractions (w .shared)) (e .0)) (end-make u (fractions (w .shared)) (e .1)))
 
-bit-set : (b : Bool) → b ≡ not (eqb (bit b) 0)
-bit-set true = refl
-bit-set false = refl
+not-nought : (b : Bool) → b ≡ not (eqb (bit b) 0)
+not-nought true = refl
+not-nought false = refl
+
+is-one : (b : Bool) → b ≡ eqb (bit b) 1
+is-one true = refl
+is-one false = refl
 
 -- no point on the segments is inside
 off-or-on : (l : List Segment) (p : HPoint) (b : Bool) {r : Bool} → onSome l p ≡ b → (b ≡ false → inside l p ≡ r) → inside l p ≡ not b && r
@@ -90,13 +94,13 @@ module _ {s : List ℕ} {own other : Layout} (is : SoundObject s own) (are : Sou
       T-not (hasSegment (segments s other) (half s own i .segment)) (is-false (hasSegment (segments s other) (half s own i .segment)) none)
       (in-has (segments s other) (half s own i .segment) (subst (λ r. r ∈ segments s other) (sym e) m))
 
-  -- the midpoint of a segment that is none of the region's is inside where its note is not 0
-  middle-noted : hasSegment (segments s other) (half s own i .segment) ≡ false → inside (segments s other) (midpoint (half s own i .segment)) ≡ not (eqb (note i) 0)
+  -- the note of a segment that is none of the region's: 1 where its midpoint is inside, else 0
+  middle-noted : hasSegment (segments s other) (half s own i .segment) ≡ false → bit (inside (segments s other) (midpoint (half s own i .segment))) ≡ note i
   middle-noted none =
-      start-inside (half s own i .segment) (ordered-read (half s own i .segment) (all-ordered is (half s own i .segment) own-in)) (segments s other) (regular are region .even) ord clear (differs none)
-      ∙ sym (odd-count (under (half s own i .segment)) (segments s other))
-      ∙ bit-set (odd (count (under (half s own i .segment)) (segments s other)))
-      ∙ ap (λ n. not (eqb n 0)) (sym (knows i h none))
+      ap bit
+      (start-inside (half s own i .segment) (ordered-read (half s own i .segment) (all-ordered is (half s own i .segment) own-in)) (segments s other) (regular are region .even) ord clear (differs none)
+      ∙ sym (odd-count (under (half s own i .segment)) (segments s other)))
+      ∙ sym (knows i h none)
     where
       clear : (u : Segment) → u ∈ segments s other → touch (half s own i .segment) u ≡ false
       clear u m =
@@ -109,7 +113,7 @@ module _ {s : List ℕ} {own other : Layout} (is : SoundObject s own) (are : Sou
       clear-of (segments s other) (all-ordered are) (half s own i .segment) (ordered-read (half s own i .segment) (all-ordered is (half s own i .segment) own-in)) (λ u m. across (half s own i .segment) u own-in m)
 
   pub middle-inside : inside (segments s other) (midpoint (half s own i .segment)) ≡ not (hasSegment (segments s other) (half s own i .segment)) && not (eqb (note i) 0)
-  middle-inside = off-or-on (segments s other) (midpoint (half s own i .segment)) (hasSegment (segments s other) (half s own i .segment)) middle-on middle-noted
+  middle-inside = off-or-on (segments s other) (midpoint (half s own i .segment)) (hasSegment (segments s other) (half s own i .segment)) middle-on (λ none. not-nought (inside (segments s other) (midpoint (half s own i .segment))) ∙ ap (λ n. not (eqb n 0)) (middle-noted none))
 
   pub middle-outside : not (hasSegment (segments s other) (half s own i .segment)) && not (inside (segments s other) (midpoint (half s own i .segment)))
       ≡ not (hasSegment (segments s other) (half s own i .segment)) && eqb (note i) 0
@@ -122,30 +126,33 @@ module _ {s : List ℕ} {own other : Layout} (is : SoundObject s own) (are : Sou
       go false true = refl
       go false false = refl
 
-  -- an element's point is inside where it is off the region and the note is not 0
-  pub end-noted : inside (segments s other) (grid (elementPoint s own i)) ≡ not (ltb 0 (degree s other (elementPoint s own i))) && not (eqb (note i) 0)
-  end-noted = off-or-on (segments s other) (grid (elementPoint s own i)) (ltb 0 (degree s other (elementPoint s own i))) on-end beside
+  -- an element's point lies on the region where it has a degree there; off it, the note is 1 where the point is inside, else 0
+  end-on-region : onObject (segments s other) (elementPoint s own i) ≡ ltb 0 (degree s other (elementPoint s own i))
+  end-on-region = on-degree is are (region-segments (other .shape) region) across (elementPoint s own i) (half s own i .segment) own-in (end-of-half is has i)
+
+  end-noted : ltb 0 (degree s other (elementPoint s own i)) ≡ false → bit (inside (segments s other) (grid (elementPoint s own i))) ≡ note i
+  end-noted e =
+      ap bit
+      (moving (segments s other) (regular are region) (half s own i .segment) (ordered-read (half s own i .segment) (all-ordered is (half s own i .segment) own-in)) (λ u m. across (half s own i .segment) u own-in m) (is-false (hasSegment (segments s other) (half s own i .segment)) none)
+      (grid (elementPoint s own i)) (one-pos 0) (end-along (half s own i .segment) (grid (elementPoint s own i)) (one-pos 0) (end-read (half s own i .segment) (grid (elementPoint s own i)) (end-of-half is has i)))
+      (is-false (onSome (segments s other) (grid (elementPoint s own i))) (end-on-region ∙ e)))
+      ∙ middle-noted none
     where
-      segmented : hasSegments (other .shape) ≡ true
-      segmented = region-segments (other .shape) region
+      none : hasSegment (segments s other) (half s own i .segment) ≡ false
+      none =
+          refute (hasSegment (segments s other) (half s own i .segment))
+          (λ k. true≢false (sym (own-degree are (region-segments (other .shape) region) (elementPoint s own i) (half s own i .segment) (is-in (segments s other) (half s own i .segment) k) (end-of-half is has i)) ∙ e))
 
-      ends : T (isEnd (half s own i .segment) (grid (elementPoint s own i)))
-      ends = end-of-half is has i
+  -- so it is inside where it is off the region and the note is 1, which is where it is not 0
+  pub end-one : inside (segments s other) (grid (elementPoint s own i)) ≡ not (ltb 0 (degree s other (elementPoint s own i))) && eqb (note i) 1
+  end-one =
+      off-or-on (segments s other) (grid (elementPoint s own i)) (ltb 0 (degree s other (elementPoint s own i))) end-on-region
+      (λ e. is-one (inside (segments s other) (grid (elementPoint s own i))) ∙ ap (λ n. eqb n 1) (end-noted e))
 
-      on-end : onObject (segments s other) (elementPoint s own i) ≡ ltb 0 (degree s other (elementPoint s own i))
-      on-end = on-degree is are segmented across (elementPoint s own i) (half s own i .segment) own-in ends
-
-      beside : ltb 0 (degree s other (elementPoint s own i)) ≡ false → inside (segments s other) (grid (elementPoint s own i)) ≡ not (eqb (note i) 0)
-      beside e =
-          moving (segments s other) (regular are region) (half s own i .segment) (ordered-read (half s own i .segment) (all-ordered is (half s own i .segment) own-in)) (λ u m. across (half s own i .segment) u own-in m) (is-false (hasSegment (segments s other) (half s own i .segment)) none)
-          (grid (elementPoint s own i)) (one-pos 0) (end-along (half s own i .segment) (grid (elementPoint s own i)) (one-pos 0) (end-read (half s own i .segment) (grid (elementPoint s own i)) ends))
-          (is-false (onSome (segments s other) (grid (elementPoint s own i))) (on-end ∙ e))
-          ∙ middle-noted none
-        where
-          none : hasSegment (segments s other) (half s own i .segment) ≡ false
-          none =
-              refute (hasSegment (segments s other) (half s own i .segment))
-              (λ k. true≢false (sym (own-degree are segmented (elementPoint s own i) (half s own i .segment) (is-in (segments s other) (half s own i .segment) k) ends) ∙ e))
+  pub end-not-nought : inside (segments s other) (grid (elementPoint s own i)) ≡ not (ltb 0 (degree s other (elementPoint s own i))) && not (eqb (note i) 0)
+  end-not-nought =
+      off-or-on (segments s other) (grid (elementPoint s own i)) (ltb 0 (degree s other (elementPoint s own i))) end-on-region
+      (λ e. not-nought (inside (segments s other) (grid (elementPoint s own i))) ∙ ap (λ n. not (eqb n 0)) (end-noted e))
 
 -- ---- a point beside segments
 

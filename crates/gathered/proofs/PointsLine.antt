@@ -7,23 +7,23 @@ use lib.Dec.{eqb, ltb}
 use lib.ListN.{getD}
 use Rattle.plane.specs.declared.Point.{Point}
 use Rattle.plane.specs.declared.Segment.{Segment}
+use Rattle.plane.specs.Plane.{isBoundary}
 use Rattle.scene.specs.declared.Shape.the-variants.{Points, Line}
 use Rattle.scene.specs.declared.Scene.{Scene}
 use Rattle.scene.specs.Conditions.{hasSegments, segments}
 use Rattle.strands.specs.Noted.{Noted}
 use Rattle.checks.proofs.Laws.{SoundScene}
-use Rattle.flags.specs.Flags.{hasPoint, onObject, isBound, poiOff, poiOnInterior, poiOnBound, boundPoiDisjoint}
-use Rattle.flags.specs.Walk.{pointsOf, found, allFlags}
+use Rattle.flags.specs.Flags.{points, line, hasPoint, onObject, isBound, poiOff, poiOnInterior, poiOnBound, boundPoiDisjoint, flagsOfF, flagsOfG}
+use Rattle.flags.specs.Elements.{pointsOf}
 use Rattle.keys.specs.Keyed.{elementPoint}
 use Rattle.meetings.specs.Met.{degree, meetings}
+use Rattle.meetings.proofs.PointKinds.{Kind, none, bound, inner, kind-of}
 use Rattle.classes.specs.Classed.{classesOfF, classesOfG}
 use Rattle.gathered.specs.Table.{flagsOfFBy, flagsOfGBy}
 use Rattle.gathered.proofs.Degrees.{point-absent, own-point, some-points}
 use Rattle.gathered.proofs.Ends.{bound-degree, end-elements}
 use Rattle.gathered.proofs.Noting.{point-on}
-use Rattle.gathered.proofs.Sizes.{Size, none, one, many, size-of}
-use Rattle.gathered.proofs.Meeting.{met-01, met-24, met-3, met-7}
-use Rattle.gathered.proofs.Shapes.{by-shapes}
+use Rattle.gathered.proofs.Meeting.{bound-off, bound-on-interior}
 
 module _ {s : List ℕ} {sc : Scene} {notes : List ℕ} (o : SoundScene s sc) (n : Noted s sc notes) (f : sc .f .shape ≡ Points) (g : sc .g .shape ≡ Line) where
   abbrev G : List Segment
@@ -45,49 +45,47 @@ module _ {s : List ℕ} {sc : Scene} {notes : List ℕ} (o : SoundScene s sc) (n
   has-g : hasSegments (sc .g .shape) ≡ true
   has-g = ap hasSegments g
 
-  single : (i : ℕ) → i < sc .f .count → eqb (a i) 1 ≡ true
+  single : (i : ℕ) → i < sc .f .count → isBoundary (a i) ≡ true
   single i h = own-point (o .f-sound) f i h
 
   on-line : (i : ℕ) → i < sc .f .count → onObject G (p i) ≡ ltb 0 (b i) || ltb 1 (note i)
   on-line i h = point-on n f (o .g-sound) has-g i h
 
-  bound : (v : Point) → isBound G v ≡ eqb (degree s (sc .g) v) 1
-  bound v = bound-degree (o .g-sound) has-g v
+  bound-is : (v : Point) → isBound G v ≡ isBoundary (degree s (sc .g) v)
+  bound-is v = bound-degree (o .g-sound) has-g v
 
-  off : poiOff (pointsOf s (sc .f)) G ≡ meetings s sc notes .b0 || meetings s sc notes .b1
+  off : poiOff (pointsOf s (sc .f)) G ≡ meetings s sc notes .«bound_outside» || meetings s sc notes .«bound_inside»
   off =
-      some-points (o .f-sound) f (λ v. not (onObject G v)) _ (λ i h. rw (on-line i h, single i h) (go (size-of (b i)) (ltb 1 (note i))))
-      ∙ sym (met-01 s sc notes)
+      some-points (o .f-sound) f (λ v. not (onObject G v)) _ (λ i h. rw (on-line i h, single i h) (go (kind-of (b i)) (ltb 1 (note i))))
+      ∙ sym (bound-off s sc notes)
     where
-      go : {p z e m : Bool} → Size p z e m → (x : Bool) → not (p || x) ≡ z && not x
+      go : {p z e m : Bool} → Kind p z e m → (x : Bool) → not (p || x) ≡ z && not x
       go none x = refl
-      go one x = refl
-      go many x = refl
+      go bound x = refl
+      go inner x = refl
 
-  on-interior : poiOnInterior (pointsOf s (sc .f)) G ≡ meetings s sc notes .b2 || meetings s sc notes .b4
+  on-interior : poiOnInterior (pointsOf s (sc .f)) G ≡ meetings s sc notes .«bound_on» || meetings s sc notes .«bound_inner»
   on-interior =
-      some-points (o .f-sound) f (λ v. onObject G v && not (isBound G v)) _ (λ i h. rw (on-line i h, bound (p i), single i h) (go (size-of (b i)) (ltb 1 (note i))))
-      ∙ sym (met-24 s sc notes)
+      some-points (o .f-sound) f (λ v. onObject G v && not (isBound G v)) _ (λ i h. rw (on-line i h, bound-is (p i), single i h) (go (kind-of (b i)) (ltb 1 (note i))))
+      ∙ sym (bound-on-interior s sc notes)
     where
-      go : {p z e m : Bool} → Size p z e m → (x : Bool) → (p || x) && not e ≡ z && x || m
+      go : {p z e m : Bool} → Kind p z e m → (x : Bool) → (p || x) && not e ≡ z && x || m
       go none true = refl
       go none false = refl
-      go one x = refl
-      go many x = refl
+      go bound x = refl
+      go inner x = refl
 
-  on-bound : poiOnBound (pointsOf s (sc .f)) G ≡ meetings s sc notes .b3
+  on-bound : poiOnBound (pointsOf s (sc .f)) G ≡ meetings s sc notes .«bound_bound»
   on-bound =
-      some-points (o .f-sound) f (isBound G) _ (λ i h. ap₂ _&&_ (sym (single i h)) (bound (p i)))
-      ∙ sym (met-3 s sc notes)
+      some-points (o .f-sound) f (isBound G) _ (λ i h. ap₂ _&&_ (sym (single i h)) (bound-is (p i)))
 
-  pub points-line-f : allFlags true s (sc .f) (sc .g) ≡ flagsOfFBy Points Line (meetings s sc notes) (classesOfF s sc notes)
-  points-line-f = by-shapes true s (sc .f) (sc .g) f g ∙ (λ j. found (off j ∷ on-interior j ∷ on-bound j ∷ []))
+  pub points-line-f : flagsOfF (points (pointsOf s (sc .f))) (line G) ≡ flagsOfFBy Points Line (meetings s sc notes) (classesOfF s sc notes)
+  points-line-f = λ j. off j ∷ on-interior j ∷ on-bound j ∷ []
 
-  pub points-line-g : allFlags false s (sc .g) (sc .f) ≡ flagsOfGBy Points Line (meetings s sc notes) (classesOfG s sc notes)
-  points-line-g = by-shapes false s (sc .g) (sc .f) g f ∙ (λ j. found (bare j ∷ []))
+  pub points-line-g : flagsOfG (points (pointsOf s (sc .f))) (line G) ≡ flagsOfGBy Points Line (meetings s sc notes) (classesOfG s sc notes)
+  points-line-g = λ j. bare j ∷ []
     where
-      bare : boundPoiDisjoint (pointsOf s (sc .f)) G ≡ meetings s sc notes .b7
+      bare : boundPoiDisjoint (pointsOf s (sc .f)) G ≡ meetings s sc notes .«bound_of_g»
       bare =
           end-elements (o .g-sound) has-g (λ t v. isBound G v && not (hasPoint (pointsOf s (sc .f)) v)) _
-          (λ j h t m e. ap₂ _&&_ (bound (elementPoint s (sc .g) j)) (point-absent (o .f-sound) f (elementPoint s (sc .g) j)) ∙ and-comm (eqb (degree s (sc .g) (elementPoint s (sc .g) j)) 1) (eqb (degree s (sc .f) (elementPoint s (sc .g) j)) 0))
-          ∙ sym (met-7 s sc notes)
+          (λ j h t m e. ap₂ _&&_ (bound-is (elementPoint s (sc .g) j)) (point-absent (o .f-sound) f (elementPoint s (sc .g) j)) ∙ and-comm (isBoundary (degree s (sc .g) (elementPoint s (sc .g) j))) (eqb (degree s (sc .f) (elementPoint s (sc .g) j)) 0))

@@ -7,24 +7,24 @@ use lib.Dec.{eqb, ltb}
 use lib.ListN.{getD}
 use Rattle.plane.specs.declared.Point.{Point}
 use Rattle.plane.specs.declared.Segment.{Segment}
-use Rattle.plane.specs.Plane.{grid, inside}
+use Rattle.plane.specs.Plane.{grid, inside, isBoundary}
 use Rattle.scene.specs.declared.Shape.the-variants.{Points, Region}
 use Rattle.scene.specs.declared.Scene.{Scene}
 use Rattle.scene.specs.Conditions.{hasSegments, segments}
 use Rattle.strands.specs.Noted.{Noted}
 use Rattle.checks.proofs.Laws.{SoundScene}
-use Rattle.flags.specs.Flags.{onObject, poiInside, poiOnOutline, poiOutside}
-use Rattle.flags.specs.Walk.{pointsOf, found, allFlags}
-use Rattle.flags.proofs.ByElement.{outline-edges}
+use Rattle.flags.specs.Flags.{points, region, onObject, poiInside, poiOnOutline, poiOutside, flagsOfF}
+use Rattle.flags.specs.Elements.{pointsOf, edges}
+use Rattle.flags.proofs.Elements.{outline-edges}
 use Rattle.keys.specs.Keyed.{elementPoint}
 use Rattle.meetings.specs.Met.{degree, meetings}
+use Rattle.meetings.proofs.PointKinds.{Kind, none, bound, inner, kind-of, not-there}
 use Rattle.classes.specs.Classed.{classesOfF}
 use Rattle.gathered.specs.Table.{flagsOfFBy}
 use Rattle.gathered.proofs.Degrees.{own-point, some-points}
 use Rattle.gathered.proofs.Noting.{point-on, point-inside}
-use Rattle.gathered.proofs.Sizes.{Size, none, one, many, size-of, not-above}
-use Rattle.gathered.proofs.Meeting.{met-0, met-1, met-234}
-use Rattle.gathered.proofs.Shapes.{by-shapes}
+use Rattle.gathered.proofs.Sizes.{Size, nought, one, more, size-of}
+use Rattle.gathered.proofs.Meeting.{bound-on-object}
 
 module _ {s : List ℕ} {sc : Scene} {notes : List ℕ} (o : SoundScene s sc) (n : Noted s sc notes) (f : sc .f .shape ≡ Points) (g : sc .g .shape ≡ Region) where
   abbrev G : List Segment
@@ -46,7 +46,7 @@ module _ {s : List ℕ} {sc : Scene} {notes : List ℕ} (o : SoundScene s sc) (n
   has-g : hasSegments (sc .g .shape) ≡ true
   has-g = ap hasSegments g
 
-  single : (i : ℕ) → i < sc .f .count → eqb (a i) 1 ≡ true
+  single : (i : ℕ) → i < sc .f .count → isBoundary (a i) ≡ true
   single i h = own-point (o .f-sound) f i h
 
   on-outline : (i : ℕ) → i < sc .f .count → onObject G (p i) ≡ ltb 0 (b i) || ltb 1 (note i)
@@ -55,34 +55,27 @@ module _ {s : List ℕ} {sc : Scene} {notes : List ℕ} (o : SoundScene s sc) (n
   in-region : (i : ℕ) → i < sc .f .count → inside G (grid (p i)) ≡ not (ltb 0 (b i)) && eqb (note i) 1
   in-region i h = point-inside n f (o .g-sound) has-g i h
 
-  inner : poiInside (pointsOf s (sc .f)) G ≡ meetings s sc notes .b1
-  inner =
-      some-points (o .f-sound) f (λ v. inside G (grid v)) _ (λ i h. in-region i h ∙ ap₂ _&&_ (sym (single i h)) (ap (λ b. b && eqb (note i) 1) (not-above (size-of (b i)))))
-      ∙ sym (met-1 s sc notes)
+  within : poiInside (pointsOf s (sc .f)) G ≡ meetings s sc notes .«bound_inside»
+  within =
+      some-points (o .f-sound) f (λ v. inside G (grid v)) _ (λ i h. in-region i h ∙ ap₂ _&&_ (sym (single i h)) (ap (λ b. b && eqb (note i) 1) (not-there (kind-of (b i)))))
 
-  on-it : poiOnOutline (pointsOf s (sc .f)) G ≡ meetings s sc notes .b2 || meetings s sc notes .b3 || meetings s sc notes .b4
+  on-it : poiOnOutline (pointsOf s (sc .f)) G ≡ meetings s sc notes .«bound_on» || meetings s sc notes .«bound_bound» || meetings s sc notes .«bound_inner»
   on-it =
       some-points (o .f-sound) f (onObject G) _ (λ i h. ap₂ _&&_ (sym (single i h)) (on-outline i h))
-      ∙ sym (met-234 s sc notes)
+      ∙ sym (bound-on-object s sc notes)
 
-  outer : poiOutside (pointsOf s (sc .f)) G ≡ meetings s sc notes .b0
+  outer : poiOutside (pointsOf s (sc .f)) G ≡ meetings s sc notes .«bound_outside»
   outer =
-      some-points (o .f-sound) f (λ v. not (inside G (grid v)) && not (onObject G v)) _ (λ i h. rw (in-region i h, on-outline i h, single i h) (go (size-of (b i)) (size-of (note i))))
-      ∙ sym (met-0 s sc notes)
+      some-points (o .f-sound) f (λ v. not (inside G (grid v)) && not (onObject G v)) _ (λ i h. rw (in-region i h, on-outline i h, single i h) (go (kind-of (b i)) (size-of (note i))))
     where
-      go : {p z e m q y d n : Bool} → Size p z e m → Size q y d n → not (not p && d) && not (p || n) ≡ z && y
-      go none none = refl
+      go : {p z e m y d n : Bool} → Kind p z e m → Size y d n → not (not p && d) && not (p || n) ≡ z && y
+      go none nought = refl
       go none one = refl
-      go none many = refl
-      go one none = refl
-      go one one = refl
-      go one many = refl
-      go many none = refl
-      go many one = refl
-      go many many = refl
+      go none more = refl
+      go bound n = refl
+      go inner n = refl
 
-  pub points-region-f : allFlags true s (sc .f) (sc .g) ≡ flagsOfFBy Points Region (meetings s sc notes) (classesOfF s sc notes)
+  pub points-region-f : flagsOfF (points (pointsOf s (sc .f))) (region (edges s (sc .g))) ≡ flagsOfFBy Points Region (meetings s sc notes) (classesOfF s sc notes)
   points-region-f =
-      by-shapes true s (sc .f) (sc .g) f g
-      ∙ ap (λ l. found (poiInside (pointsOf s (sc .f)) l ∷ poiOnOutline (pointsOf s (sc .f)) l ∷ poiOutside (pointsOf s (sc .f)) l ∷ [])) (outline-edges s (sc .g))
-      ∙ (λ j. found (inner j ∷ on-it j ∷ outer j ∷ []))
+      ap (λ l. poiInside (pointsOf s (sc .f)) l ∷ poiOnOutline (pointsOf s (sc .f)) l ∷ poiOutside (pointsOf s (sc .f)) l ∷ []) (outline-edges s (sc .g))
+      ∙ (λ j. within j ∷ on-it j ∷ outer j ∷ [])

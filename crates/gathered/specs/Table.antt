@@ -1,43 +1,91 @@
--- Which meetings and classes make each flag, for each pair of types, bit 0 first. m are the meetings of the two objects, c the classes of the object
--- whose flags they are.
+-- Which meetings and classes make each flag, for each pair of types, bit 0 first: a flag by its name in document 01, and what makes it. m are the meetings of
+-- the two objects, c the classes of the object whose flags they are.
 use mathlib.Core.Bool.{Bool, _||_}
-use mathlib.Core.List.{[], _∷_}
+use mathlib.Core.List.{List, [], _∷_}
 use Rattle.scene.specs.declared.Shape.{Shape}
 use Rattle.scene.specs.declared.Shape.the-variants.{Points, Line, Region}
-use Rattle.flags.specs.declared.Found.{Found}
-use Rattle.flags.specs.Walk.{found, nothing}
+use Rattle.meetings.specs.declared.Meetings.{Meetings}
+use Rattle.classes.specs.declared.Classes.{Classes}
 
--- a point of F that is none of G's, whatever its note
-abbrev pub alone : Found → Bool
-alone m = m .b0 || m .b1 || m .b2
+-- a boundary point of F, or a point of a points object, that is none of G's elements' points, whatever its note
+abbrev pub alone : Meetings → Bool
+alone m = m .«bound_outside» || m .«bound_inside» || m .«bound_on»
 
--- a segment that is none of the other object's, and one that is
-abbrev pub unshared : Found → Bool
-unshared c = c .b0 || c .b1 || c .b2 || c .b3
+-- a segment that is one of the other object's, and one that is none
+abbrev pub shared : Classes → Bool
+shared c = c .«both_above» || c .«both_below» || c .opposite
 
-abbrev pub shared : Found → Bool
-shared c = c .b4 || c .b5 || c .b6
+abbrev pub unshared : Classes → Bool
+unshared c = c .«above_outside» || c .«below_outside» || c .«above_inside» || c .«below_inside»
 
-abbrev pub flagsOfFBy : Shape → Shape → Found → Found → Found
-flagsOfFBy Points Points m c = found (alone m ∷ m .b3 ∷ [])
-flagsOfFBy Points Line m c = found ((m .b0 || m .b1) ∷ (m .b2 || m .b4) ∷ m .b3 ∷ [])
-flagsOfFBy Points Region m c = found (m .b1 ∷ (m .b2 || m .b3 || m .b4) ∷ m .b0 ∷ [])
-flagsOfFBy Line Points m c = nothing
-flagsOfFBy Line Line m c = found (shared c ∷ m .b6 ∷ unshared c ∷ m .b4 ∷ m .b3 ∷ alone m ∷ [])
+abbrev pub flagsOfFBy : Shape → Shape → Meetings → Classes → List Bool
+flagsOfFBy Points Points m c =
+    alone m  -- poi_disjoint
+    ∷ m .«bound_bound»  -- poi_shared
+    ∷ []
+flagsOfFBy Points Line m c =
+    (m .«bound_outside» || m .«bound_inside»)  -- poi_disjoint
+    ∷ (m .«bound_on» || m .«bound_inner»)  -- poi_on_interior
+    ∷ m .«bound_bound»  -- poi_on_bound
+    ∷ []
+flagsOfFBy Points Region m c =
+    m .«bound_inside»  -- poi_inside
+    ∷ (m .«bound_on» || m .«bound_bound» || m .«bound_inner»)  -- poi_on_bound
+    ∷ m .«bound_outside»  -- poi_outside
+    ∷ []
+flagsOfFBy Line Points m c = []
+flagsOfFBy Line Line m c =
+    shared c  -- seg_shared
+    ∷ m .«inner_inner»  -- interior_poi_shared
+    ∷ unshared c  -- seg_unshared
+    ∷ m .«bound_inner»  -- bound_on_interior
+    ∷ m .«bound_bound»  -- bound_shared
+    ∷ alone m  -- bound_disjoint
+    ∷ []
 flagsOfFBy Line Region m c =
-    found ((c .b2 || c .b3) ∷ shared c ∷ (c .b0 || c .b1) ∷ (m .b5 || m .b6) ∷ (m .b1 || m .b2) ∷ (m .b3 || m .b4) ∷ m .b0 ∷ [])
-flagsOfFBy Region Points m c = nothing
-flagsOfFBy Region Line m c = nothing
+    (c .«above_inside» || c .«below_inside»)  -- seg_inside
+    ∷ shared c  -- seg_shared
+    ∷ (c .«above_outside» || c .«below_outside»)  -- seg_outside
+    ∷ (m .«inner_bound» || m .«inner_inner»)  -- poi_shared
+    ∷ m .«bound_inside»  -- bound_inside
+    ∷ (m .«bound_bound» || m .«bound_inner»)  -- bound_shared
+    ∷ m .«bound_outside»  -- bound_disjoint
+    ∷ []
+flagsOfFBy Region Points m c = []
+flagsOfFBy Region Line m c = []
 flagsOfFBy Region Region m c =
-    found (c .b0 ∷ c .b1 ∷ c .b2 ∷ c .b3 ∷ c .b4 ∷ c .b5 ∷ c .b6 ∷ (m .b3 || m .b4 || m .b5 || m .b6) ∷ [])
+    c .«above_outside»  -- (0/1)
+    ∷ c .«below_outside»  -- (1/0)
+    ∷ c .«above_inside»  -- (1/2)
+    ∷ c .«below_inside»  -- (2/1)
+    ∷ c .«both_above»  -- (0/2)
+    ∷ c .«both_below»  -- (2/0)
+    ∷ c .opposite  -- (1/1)
+    ∷ (m .«bound_bound» || m .«bound_inner» || m .«inner_bound» || m .«inner_inner»)  -- bound_poi_shared
+    ∷ []
 
-abbrev pub flagsOfGBy : Shape → Shape → Found → Found → Found
-flagsOfGBy Points Points m c = found (m .b7 ∷ [])
-flagsOfGBy Points Line m c = found (m .b7 ∷ [])
-flagsOfGBy Points Region m c = nothing
-flagsOfGBy Line Points m c = nothing
-flagsOfGBy Line Line m c = found (unshared c ∷ m .b5 ∷ m .b7 ∷ [])
-flagsOfGBy Line Region m c = found (unshared c ∷ [])
-flagsOfGBy Region Points m c = nothing
-flagsOfGBy Region Line m c = nothing
-flagsOfGBy Region Region m c = found (c .b0 ∷ c .b1 ∷ c .b2 ∷ c .b3 ∷ [])
+abbrev pub flagsOfGBy : Shape → Shape → Meetings → Classes → List Bool
+flagsOfGBy Points Points m c =
+    m .«bound_of_g»  -- poi_disjoint
+    ∷ []
+flagsOfGBy Points Line m c =
+    m .«bound_of_g»  -- bound_poi_disjoint
+    ∷ []
+flagsOfGBy Points Region m c = []
+flagsOfGBy Line Points m c = []
+flagsOfGBy Line Line m c =
+    unshared c  -- seg_unshared
+    ∷ m .«inner_bound»  -- bound_on_interior
+    ∷ m .«bound_of_g»  -- bound_disjoint
+    ∷ []
+flagsOfGBy Line Region m c =
+    unshared c  -- seg_unshared
+    ∷ []
+flagsOfGBy Region Points m c = []
+flagsOfGBy Region Line m c = []
+flagsOfGBy Region Region m c =
+    c .«above_outside»  -- (0/1)
+    ∷ c .«below_outside»  -- (1/0)
+    ∷ c .«above_inside»  -- (1/2)
+    ∷ c .«below_inside»  -- (2/1)
+    ∷ []

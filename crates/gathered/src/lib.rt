@@ -1,213 +1,215 @@
-// The flags of two objects, read off how their elements meet at points and off the classes of their segments.
-use flags::Found;
+// The flags of two objects, read off how their elements meet at points and off the classes of their segments: the table of specs/Table.antt, pair by pair.
+use classes::Classes;
+use meetings::Meetings;
 use scene::Shape;
 ghost use mathlib.Core.Path.{_≡_};
-ghost use mathlib.Core.Bool.{Bool};
-ghost use mathlib.Core.List.{[], _∷_};
-ghost use Rattle.flags.specs.Walk.{found, nothing};
-ghost use Rattle.gathered.specs.Table.{alone, unshared, shared, flagsOfFBy, flagsOfGBy};
+ghost use Rattle.meetings.specs.declared.Meetings.{Meetings as OfPoints};
+ghost use Rattle.classes.specs.declared.Classes.{Classes as OfSegments};
+ghost use Rattle.flags.specs.Flags.{pack};
+ghost use Rattle.gathered.specs.Table.{alone, shared, unshared, flagsOfFBy, flagsOfGBy};
 
-// A point of F that is none of G's.
-fn alone(m: Found) -> bool
+// A point bound in F that is none of G's.
+fn alone(m: Meetings) -> bool
     ensures { λ r. ⌜ r ≡ alone m ⌝ }
 {
-    m.b0 | m.b1 | m.b2
-}
-
-// A segment that is none of the other object's.
-fn unshared(c: Found) -> bool
-    ensures { λ r. ⌜ r ≡ unshared c ⌝ }
-{
-    c.b0 | c.b1 | c.b2 | c.b3
+    m.bound_outside | m.bound_inside | m.bound_on
 }
 
 // A segment that is one of the other object's.
-fn shared(c: Found) -> bool
+fn shared(c: Classes) -> bool
     ensures { λ r. ⌜ r ≡ shared c ⌝ }
 {
-    c.b4 | c.b5 | c.b6
+    c.both_above | c.both_below | c.opposite
 }
 
-// The flags of F, for each pair of types; points have no classes.
-fn points_points(m: Found) -> Found
-    ensures { λ r. ⌜ r ≡ flagsOfFBy Shape.Points Shape.Points m nothing ⌝ }
+// A segment that is none of the other object's.
+fn unshared(c: Classes) -> bool
+    ensures { λ r. ⌜ r ≡ unshared c ⌝ }
 {
-    Found {
-        b0: alone(m),
-        b1: m.b3,
-        b2: false,
-        b3: false,
-        b4: false,
-        b5: false,
-        b6: false,
-        b7: false,
-    }
+    c.above_outside | c.below_outside | c.above_inside | c.below_inside
 }
 
-fn points_line(m: Found) -> Found
-    ensures { λ r. ⌜ r ≡ flagsOfFBy Shape.Points Shape.Line m nothing ⌝ }
+// ---- the flags of F, for each pair of types
+
+fn points_points_f(m: Meetings) -> u16
+    ensures { λ r. ⌜ ((c : OfSegments) → r ≡ pack (flagsOfFBy Shape.Points Shape.Points m c)) ⌝ }
 {
-    Found {
-        b0: m.b0 | m.b1,
-        b1: m.b2 | m.b4,
-        b2: m.b3,
-        b3: false,
-        b4: false,
-        b5: false,
-        b6: false,
-        b7: false,
-    }
+    collected::packed_four(
+        alone(m), // poi_disjoint
+        m.bound_bound, // poi_shared
+        false,
+        false,
+    )
 }
 
-fn points_region(m: Found) -> Found
-    ensures { λ r. ⌜ r ≡ flagsOfFBy Shape.Points Shape.Region m nothing ⌝ }
+fn points_line_f(m: Meetings) -> u16
+    ensures { λ r. ⌜ ((c : OfSegments) → r ≡ pack (flagsOfFBy Shape.Points Shape.Line m c)) ⌝ }
 {
-    Found {
-        b0: m.b1,
-        b1: m.b2 | m.b3 | m.b4,
-        b2: m.b0,
-        b3: false,
-        b4: false,
-        b5: false,
-        b6: false,
-        b7: false,
-    }
+    collected::packed_four(
+        m.bound_outside | m.bound_inside, // poi_disjoint
+        m.bound_on | m.bound_inner, // poi_on_interior
+        m.bound_bound, // poi_on_bound
+        false,
+    )
 }
 
-fn line_line(m: Found, c: Found) -> Found
-    ensures { λ r. ⌜ r ≡ flagsOfFBy Shape.Line Shape.Line m c ⌝ }
+fn points_region_f(m: Meetings) -> u16
+    ensures { λ r. ⌜ ((c : OfSegments) → r ≡ pack (flagsOfFBy Shape.Points Shape.Region m c)) ⌝ }
 {
-    Found {
-        b0: shared(c),
-        b1: m.b6,
-        b2: unshared(c),
-        b3: m.b4,
-        b4: m.b3,
-        b5: alone(m),
-        b6: false,
-        b7: false,
-    }
+    collected::packed_four(
+        m.bound_inside, // poi_inside
+        m.bound_on | m.bound_bound | m.bound_inner, // poi_on_bound
+        m.bound_outside, // poi_outside
+        false,
+    )
 }
 
-fn line_region(m: Found, c: Found) -> Found
-    ensures { λ r. ⌜ r ≡ flagsOfFBy Shape.Line Shape.Region m c ⌝ }
+fn line_line_f(m: Meetings, c: Classes) -> u16
+    ensures { λ r. ⌜ r ≡ pack (flagsOfFBy Shape.Line Shape.Line m c) ⌝ }
 {
-    Found {
-        b0: c.b2 | c.b3,
-        b1: shared(c),
-        b2: c.b0 | c.b1,
-        b3: m.b5 | m.b6,
-        b4: m.b1 | m.b2,
-        b5: m.b3 | m.b4,
-        b6: m.b0,
-        b7: false,
-    }
+    collected::packed_eight(
+        shared(c), // seg_shared
+        m.inner_inner, // interior_poi_shared
+        unshared(c), // seg_unshared
+        m.bound_inner, // bound_on_interior
+        m.bound_bound, // bound_shared
+        alone(m), // bound_disjoint
+        false,
+        false,
+    )
 }
 
-fn region_region(m: Found, c: Found) -> Found
-    ensures { λ r. ⌜ r ≡ flagsOfFBy Shape.Region Shape.Region m c ⌝ }
+fn line_region_f(m: Meetings, c: Classes) -> u16
+    ensures { λ r. ⌜ r ≡ pack (flagsOfFBy Shape.Line Shape.Region m c) ⌝ }
 {
-    Found {
-        b0: c.b0,
-        b1: c.b1,
-        b2: c.b2,
-        b3: c.b3,
-        b4: c.b4,
-        b5: c.b5,
-        b6: c.b6,
-        b7: m.b3 | m.b4 | m.b5 | m.b6,
-    }
+    collected::packed_eight(
+        c.above_inside | c.below_inside, // seg_inside
+        shared(c), // seg_shared
+        c.above_outside | c.below_outside, // seg_outside
+        m.inner_bound | m.inner_inner, // poi_shared
+        m.bound_inside, // bound_inside
+        m.bound_bound | m.bound_inner, // bound_shared
+        m.bound_outside, // bound_disjoint
+        false,
+    )
 }
 
-// The first flag alone.
-fn first(b: bool) -> Found
-    ensures { λ r. ⌜ r ≡ found (b ∷ []) ⌝ }
+fn region_region_f(m: Meetings, c: Classes) -> u16
+    ensures { λ r. ⌜ r ≡ pack (flagsOfFBy Shape.Region Shape.Region m c) ⌝ }
 {
-    Found {
-        b0: b,
-        b1: false,
-        b2: false,
-        b3: false,
-        b4: false,
-        b5: false,
-        b6: false,
-        b7: false,
-    }
+    collected::packed_eight(
+        c.above_outside, // (0/1)
+        c.below_outside, // (1/0)
+        c.above_inside, // (1/2)
+        c.below_inside, // (2/1)
+        c.both_above, // (0/2)
+        c.both_below, // (2/0)
+        c.opposite, // (1/1)
+        m.bound_bound | m.bound_inner | m.inner_bound | m.inner_inner, // bound_poi_shared
+    )
 }
 
-// The flags of G beside a line, and beside a region, that are more than one.
-fn of_lines(m: Found, c: Found) -> Found
-    ensures { λ r. ⌜ r ≡ flagsOfGBy Shape.Line Shape.Line m c ⌝ }
+// ---- the flags of G
+
+fn points_points_g(m: Meetings) -> u16
+    ensures { λ r. ⌜ ((c : OfSegments) → r ≡ pack (flagsOfGBy Shape.Points Shape.Points m c)) ⌝ }
 {
-    Found {
-        b0: unshared(c),
-        b1: m.b5,
-        b2: m.b7,
-        b3: false,
-        b4: false,
-        b5: false,
-        b6: false,
-        b7: false,
-    }
+    collected::packed_four(
+        m.bound_of_g, // poi_disjoint
+        false,
+        false,
+        false,
+    )
 }
 
-fn of_regions(c: Found) -> Found
-    ensures { λ r. ⌜ r ≡ flagsOfGBy Shape.Region Shape.Region nothing c ⌝ }
+fn points_line_g(m: Meetings) -> u16
+    ensures { λ r. ⌜ ((c : OfSegments) → r ≡ pack (flagsOfGBy Shape.Points Shape.Line m c)) ⌝ }
 {
-    Found {
-        b0: c.b0,
-        b1: c.b1,
-        b2: c.b2,
-        b3: c.b3,
-        b4: false,
-        b5: false,
-        b6: false,
-        b7: false,
-    }
+    collected::packed_four(
+        m.bound_of_g, // bound_poi_disjoint
+        false,
+        false,
+        false,
+    )
 }
 
-// The flags of F, by the types of both objects, by their meetings and by the classes of F.
-pub fn flags_of_f(f: Shape, g: Shape, m: Found, c: Found) -> Found
-    ensures { λ r. ⌜ r ≡ flagsOfFBy f g m c ⌝ }
+fn line_line_g(m: Meetings, c: Classes) -> u16
+    ensures { λ r. ⌜ r ≡ pack (flagsOfGBy Shape.Line Shape.Line m c) ⌝ }
 {
-    match f {
-        Shape::Points => match g {
-            Shape::Points => points_points(m),
-            Shape::Line => points_line(m),
-            Shape::Region => points_region(m),
-        },
-        Shape::Line => match g {
-            Shape::Points => collected::nothing(),
-            Shape::Line => line_line(m, c),
-            Shape::Region => line_region(m, c),
-        },
-        Shape::Region => match g {
-            Shape::Points => collected::nothing(),
-            Shape::Line => collected::nothing(),
-            Shape::Region => region_region(m, c),
-        },
-    }
+    collected::packed_four(
+        unshared(c), // seg_unshared
+        m.inner_bound, // bound_on_interior
+        m.bound_of_g, // bound_disjoint
+        false,
+    )
 }
 
-// The flags of G, by the types of both objects, by their meetings and by the classes of G.
-pub fn flags_of_g(f: Shape, g: Shape, m: Found, c: Found) -> Found
-    ensures { λ r. ⌜ r ≡ flagsOfGBy f g m c ⌝ }
+fn line_region_g(c: Classes) -> u16
+    ensures { λ r. ⌜ ((m : OfPoints) → r ≡ pack (flagsOfGBy Shape.Line Shape.Region m c)) ⌝ }
+{
+    collected::packed_four(
+        unshared(c), // seg_unshared
+        false,
+        false,
+        false,
+    )
+}
+
+fn region_region_g(c: Classes) -> u16
+    ensures { λ r. ⌜ ((m : OfPoints) → r ≡ pack (flagsOfGBy Shape.Region Shape.Region m c)) ⌝ }
+{
+    collected::packed_four(
+        c.above_outside, // (0/1)
+        c.below_outside, // (1/0)
+        c.above_inside, // (1/2)
+        c.below_inside, // (2/1)
+    )
+}
+
+// ---- by the types of both objects
+
+// The vector of F with every flag, by the meetings of both objects and the classes of F. A pair with F's type above G's has no flags.
+pub fn flags_of_f(f: Shape, g: Shape, m: Meetings, c: Classes) -> u16
+    ensures { λ r. ⌜ r ≡ pack (flagsOfFBy f g m c) ⌝ }
 {
     match f {
         Shape::Points => match g {
-            Shape::Points => first(m.b7),
-            Shape::Line => first(m.b7),
-            Shape::Region => collected::nothing(),
+            Shape::Points => points_points_f(m),
+            Shape::Line => points_line_f(m),
+            Shape::Region => points_region_f(m),
         },
         Shape::Line => match g {
-            Shape::Points => collected::nothing(),
-            Shape::Line => of_lines(m, c),
-            Shape::Region => first(unshared(c)),
+            Shape::Points => 0,
+            Shape::Line => line_line_f(m, c),
+            Shape::Region => line_region_f(m, c),
         },
         Shape::Region => match g {
-            Shape::Points => collected::nothing(),
-            Shape::Line => collected::nothing(),
-            Shape::Region => of_regions(c),
+            Shape::Points => 0,
+            Shape::Line => 0,
+            Shape::Region => region_region_f(m, c),
+        },
+    }
+}
+
+// The vector of G with every flag, by the meetings of both objects and the classes of G.
+pub fn flags_of_g(f: Shape, g: Shape, m: Meetings, c: Classes) -> u16
+    ensures { λ r. ⌜ r ≡ pack (flagsOfGBy f g m c) ⌝ }
+{
+    match f {
+        Shape::Points => match g {
+            Shape::Points => points_points_g(m),
+            Shape::Line => points_line_g(m),
+            Shape::Region => 0,
+        },
+        Shape::Line => match g {
+            Shape::Points => 0,
+            Shape::Line => line_line_g(m, c),
+            Shape::Region => line_region_g(c),
+        },
+        Shape::Region => match g {
+            Shape::Points => 0,
+            Shape::Line => 0,
+            Shape::Region => region_region_g(c),
         },
     }
 }

@@ -9,7 +9,7 @@ use Rattle.scene.specs.declared.Fault.{Fault}
 use Rattle.scene.specs.declared.CheckedScene.{CheckedScene}
 use Rattle.scene.specs.Read.{unless, judge}
 use Rattle.scene.specs.Conditions.{isRegion, Rule, rule, orElse, conditions, sceneRules, checkSceneBy}
-use Rattle.flags.specs.Walk.{edges}
+use Rattle.flags.specs.Elements.{edges}
 use Rattle.adjoining.specs.Bytes.{overlapBytes}
 use Rattle.strands.specs.Noted.{Noted}
 

@@ -29,6 +29,7 @@ use Rattle.plane.proofs.AlongSegment.{Apart, along-segment}
 use Rattle.plane.proofs.Steps.{Large, large-all, large-map, large-and, large-each, large-one, step, grows, shrinks, stays, side-moved, over-left-moved, upright-never, positive, positive-is, count-tests, inCount}
 use Rattle.plane.proofs.Flip.{upperWay, lowerWay, downwards, seen-x, side-down}
 use Rattle.plane.proofs.Accepted.{Split, Regular, Across, ends-parity}
+use Rattle.flags.proofs.Boundary.{boundary-none}
 
 -- ---- a cell
 
@@ -129,14 +130,10 @@ end-along s p h end = go end
 
 -- ---- the boundary of a line, by any rule that takes no point at which nothing ends
 
-rule-zero : isBoundary 0 ≡ false
-unfolding isBoundary
-rule-zero = refl
-
 module _ (l : List Segment) (p : HPoint) where
   pub no-bound : ((t : Segment) → t ∈ l → isEnd t p ≡ false) → isBoundary (endsAt l p) ≡ false
   unfolding endsAt
-  no-bound h = ap isBoundary (count-none (λ s. isEnd s p) l h) ∙ rule-zero
+  no-bound h = ap isBoundary (count-none (λ s. isEnd s p) l h) ∙ boundary-none
 
   pub bound-end : T (isBoundary (endsAt l p)) → (s : Segment) × (s ∈ l) × T (isEnd s p)
   bound-end t = ⊎-elim (λ h. some-find (λ s. isEnd s p) l h) (λ h. absurd (T-not (isBoundary (endsAt l p)) (is-false (isBoundary (endsAt l p)) (no-bound (none h))) t)) (decide (some (λ s. isEnd s p) l))

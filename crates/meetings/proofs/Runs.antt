@@ -1,22 +1,21 @@
--- Keys in order, taken run by run: a run of one key is all that have it, and later keys are above it. Hence how many have a key, and what the flags of a
+-- Keys in order, taken run by run: a run of one key is all that have it, and later keys are above it. Hence how many have a key, and what the marks of a
 -- run's elements come to.
 use Prim.Native.Nat.{ℕ, zero, suc, _+_, _-_, _<_, _≤_}
 use native.Mathlib.Nat.{eq-or-lt-of-le}
 use native.Mathlib.Omega.{arith}
 use mathlib.Core.Path.{_≡_, refl, sym, ap, subst, _∙_}
 use mathlib.Core.Logic.{⊎-elim}
-use mathlib.Core.Bool.{Bool, true, false, _||_, or-assoc, or-self}
-use mathlib.Core.List.{List, [], _∷_, _++_}
+use mathlib.Core.Bool.{Bool, true, false}
+use mathlib.Core.List.{_∷_, _++_}
+use lib.Bits.{bitOr, or-zero-r, or-self}
 use lib.Dec.{eqb}
 use borrow.Author.Tests.{eq-eqb, ne-eqb}
-use Rattle.whole.specs.Count.{bit, some, count, _∈_}
+use Rattle.whole.specs.Count.{bit, count, _∈_}
 use Rattle.whole.proofs.Counted.{count-append, count-none}
 use Rattle.scene.specs.Conditions.{indices}
 use Rattle.segments.proofs.Indices.{indices-in}
 use Rattle.segments.proofs.Walk.{between, all-between, between-next, between-none}
-use Rattle.flags.specs.declared.Found.{Found}
-use Rattle.flags.specs.Walk.{bits, flag, bitwise, nothing, either, gather}
-use Rattle.flags.proofs.Gathered.{same-bits, either-assoc, either-nothing}
+use Rattle.collected.proofs.Marks.{or-assoc, gather, gather-append}
 use Rattle.keys.specs.Keyed.{top, next}
 use Rattle.keys.proofs.Keys.{next-in, next-end}
 use Rattle.meetings.specs.Keyed.{Passed}
@@ -93,35 +92,25 @@ module _ {n : ℕ} {u : ℕ → ℕ} (o : InOrder n u) {k i j : ℕ} (low : k < 
       has : ℕ → Bool
       has m = eqb (u m) k
 
--- ---- the flags of a run
+-- ---- the marks of a run
 
-some-append : (f : ℕ → Bool) (l m : List ℕ) → some f (l ++ m) ≡ some f l || some f m
-some-append f [] m = refl
-some-append f (a ∷ l) m = ap (λ b. f a || b) (some-append f l m) ∙ sym (or-assoc (f a) (some f l) (some f m))
-
-pub gather-parts : (f : ℕ → Found) (i j n : ℕ) → i ≤ j → j ≤ n → gather f (between i n) ≡ either (gather f (between i j)) (gather f (between j n))
-gather-parts f i j n h k =
-    ap (gather f) (between-parts i j n h k)
-    ∙ same-bits (λ k. some (λ a. flag k (bits (f a))) (between i j ++ between j n)) (λ k. some (λ a. flag k (bits (f a))) (between i j) || some (λ a. flag k (bits (f a))) (between j n))
-    (λ k _. some-append (λ a. flag k (bits (f a))) (between i j) (between j n))
-
-either-itself : (a : Found) → either a a ≡ a
-either-itself a = λ i. bitwise (λ k. or-self (flag k (bits a)) i)
+pub gather-parts : (f : ℕ → ℕ) (i j n : ℕ) → i ≤ j → j ≤ n → gather f (between i n) ≡ bitOr (gather f (between i j)) (gather f (between j n))
+gather-parts f i j n h k = ap (gather f) (between-parts i j n h k) ∙ gather-append f (between i j) (between j n)
 
 -- where all are alike
-pub gather-run : (f : ℕ → Found) (x : Found) (i j : ℕ) → i ≤ j → (i ≡ j → nothing ≡ x) → ((m : ℕ) → i ≤ m → m < j → f m ≡ x) → gather f (between i j) ≡ x
+pub gather-run : (f : ℕ → ℕ) (x i j : ℕ) → i ≤ j → (i ≡ j → 0 ≡ x) → ((m : ℕ) → i ≤ m → m < j → f m ≡ x) → gather f (between i j) ≡ x
 gather-run f x i j h none e = ⊎-elim (λ q. ap (gather f) (between-none i j (omega arith)) ∙ none q) some-there (eq-or-lt-of-le h)
   where
-    go : (n k : ℕ) → ((m : ℕ) → k ≤ m → m < k + n → f m ≡ x) → either x (gather f (indices n k)) ≡ x
-    go zero k h = either-nothing x
+    go : (n k : ℕ) → ((m : ℕ) → k ≤ m → m < k + n → f m ≡ x) → bitOr x (gather f (indices n k)) ≡ x
+    go zero k h = or-zero-r x
     go (suc n) k h =
-        ap (λ y. either x (either y (gather f (indices n (suc k))))) (h k (omega arith) (omega arith))
-        ∙ sym (either-assoc x x (gather f (indices n (suc k))))
-        ∙ ap (λ y. either y (gather f (indices n (suc k)))) (either-itself x)
+        ap (λ y. bitOr x (bitOr y (gather f (indices n (suc k))))) (h k (omega arith) (omega arith))
+        ∙ sym (or-assoc x x (gather f (indices n (suc k))))
+        ∙ ap (λ y. bitOr y (gather f (indices n (suc k)))) (or-self x)
         ∙ go n (suc k) (λ m a b. h m (omega arith) (omega arith))
 
     some-there : i < j → gather f (between i j) ≡ x
     some-there l =
         ap (gather f) (between-next i j l)
-        ∙ ap (λ y. either y (gather f (between (i + 1) j))) (e i (omega arith) l)
+        ∙ ap (λ y. bitOr y (gather f (between (i + 1) j))) (e i (omega arith) l)
         ∙ go (j - (i + 1)) (i + 1) (λ m a b. e m (omega arith) (omega arith))

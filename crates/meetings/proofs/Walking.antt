@@ -5,16 +5,16 @@ use native.Mathlib.Nat.{eq-or-lt-of-le}
 use native.Mathlib.Omega.{arith}
 use mathlib.Core.Path.{_≡_, refl, sym, ap, ap₂, subst, _∙_}
 use mathlib.Core.Logic.{⊎-elim}
-use mathlib.Core.Bool.{Bool, true, false, _&&_, _||_, or-true, and-false}
-use mathlib.Core.List.{List, [], _∷_}
-use lib.Bits.{bitOr}
+use mathlib.Core.Bool.{Bool, true, false, _||_, or-true, or-false, and-false}
+use mathlib.Core.List.{List}
+use lib.Bits.{bitOr, or-zero-r}
 use lib.Dec.{T, eqb, ltb}
 use lib.ListN.{getD}
 use borrow.Author.Tests.{ltb-true, ltb-false, eqb-true}
-use Rattle.whole.specs.Count.{count}
+use Rattle.whole.specs.Count.{some, count}
 use Rattle.whole.proofs.Counted.{count-same}
 use Rattle.plane.specs.declared.Point.{Point}
-use Rattle.plane.specs.Plane.{inRange, samePoint}
+use Rattle.plane.specs.Plane.{inRange, samePoint, isBoundary}
 use Rattle.scene.specs.declared.Layout.{Layout}
 use Rattle.scene.specs.declared.Scene.{Scene}
 use Rattle.scene.specs.declared.Fault.the-variants.{Nothing}
@@ -22,48 +22,48 @@ use Rattle.scene.specs.Read.{IsObject}
 use Rattle.scene.specs.Conditions.{indices, elements, outOfOrder}
 use Rattle.segments.proofs.Indices.{in-element}
 use Rattle.segments.proofs.Walk.{between, all-between, between-none}
-use Rattle.flags.specs.declared.Found.{Found}
-use Rattle.flags.specs.Walk.{bits, flag, bitwise, found, nothing, either, gather}
-use Rattle.flags.proofs.Bits.{or-bit}
-use Rattle.flags.proofs.Gathered.{either-nothing}
+use Rattle.flags.specs.Flags.{pack, hasBit}
+use Rattle.flags.proofs.Bits.{pack-bit, or-bit, same-number}
+use Rattle.flags.proofs.Boundary.{boundary-none}
+use Rattle.flags.proofs.Elements.{some-same, some-never}
+use Rattle.collected.proofs.Marks.{gather, gather-bit}
 use Rattle.keys.specs.Keyed.{key, top, elementPoint, keys, nextKey}
 use Rattle.keys.proofs.Keys.{same-key, next-in}
 use Rattle.keys.proofs.Elements.{point-in-range}
-use Rattle.meetings.specs.Met.{degree, metByF, metByG, meetingOfF, meetingOfG, meetings}
-use Rattle.meetings.specs.Keyed.{Passed, marked, met}
+use Rattle.meetings.specs.Met.{degree, Test, boundOutside, boundInside, boundOn, boundBound, boundInner, innerBound, innerInner, boundOfG, someOfF, someOfG, meetings}
+use Rattle.meetings.specs.Keyed.{Passed, testsOfF, testsOfG, marks, named}
 use Rattle.meetings.proofs.Runs.{InOrder, run-same, run-next, run-count, gather-parts, gather-run}
 use Rattle.meetings.proofs.Elements.{in-order}
 
--- ---- flags
+-- ---- the marks of a run
 
-pub marked-or : (m n : ℕ) → marked (bitOr m n) ≡ either (marked m) (marked n)
-marked-or m n = λ i. bitwise (λ k. or-bit m n k i)
+abbrev marksOfF : (a b n : ℕ) → ℕ
+marksOfF a b n = pack (testsOfF a b n)
 
--- the note matters where one element has the point
-note-of-one : (a b x y : ℕ) → (a ≡ 1 → x ≡ y) → metByF a b x ≡ metByF a b y
-note-of-one a b x y h = go (eqb a 1) refl
+abbrev marksOfG : (a b : ℕ) → ℕ
+marksOfG a b = pack (testsOfG a b)
+
+-- The walk takes the note of the first element of a run. That is the one place where the boundary rule has to be "exactly one": a bound point is then that
+-- of one element of F, and of an inner point the note does not matter.
+note-of-one : (a b x y : ℕ) → (a ≡ 1 → x ≡ y) → marksOfF a b x ≡ marksOfF a b y
+unfolding isBoundary
+note-of-one a b x y h = go (isBoundary a) refl
   where
-    by : Bool → ℕ → Found
-    by one note =
-        found
-        ((one && (eqb b 0 && eqb note 0))
-        ∷ (one && (eqb b 0 && eqb note 1))
-        ∷ (one && (eqb b 0 && ltb 1 note))
-        ∷ (one && eqb b 1)
-        ∷ (one && ltb 1 b)
-        ∷ (ltb 1 a && eqb b 1)
-        ∷ (ltb 1 a && ltb 1 b)
-        ∷ [])
+    go : (t : Bool) → isBoundary a ≡ t → marksOfF a b x ≡ marksOfF a b y
+    go true e = ap (marksOfF a b) (h (eqb-true a 1 e))
+    go false e = rw e
 
-    go : (t : Bool) → eqb a 1 ≡ t → metByF a b x ≡ metByF a b y
-    go true e = ap (metByF a b) (h (eqb-true a 1 e))
-    go false e = ap (λ t. by t x) e ∙ sym (ap (λ t. by t y) e)
+-- where there is no run, there are no marks
+none-of-f : (b n : ℕ) → 0 ≡ marksOfF 0 b n
+none-of-f b n = rw boundary-none
 
-none-by-g : (a : ℕ) → metByG a 0 ≡ nothing
-none-by-g a = rw (and-false (eqb a 0))
+none-of-g : (a : ℕ) → 0 ≡ marksOfG a 0
+none-of-g a = rw (boundary-none, and-false (eqb a 0))
 
-regroup : (s a b c d : Found) → either (either s (either a c)) (either b d) ≡ either s (either (either a b) (either c d))
-regroup s a b c d = λ i. bitwise (λ k. bit (flag k (bits s)) (flag k (bits a)) (flag k (bits b)) (flag k (bits c)) (flag k (bits d)) i)
+regroup : (s a b c d : ℕ) → bitOr (bitOr s (bitOr a c)) (bitOr b d) ≡ bitOr s (bitOr (bitOr a b) (bitOr c d))
+regroup s a b c d =
+    same-number (bitOr (bitOr s (bitOr a c)) (bitOr b d)) (bitOr s (bitOr (bitOr a b) (bitOr c d)))
+    (λ k. simp or-bit (bit (hasBit s k) (hasBit a k) (hasBit b k) (hasBit c k) (hasBit d k)))
   where
     bit : (s a b c d : Bool) → ((s || (a || c)) || (b || d)) ≡ (s || ((a || b) || (c || d)))
     bit true a b c d = refl
@@ -113,35 +113,78 @@ module _ (s : List ℕ) (l : Layout) (is : IsObject s l) where
 -- ---- both objects
 
 module _ (s : List ℕ) (sc : Scene) (notes : List ℕ) where
-  abbrev leftOfF : ℕ → Found
-  leftOfF i = gather (meetingOfF s sc notes) (between i (sc .f .count))
+  -- the tests of an element of F, and of G; their marks, and those of all
+  abbrev testsAtF : ℕ → List Bool
+  testsAtF i = testsOfF (degree s (sc .f) (elementPoint s (sc .f) i)) (degree s (sc .g) (elementPoint s (sc .f) i)) (getD notes i 0)
 
-  abbrev leftOfG : ℕ → Found
-  leftOfG j = gather (meetingOfG s sc) (between j (sc .g .count))
+  abbrev testsAtG : ℕ → List Bool
+  testsAtG j = testsOfG (degree s (sc .f) (elementPoint s (sc .g) j)) (degree s (sc .g) (elementPoint s (sc .g) j))
+
+  abbrev ofF : ℕ → ℕ
+  ofF i = pack (testsAtF i)
+
+  abbrev ofG : ℕ → ℕ
+  ofG j = pack (testsAtG j)
+
+  abbrev allMarks : ℕ
+  allMarks = bitOr (gather ofF (elements (sc .f))) (gather ofG (elements (sc .g)))
+
+  -- by their names they are the meetings
+  all-named : named allMarks ≡ meetings s sc notes
+  all-named = λ i. record {
+    «bound_outside» = of-f 0 boundOutside refl i;
+    «bound_inside» = of-f 1 boundInside refl i;
+    «bound_on» = of-f 2 boundOn refl i;
+    «bound_bound» = of-f 3 boundBound refl i;
+    «bound_inner» = of-f 4 boundInner refl i;
+    «inner_bound» = of-f 5 innerBound refl i;
+    «inner_inner» = of-f 6 innerInner refl i;
+    «bound_of_g» = (bit 7 ∙ ap (λ b. b || someOfG s sc boundOfG) (some-never (elements (sc .f)))) i;
+  }
+    where
+      bit : (k : ℕ) → hasBit allMarks k ≡ some (λ i. getD (testsAtF i) k false) (elements (sc .f)) || some (λ j. getD (testsAtG j) k false) (elements (sc .g))
+      bit k =
+          or-bit (gather ofF (elements (sc .f))) (gather ofG (elements (sc .g))) k
+          ∙ ap₂ _||_ (gather-bit ofF (elements (sc .f)) k ∙ some-same _ _ (λ i. pack-bit (testsAtF i) k) (elements (sc .f)))
+          (gather-bit ofG (elements (sc .g)) k ∙ some-same _ _ (λ j. pack-bit (testsAtG j) k) (elements (sc .g)))
+
+      of-f : (k : ℕ) (t : Test)
+          → some (λ i. getD (testsAtF i) k false) (elements (sc .f)) || some (λ j. getD (testsAtG j) k false) (elements (sc .g)) ≡ someOfF s sc notes t || some (λ j. false) (elements (sc .g))
+          → hasBit allMarks k ≡ someOfF s sc notes t
+      of-f k t e = bit k ∙ e ∙ ap (λ b. someOfF s sc notes t || b) (some-never (elements (sc .g))) ∙ or-false (someOfF s sc notes t)
+
+  -- and of those that are left
+  abbrev leftOfF : ℕ → ℕ
+  leftOfF i = gather ofF (between i (sc .f .count))
+
+  abbrev leftOfG : ℕ → ℕ
+  leftOfG j = gather ofG (between j (sc .g .count))
 
   -- i elements of F and j of G are passed, and k is the lowest key of those that are left
-  pub record Walking (i j k : ℕ) (sofar : Found) : Type 0 where
+  pub record Walking (i j k : ℕ) (sofar : ℕ) : Type 0 where
     pub least : k ≡ min (nextKey s (sc .f) i) (nextKey s (sc .g) j)
     pub f-passed : (m : ℕ) → m < i → keys s (sc .f) m < k
     pub g-passed : (m : ℕ) → m < j → keys s (sc .g) m < k
-    pub all : either sofar (either (leftOfF i) (leftOfG j)) ≡ meetings s sc notes
+    pub all : bitOr sofar (bitOr (leftOfF i) (leftOfG j)) ≡ allMarks
 
-  pub walking : {i j k : ℕ} → i ≡ 0 → j ≡ 0 → k ≡ min (nextKey s (sc .f) i) (nextKey s (sc .g) j) → Walking i j k nothing
+  pub walking : {i j k : ℕ} → i ≡ 0 → j ≡ 0 → k ≡ min (nextKey s (sc .f) i) (nextKey s (sc .g) j) → Walking i j k 0
   walking a b e = record {
     least = e;
     f-passed = λ m h. absurd (omega arith);
     g-passed = λ m h. absurd (omega arith);
-    all = ap₂ (λ i j. either (leftOfF i) (leftOfG j)) a b ∙ ap₂ (λ l m. either (gather (meetingOfF s sc notes) l) (gather (meetingOfG s sc) m)) (sym (all-between (sc .f .count))) (sym (all-between (sc .g .count)));
+    all = ap₂ (λ i j. bitOr (leftOfF i) (leftOfG j)) a b ∙ ap₂ (λ l m. bitOr (gather ofF l) (gather ofG m)) (sym (all-between (sc .f .count))) (sym (all-between (sc .g .count)));
   }
 
   module _ (is-f : IsObject s (sc .f)) (is-g : IsObject s (sc .g)) (order-f : outOfOrder s (sc .f) ≡ Nothing) (order-g : outOfOrder s (sc .g) ≡ Nothing)
-      {i j k : ℕ} {sofar : Found} (w : Walking i j k sofar) where
+      {i j k : ℕ} {sofar : ℕ} (w : Walking i j k sofar) where
     -- at the end
-    pub walked : top ≤ k → sofar ≡ meetings s sc notes
+    pub walked : top ≤ k → named sofar ≡ meetings s sc notes
     walked h =
-        sym (either-nothing sofar)
-        ∙ ap₂ (λ l m. either sofar (either (gather (meetingOfF s sc notes) l) (gather (meetingOfG s sc) m))) (sym (between-none i (sc .f .count) (at-end s (sc .f) is-f order-f (omega (arith, w .least))))) (sym (between-none j (sc .g .count) (at-end s (sc .g) is-g order-g (omega (arith, w .least)))))
-        ∙ w .all
+        ap named
+        (sym (or-zero-r sofar)
+        ∙ ap₂ (λ l m. bitOr sofar (bitOr (gather ofF l) (gather ofG m))) (sym (between-none i (sc .f .count) (at-end s (sc .f) is-f order-f (omega (arith, w .least))))) (sym (between-none j (sc .g .count) (at-end s (sc .g) is-g order-g (omega (arith, w .least)))))
+        ∙ w .all)
+        ∙ all-named
 
     -- the runs of the key k
     module _ (low : k < top) {i′ j′ : ℕ} (few-f : i′ ≤ sc .f .count) (few-g : j′ ≤ sc .g .count) (p : Passed (sc .f .count) (keys s (sc .f)) k i i′) (q : Passed (sc .g .count) (keys s (sc .g)) k j j′) where
@@ -157,8 +200,8 @@ module _ (s : List ℕ) (sc : Scene) (notes : List ℕ) where
       degree-g : (v : Point) → T (inRange v) × (key v ≡ k) → degree s (sc .g) v ≡ j′ - j
       degree-g v h = run-degree s (sc .g) is-g order-g low least-g few-g q (w .g-passed) v (h .0) (h .1)
 
-      by-f : gather (meetingOfF s sc notes) (between i i′) ≡ metByF (i′ - i) (j′ - j) (getD notes i 0)
-      by-f = gather-run (meetingOfF s sc notes) (metByF (i′ - i) (j′ - j) (getD notes i 0)) i i′ (p .on) (λ e. ap (λ a. metByF a (j′ - j) (getD notes i 0)) (none e)) one
+      by-f : gather ofF (between i i′) ≡ marksOfF (i′ - i) (j′ - j) (getD notes i 0)
+      by-f = gather-run ofF (marksOfF (i′ - i) (j′ - j) (getD notes i 0)) i i′ (p .on) (λ e. none-of-f (j′ - j) (getD notes i 0) ∙ ap (λ a. marksOfF a (j′ - j) (getD notes i 0)) (none e)) one
         where
           none : i ≡ i′ → 0 ≡ i′ - i
           none e = omega arith
@@ -166,22 +209,22 @@ module _ (s : List ℕ) (sc : Scene) (notes : List ℕ) where
           first : (m : ℕ) → i ≤ m → m < i′ → i′ - i ≡ 1 → m ≡ i
           first m a b e = omega arith
 
-          one : (m : ℕ) → i ≤ m → m < i′ → meetingOfF s sc notes m ≡ metByF (i′ - i) (j′ - j) (getD notes i 0)
+          one : (m : ℕ) → i ≤ m → m < i′ → ofF m ≡ marksOfF (i′ - i) (j′ - j) (getD notes i 0)
           one m a b =
               let v = in-run s (sc .f) is-f order-f low least-f few-f p (w .f-passed) m a b in
-              ap₂ (λ a b. metByF a b (getD notes m 0)) (degree-f (elementPoint s (sc .f) m) v) (degree-g (elementPoint s (sc .f) m) v)
+              ap₂ (λ a b. marksOfF a b (getD notes m 0)) (degree-f (elementPoint s (sc .f) m) v) (degree-g (elementPoint s (sc .f) m) v)
               ∙ note-of-one (i′ - i) (j′ - j) (getD notes m 0) (getD notes i 0) (λ e. ap (λ n. getD notes n 0) (first m a b e))
 
-      by-g : gather (meetingOfG s sc) (between j j′) ≡ metByG (i′ - i) (j′ - j)
-      by-g = gather-run (meetingOfG s sc) (metByG (i′ - i) (j′ - j)) j j′ (q .on) (λ e. sym (none-by-g (i′ - i)) ∙ ap (metByG (i′ - i)) (none e)) one
+      by-g : gather ofG (between j j′) ≡ marksOfG (i′ - i) (j′ - j)
+      by-g = gather-run ofG (marksOfG (i′ - i) (j′ - j)) j j′ (q .on) (λ e. none-of-g (i′ - i) ∙ ap (marksOfG (i′ - i)) (none e)) one
         where
           none : j ≡ j′ → 0 ≡ j′ - j
           none e = omega arith
 
-          one : (m : ℕ) → j ≤ m → m < j′ → meetingOfG s sc m ≡ metByG (i′ - i) (j′ - j)
+          one : (m : ℕ) → j ≤ m → m < j′ → ofG m ≡ marksOfG (i′ - i) (j′ - j)
           one m a b =
               let v = in-run s (sc .g) is-g order-g low least-g few-g q (w .g-passed) m a b in
-              ap₂ metByG (degree-f (elementPoint s (sc .g) m) v) (degree-g (elementPoint s (sc .g) m) v)
+              ap₂ marksOfG (degree-f (elementPoint s (sc .g) m) v) (degree-g (elementPoint s (sc .g) m) v)
 
       pub further : i + j < i′ + j′
       further = go (ltb (nextKey s (sc .g) j) (nextKey s (sc .f) i)) refl
@@ -192,15 +235,15 @@ module _ (s : List ℕ) (sc : Scene) (notes : List ℕ) where
           go false e =
               ⊎-elim (λ g. absurd (p .other (subst (λ m. nextKey s (sc .f) m ≡ k) g (omega (arith, w .least, ltb-false (nextKey s (sc .g) j) (nextKey s (sc .f) i) e))))) (λ l. omega (arith, q .on)) (eq-or-lt-of-le (p .on))
 
-      pub walked-on : {k′ : ℕ} → k′ ≡ min (nextKey s (sc .f) i′) (nextKey s (sc .g) j′) → Walking i′ j′ k′ (either sofar (met (i′ - i) (j′ - j) (getD notes i 0)))
+      pub walked-on : {k′ : ℕ} → k′ ≡ min (nextKey s (sc .f) i′) (nextKey s (sc .g) j′) → Walking i′ j′ k′ (bitOr sofar (marks (i′ - i) (j′ - j) (getD notes i 0)))
       walked-on {k′} e = record {
         least = e;
         f-passed = run-passed s (sc .f) is-f order-f low least-f few-f p (w .f-passed) above;
         g-passed = run-passed s (sc .g) is-g order-g low least-g few-g q (w .g-passed) above;
         all =
-            ap₂ (λ a c. either (either sofar (either a c)) (either (leftOfF i′) (leftOfG j′))) (sym by-f) (sym by-g)
-            ∙ regroup sofar (gather (meetingOfF s sc notes) (between i i′)) (leftOfF i′) (gather (meetingOfG s sc) (between j j′)) (leftOfG j′)
-            ∙ ap₂ (λ a b. either sofar (either a b)) (sym (gather-parts (meetingOfF s sc notes) i i′ (sc .f .count) (p .on) few-f)) (sym (gather-parts (meetingOfG s sc) j j′ (sc .g .count) (q .on) few-g))
+            ap₂ (λ a c. bitOr (bitOr sofar (bitOr a c)) (bitOr (leftOfF i′) (leftOfG j′))) (sym by-f) (sym by-g)
+            ∙ regroup sofar (gather ofF (between i i′)) (leftOfF i′) (gather ofG (between j j′)) (leftOfG j′)
+            ∙ ap₂ (λ a b. bitOr sofar (bitOr a b)) (sym (gather-parts ofF i i′ (sc .f .count) (p .on) few-f)) (sym (gather-parts ofG j j′ (sc .g .count) (q .on) few-g))
             ∙ w .all;
       }
         where

@@ -1,15 +1,16 @@
--- How far a walk over the points of an object's elements has come, and what it collects.
+-- How far a walk over the points of an object's elements has come, and the marks that it collects.
 use Prim.Native.Nat.{ℕ, _<_, _≤_}
 use mathlib.Core.Path.{_≡_}
-use mathlib.Core.List.{List}
+use mathlib.Core.Bool.{Bool, false}
+use mathlib.Core.List.{List, [], _∷_}
+use lib.Bits.{bitOr}
 use Rattle.scene.specs.declared.Layout.{Layout}
 use Rattle.scene.specs.Read.{place}
 use Rattle.keys.specs.Keyed.{next, nextKey}
-use Rattle.flags.specs.declared.Found.{Found}
-use Rattle.flags.specs.Flags.{hasBit}
-use Rattle.flags.specs.Walk.{bitwise, either}
+use Rattle.flags.specs.Flags.{pack, hasBit}
 use Rattle.meetings.specs.declared.Cursor.{Cursor}
-use Rattle.meetings.specs.Met.{metByF, metByG}
+use Rattle.meetings.specs.declared.Meetings.{Meetings}
+use Rattle.meetings.specs.Met.{boundOutside, boundInside, boundOn, boundBound, boundInner, innerBound, innerInner, boundOfG}
 
 -- ---- the elements of an object
 
@@ -24,11 +25,36 @@ pub record Reached (s : List ℕ) (l : Layout) (c : Cursor) : Type 0 where
   pub stands : c .at ≡ place l (c .index)
   pub key-is : c .key ≡ nextKey s l (c .index)
 
--- ---- meetings
+-- ---- marks: a bit of a number for each test
 
--- flags as the bits of a number
-abbrev pub marked : ℕ → Found
-marked m = bitwise (λ k. hasBit m k)
+-- of a point by an element of F, by one of G, and by both
+abbrev pub testsOfF : (a b n : ℕ) → List Bool
+testsOfF a b n =
+    boundOutside a b n
+    ∷ boundInside a b n
+    ∷ boundOn a b n
+    ∷ boundBound a b n
+    ∷ boundInner a b n
+    ∷ innerBound a b n
+    ∷ innerInner a b n
+    ∷ []
 
-abbrev pub met : ℕ → ℕ → ℕ → Found
-met a b note = either (metByF a b note) (metByG a b)
+abbrev pub testsOfG : (a b : ℕ) → List Bool
+testsOfG a b = false ∷ false ∷ false ∷ false ∷ false ∷ false ∷ false ∷ boundOfG a b ∷ []
+
+abbrev pub marks : (a b n : ℕ) → ℕ
+marks a b n = bitOr (pack (testsOfF a b n)) (pack (testsOfG a b))
+
+-- the marks by their names
+abbrev pub named : ℕ → Meetings
+named m =
+    record {
+      «bound_outside» = hasBit m 0;
+      «bound_inside» = hasBit m 1;
+      «bound_on» = hasBit m 2;
+      «bound_bound» = hasBit m 3;
+      «bound_inner» = hasBit m 4;
+      «inner_bound» = hasBit m 5;
+      «inner_inner» = hasBit m 6;
+      «bound_of_g» = hasBit m 7;
+    }

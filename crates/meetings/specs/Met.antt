@@ -1,50 +1,80 @@
--- How elements of two objects meet at points, by degrees. Where a scene is taken, a line's boundary points are those of degree 1, an end of one object
--- lies on the other where it has a degree there too, and the flags at ends follow from the degrees that occur.
+-- How elements of two objects meet at points, by degrees: how many elements of an object have the point. Where a scene is taken, the boundary points of a
+-- line and all points of a points object are bound, an end of one object lies on the other where it has a degree there too, and the flags at ends and
+-- points follow from the degrees and notes that occur.
 use Prim.Native.Nat.{ℕ}
-use mathlib.Core.Bool.{false, _&&_}
-use mathlib.Core.List.{List, [], _∷_}
+use mathlib.Core.Bool.{Bool, not, _&&_}
+use mathlib.Core.List.{List}
 use lib.Dec.{eqb, ltb}
 use lib.ListN.{getD}
-use Rattle.whole.specs.Count.{count}
+use Rattle.whole.specs.Count.{some, count}
 use Rattle.plane.specs.declared.Point.{Point}
-use Rattle.plane.specs.Plane.{samePoint}
+use Rattle.plane.specs.Plane.{samePoint, isBoundary}
 use Rattle.scene.specs.declared.Layout.{Layout}
 use Rattle.scene.specs.declared.Scene.{Scene}
 use Rattle.scene.specs.Conditions.{elements}
 use Rattle.keys.specs.Keyed.{elementPoint}
-use Rattle.flags.specs.declared.Found.{Found}
-use Rattle.flags.specs.Walk.{found, either, gather}
+use Rattle.meetings.specs.declared.Meetings.{Meetings}
 
 module _ (s : List ℕ) (l : Layout) where
   -- how many elements have the point
   unfoldable pub degree : Point → ℕ
   degree v = count (λ i. samePoint (elementPoint s l i) v) (elements l)
 
--- a point with degree a in F and b in G, and the note of the one element of F that has it where a is 1. Bits 0 to 2: of F alone, with a note of 0, of 1
--- or of more; 3 and 4: of degree 1 in F and of 1, or more, in G; 5 and 6: of more in F and of 1, or more, in G
-abbrev pub metByF : ℕ → ℕ → ℕ → Found
-metByF a b note =
-    found
-    ((eqb a 1 && (eqb b 0 && eqb note 0))
-    ∷ (eqb a 1 && (eqb b 0 && eqb note 1))
-    ∷ (eqb a 1 && (eqb b 0 && ltb 1 note))
-    ∷ (eqb a 1 && eqb b 1)
-    ∷ (eqb a 1 && ltb 1 b)
-    ∷ (ltb 1 a && eqb b 1)
-    ∷ (ltb 1 a && ltb 1 b)
-    ∷ [])
+-- A point is bound in an object if the boundary rule holds of its degree there, and inner if some element has it and the rule does not hold
+abbrev pub isInner : ℕ → Bool
+isInner a = ltb 0 a && not (isBoundary a)
 
--- bit 7: of G alone, with degree 1
-abbrev pub metByG : ℕ → ℕ → Found
-metByG a b = found (false ∷ false ∷ false ∷ false ∷ false ∷ false ∷ false ∷ (eqb a 0 && eqb b 1) ∷ [])
+-- ---- the tests: of a point of degree a in F and b in G, with the note n of an element of F that has it
+
+abbrev pub Test : Type 0
+Test = (a b n : ℕ) → Bool
+
+-- bound in F, and none of G's: outside G, inside G and on it, by the note
+abbrev pub boundOutside : Test
+boundOutside a b n = isBoundary a && (eqb b 0 && eqb n 0)
+
+abbrev pub boundInside : Test
+boundInside a b n = isBoundary a && (eqb b 0 && eqb n 1)
+
+abbrev pub boundOn : Test
+boundOn a b n = isBoundary a && (eqb b 0 && ltb 1 n)
+
+-- of both, by its kind in F and its kind in G
+abbrev pub boundBound : Test
+boundBound a b n = isBoundary a && isBoundary b
+
+abbrev pub boundInner : Test
+boundInner a b n = isBoundary a && isInner b
+
+abbrev pub innerBound : Test
+innerBound a b n = isInner a && isBoundary b
+
+abbrev pub innerInner : Test
+innerInner a b n = isInner a && isInner b
+
+-- bound in G, and none of F's: whatever the note, of an element of G
+abbrev pub boundOfG : (a b : ℕ) → Bool
+boundOfG a b = eqb a 0 && isBoundary b
+
+-- ---- the meetings of two objects
 
 module _ (s : List ℕ) (sc : Scene) where
-  abbrev pub meetingOfF : List ℕ → ℕ → Found
-  meetingOfF notes i =
-      metByF (degree s (sc .f) (elementPoint s (sc .f) i)) (degree s (sc .g) (elementPoint s (sc .f) i)) (getD notes i 0)
+  -- some element of F passes, and some element of G
+  abbrev pub someOfF : List ℕ → Test → Bool
+  someOfF notes t = some (λ i. t (degree s (sc .f) (elementPoint s (sc .f) i)) (degree s (sc .g) (elementPoint s (sc .f) i)) (getD notes i 0)) (elements (sc .f))
 
-  abbrev pub meetingOfG : ℕ → Found
-  meetingOfG j = metByG (degree s (sc .f) (elementPoint s (sc .g) j)) (degree s (sc .g) (elementPoint s (sc .g) j))
+  abbrev pub someOfG : ((a b : ℕ) → Bool) → Bool
+  someOfG t = some (λ j. t (degree s (sc .f) (elementPoint s (sc .g) j)) (degree s (sc .g) (elementPoint s (sc .g) j))) (elements (sc .g))
 
-  abbrev pub meetings : List ℕ → Found
-  meetings notes = either (gather (meetingOfF notes) (elements (sc .f))) (gather meetingOfG (elements (sc .g)))
+  abbrev pub meetings : List ℕ → Meetings
+  meetings notes =
+      record {
+        «bound_outside» = someOfF notes boundOutside;
+        «bound_inside» = someOfF notes boundInside;
+        «bound_on» = someOfF notes boundOn;
+        «bound_bound» = someOfF notes boundBound;
+        «bound_inner» = someOfF notes boundInner;
+        «inner_bound» = someOfF notes innerBound;
+        «inner_inner» = someOfF notes innerInner;
+        «bound_of_g» = someOfG boundOfG;
+      }

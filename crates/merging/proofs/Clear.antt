@@ -14,7 +14,7 @@ use Rattle.scene.specs.declared.Scene.{Scene}
 use Rattle.scene.specs.Conditions.{indices, keep, half, isLeft, segments}
 use Rattle.segments.proofs.Indices.{indices-in, keep-in}
 use Rattle.checks.proofs.Laws.{SoundObject, SoundScene, left-in, all-ordered, split, across}
-use Rattle.flags.specs.Walk.{Clear}
+use Rattle.flags.specs.Elements.{Clear}
 use Rattle.flags.proofs.Clear.{clear-of}
 use Rattle.matrix.proofs.Common.{across-swap}
 use Rattle.adjoining.proofs.Members.{merge-in}

@@ -11,8 +11,8 @@ use Rattle.scene.specs.declared.Layout.{Layout}
 use Rattle.scene.specs.Read.{size, after, IsObject}
 use Rattle.scene.specs.Conditions.{isRegion, segments}
 use Rattle.segments.proofs.Walk.{object-fits}
-use Rattle.flags.specs.Walk.{edges}
-use Rattle.flags.proofs.ByElement.{outline-edges}
+use Rattle.flags.specs.Elements.{edges}
+use Rattle.flags.proofs.Elements.{outline-edges}
 use Rattle.adjoining.specs.Bytes.{merge, byteOf, overlapBytes}
 use Rattle.merging.specs.Walked.{mergedFrom}
 use Rattle.merging.proofs.Merging.{from-start}

@@ -14,8 +14,8 @@ use Rattle.segments.proofs.Elements.{region-segments}
 use Rattle.strands.specs.Noted.{Noted}
 use Rattle.checks.proofs.Laws.{SoundObject, left-in, segments-in-range, across}
 use Rattle.flags.specs.Flags.{hasSegment}
-use Rattle.flags.specs.Walk.{edges, sameIa}
-use Rattle.flags.proofs.ByElement.{outline-edges}
+use Rattle.flags.specs.Elements.{edges, sameIa}
+use Rattle.flags.proofs.Elements.{outline-edges}
 use Rattle.matrix.proofs.Common.{across-swap}
 use Rattle.classes.specs.Walked.{NextOfF, NextOfG, NextOfBoth}
 use Rattle.classes.proofs.Behind.{shared, edge-is}

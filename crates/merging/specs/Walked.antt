@@ -9,7 +9,7 @@ use Rattle.scene.specs.declared.Layout.{Layout}
 use Rattle.scene.specs.declared.Scene.{Scene}
 use Rattle.scene.specs.Conditions.{indices, keep, isRegion, half, isLeft}
 use Rattle.checks.proofs.Laws.{SoundScene}
-use Rattle.flags.specs.Walk.{edges}
+use Rattle.flags.specs.Elements.{edges}
 use Rattle.classes.proofs.Standing.{Standing}
 use Rattle.adjoining.specs.Bytes.{merge, byteOf}
 use Rattle.merging.specs.declared.Step.{Step}

@@ -11,7 +11,7 @@ ghost use lib.Dec.{T};
 ghost use Rattle.scene.specs.Read.{IsObject};
 ghost use Rattle.scene.specs.Conditions.{isRegion};
 ghost use Rattle.strands.specs.Noted.{Noted};
-ghost use Rattle.flags.specs.Walk.{edges};
+ghost use Rattle.flags.specs.Elements.{edges};
 ghost use Rattle.classes.proofs.Standing.{Standing};
 ghost use Rattle.adjoining.specs.Bytes.{overlapBytes};
 ghost use Rattle.merging.specs.Walked.{Stepped, TwoRegions, ByteStepped};

@@ -11,7 +11,7 @@ use Rattle.scene.specs.Read.{signed, coordinate, kindOf, shapeOf, recordAt, ele
 use Rattle.scene.specs.Conditions.{segments, inOrder, outOfOrder, partner, unpaired, touching, touchingItself, oddEnd, wrongIa, checkSceneBy, checkScene}
 use Rattle.flags.specs.Flags.{hasBit}
 use Rattle.masks.specs.Wanted.{wanted, vectorOfF, vectorOfG}
-use Rattle.flags.specs.Walk.{pointsOf, edges}
+use Rattle.flags.specs.Elements.{pointsOf, edges}
 use Rattle.cells.specs.declared.Explored.{Explored}
 use Rattle.matrix.specs.Matrix.{matrixOf}
 use Rattle.cells.specs.Explored.{exploredOf}

@@ -1,9 +1,9 @@
--- `classes::classes_of` meets its contract. The loop's invariant: the classes so far and those of the elements from `i` and `j` on are all, and what is
+-- `classes::classes_of` meets its contract. The loop's invariant: the marks so far and those of the elements from `i` and `j` on are all, and what is
 -- passed of either object comes before what is left of the other. The measure is the number of elements that are left.
 use Prim.Native.Nat.{ℕ, _+_, _-_, _≤_}
 use native.Mathlib.Omega.{arith}
-use mathlib.Core.Path.{_≡_, sym, ap, ap₂, subst, subst₂, _∙_}
-use mathlib.Core.Bool.{Bool, true, false, not}
+use mathlib.Core.Path.{_≡_, refl, ap, ap₂, subst, _∙_}
+use mathlib.Core.Bool.{Bool}
 use mathlib.Core.List.{List, []}
 use lib.ListN.{getD}
 use borrow.Author.Needs.{needs}
@@ -12,9 +12,8 @@ use Rattle.scene.specs.Read.{IsObject}
 use Rattle.scene.specs.Conditions.{checkScene}
 use Rattle.scene.proofs.Taken.{taken-object}
 use Rattle.checks.proofs.Laws.{SoundScene, sound-scene}
-use Rattle.flags.specs.declared.Found.{Found}
 use Rattle.classes.specs.declared.merged.Step.{Step}
-use Rattle.classes.specs.Classed.{classTests}
+use Rattle.classes.specs.Marked.{unsharedMarks, sharedMarks}
 use Rattle.classes.specs.Walked.{NextOfF, NextOfG, NextOfBoth, Stepped}
 use Rattle.classes.proofs.Walking.{Walking, walking, walking-f, walking-g, walking-both, walked}
 use Rattle.classes.proofs.classes_of.Statement.{statement}
@@ -36,7 +35,7 @@ few s l is = taken-object s (l .start) l is .few
 -- what came next, from the places of a turn
 module _ (d : tie.After-next-step Inv-loop μ-loop) where
   abbrev z : tie.Start Inv-loop μ-loop
-  z = d .before .before .before .before .before .before .before .before
+  z = d .before .before .before .before .before .before
 
   f-few : z .args .scene .f .count ≤ 1024
   f-few = few (z .args .s .now) (z .args .scene .f) (sound z .f-sound .read)
@@ -80,21 +79,12 @@ module _ (c : tie.After-a3 Inv-loop μ-loop) where
       NextOfBoth (a .s .now) (a .scene .f) (a .scene .g) (l .i) (l .j) (c .a3 .given .0 .0) (c .a3 .given .0 .1 .0)
   next3 = stepped d3 (c .a3 .given .1)
 
-nothing-requires : tie.Need-nothing-requires Inv-loop μ-loop
-nothing-requires c κs = search needs
-
-nothing-requires-2 : tie.Need-nothing-requires-2 Inv-loop μ-loop
-nothing-requires-2 c κs = search needs
-
 loop-holds : tie.Need-loop-holds Inv-loop μ-loop
-loop-holds c =
-    let a = c .before .before .before .before .before .before .args in
-    subst₂ (λ (x y : Found). Walking (a .s .now) (a .scene .f) (a .scene .g) (a .notes .now) x y 0 0) (sym (c .before .nothing .ensures)) (sym (c .nothing2 .ensures))
-    (walking (a .s .now) (a .scene .f) (a .scene .g) (a .notes .now))
+loop-holds c = let a = c .before .before .before .before .args in walking (a .s .now) (a .scene .f) (a .scene .g) (a .notes .now)
 
 next-step-requires : tie.Need-next-step-requires Inv-loop μ-loop
 next-step-requires c κs =
-    let o = sound (c .before .before .before .before .before .before .before) in
+    let o = sound (c .before .before .before .before .before) in
     (o .f-sound .read, o .g-sound .read, c .loop .inv .found-f .few, c .loop .inv .found-g .few)
 
 enum-known-a : tie.Need-enum-known-a Inv-loop μ-loop
@@ -109,26 +99,22 @@ shared-slice-read-unshared c = let e = c .before .before .before in omega (arith
 unshared-requires : tie.Need-unshared-requires Inv-loop μ-loop
 unshared-requires c κs = search needs
 
-either-requires : tie.Need-either-requires Inv-loop μ-loop
-either-requires c κs = search needs
-
 add-i : tie.Need-add-i Inv-loop μ-loop
-add-i c = let e = c .before .before .before .before .before in omega (arith, next1 e .there, f-few (d1 e))
+add-i c = let e = c .before .before .before .before in omega (arith, next1 e .there, f-few (d1 e))
 
 loop-less : tie.Need-loop-less Inv-loop μ-loop
 loop-less c =
-    let e = c .before .before .before .before .before in
+    let e = c .before .before .before .before in
     let n = next1 e in
     omega (arith, n .there, n .nexts .of-f .onwards, n .nexts .of-g .onwards, n .nexts .of-g .within)
 
 loop-again : tie.Need-loop-again Inv-loop μ-loop
 loop-again c =
-    let u = c .before in
-    let e = u .before .before .before .before in
+    let e = c .before .before .before .before in
     let a = e .a .given .0 .0 in
     let w = z (d1 e) .args in
     walking-f (sound (z (d1 e))) (w .notes .now) (d1 e .before .loop .inv) (next1 e)
-    (u .unshared .ensures ∙ ap (λ (above : Bool). classTests above false false false (getD (w .notes .now) a 0)) (u .before .before .is-above .ensures)) (c .either .ensures)
+    (c .unshared .ensures ∙ ap (λ (above : Bool). unsharedMarks above (getD (w .notes .now) a 0)) (c .before .before .is-above .ensures)) refl
 
 enum-known-a-2 : tie.Need-enum-known-a-2 Inv-loop μ-loop
 enum-known-a-2 c = search needs
@@ -145,26 +131,22 @@ shared-slice-read-unshared-2 c = let e = c .before .before .before in omega (ari
 unshared-requires-2 : tie.Need-unshared-requires-2 Inv-loop μ-loop
 unshared-requires-2 c κs = search needs
 
-either-requires-2 : tie.Need-either-requires-2 Inv-loop μ-loop
-either-requires-2 c κs = search needs
-
 add-j : tie.Need-add-j Inv-loop μ-loop
-add-j c = let e = c .before .before .before .before .before in omega (arith, next2 e .there, g-few (d2 e))
+add-j c = let e = c .before .before .before .before in omega (arith, next2 e .there, g-few (d2 e))
 
 loop-less-2 : tie.Need-loop-less-2 Inv-loop μ-loop
 loop-less-2 c =
-    let e = c .before .before .before .before .before in
+    let e = c .before .before .before .before in
     let n = next2 e in
     omega (arith, n .there, n .nexts .of-g .onwards, n .nexts .of-f .onwards, n .nexts .of-f .within)
 
 loop-again-2 : tie.Need-loop-again-2 Inv-loop μ-loop
 loop-again-2 c =
-    let u = c .before in
-    let e = u .before .before .before .before in
+    let e = c .before .before .before .before in
     let b = e .a2 .given .0 .1 .0 in
     let w = z (d2 e) .args in
     walking-g (sound (z (d2 e))) (w .notes .now) (d2 e .before .loop .inv) (next2 e)
-    (u .unshared2 .ensures ∙ ap (λ (above : Bool). classTests above false false false (getD (w .notes .now) (1024 + b) 0)) (u .before .before .is-above2 .ensures)) (c .either2 .ensures)
+    (c .unshared2 .ensures ∙ ap (λ (above : Bool). unsharedMarks above (getD (w .notes .now) (1024 + b) 0)) (c .before .before .is-above2 .ensures)) refl
 
 enum-known-a-3 : tie.Need-enum-known-a-3 Inv-loop μ-loop
 enum-known-a-3 c = search needs
@@ -178,48 +160,45 @@ is-above-requires-4 c κs = let e = c .before .before in (sound (z (d3 e)) .g-so
 shared-requires : tie.Need-shared-requires Inv-loop μ-loop
 shared-requires c κs = search needs
 
-either-requires-3 : tie.Need-either-requires-3 Inv-loop μ-loop
-either-requires-3 c κs = search needs
-
 shared-requires-2 : tie.Need-shared-requires-2 Inv-loop μ-loop
 shared-requires-2 c κs = search needs
 
-either-requires-4 : tie.Need-either-requires-4 Inv-loop μ-loop
-either-requires-4 c κs = search needs
-
 add-i-2 : tie.Need-add-i-2 Inv-loop μ-loop
-add-i-2 c = let e = c .before .before .before .before .before .before .before in omega (arith, next3 e .there-f, f-few (d3 e))
+add-i-2 c = let e = c .before .before .before .before .before in omega (arith, next3 e .there-f, f-few (d3 e))
 
 add-j-2 : tie.Need-add-j-2 Inv-loop μ-loop
-add-j-2 c = let e = c .before .before .before .before .before .before .before in omega (arith, next3 e .there-g, g-few (d3 e))
+add-j-2 c = let e = c .before .before .before .before .before in omega (arith, next3 e .there-g, g-few (d3 e))
 
 loop-less-3 : tie.Need-loop-less-3 Inv-loop μ-loop
 loop-less-3 c =
-    let n = next3 (c .before .before .before .before .before .before .before) in
+    let n = next3 (c .before .before .before .before .before) in
     omega (arith, n .there-f, n .there-g, n .nexts .of-f .onwards, n .nexts .of-g .onwards)
 
 loop-again-3 : tie.Need-loop-again-3 Inv-loop μ-loop
 loop-again-3 c =
-    let u = c .before in
-    let v = u .before .before in
-    let y = v .before in
+    let y = c .before .before in
     let e = y .before .before .before in
-    let a = e .a3 .given .0 .0 in
-    let b = e .a3 .given .0 .1 .0 in
-    let w = z (d3 e) .args in
     let above-f = y .before .is-above3 .ensures in
     let above-g = y .is-above4 .ensures in
-    walking-both (sound (z (d3 e))) (w .notes .now) (d3 e .before .loop .inv) (next3 e)
-    (v .shared .ensures (getD (w .notes .now) a 0) ∙ ap₂ (λ (own other : Bool). classTests own true other (not other) (getD (w .notes .now) a 0)) above-f above-g) (u .before .either3 .ensures)
-    (u .shared2 .ensures (getD (w .notes .now) (1024 + b) 0) ∙ ap₂ (λ (own other : Bool). classTests own true other (not other) (getD (w .notes .now) (1024 + b) 0)) above-g above-f) (c .either4 .ensures)
+    walking-both (sound (z (d3 e))) (z (d3 e) .args .notes .now) (d3 e .before .loop .inv) (next3 e)
+    (c .before .shared .ensures ∙ ap₂ sharedMarks above-f above-g) refl
+    (c .shared2 .ensures ∙ ap₂ sharedMarks above-g above-f) refl
 
 enum-told : tie.Need-enum-told Inv-loop μ-loop
 enum-told c = search needs
 
+named-requires : tie.Need-named-requires Inv-loop μ-loop
+named-requires c κs = search needs
+
+named-requires-2 : tie.Need-named-requires-2 Inv-loop μ-loop
+named-requires-2 c κs = search needs
+
 returns : tie.Need-returns Inv-loop μ-loop
 returns c =
-    let d = c .before .before in
-    walked (sound (z d)) (z d .args .notes .now) (d .before .loop .inv) (stepped d (c .enum-told .given .1))
+    let t = c .before .before in
+    let d = t .before .before in
+    let w = walked (sound (z d)) (z d .args .notes .now) (d .before .loop .inv) (stepped d (t .enum-told .given .1)) in
+    (c .before .named .ensures ∙ w .0, c .named2 .ensures ∙ w .1)
 
 pub classes-of-spec : {M : Type 1} → statement M
 classes-of-spec =
@@ -227,15 +206,12 @@ classes-of-spec =
     (tie.spec
     Inv-loop
     μ-loop
-    nothing-requires
-    nothing-requires-2
     loop-holds
     next-step-requires
     enum-known-a
     is-above-requires
     shared-slice-read-unshared
     unshared-requires
-    either-requires
     add-i
     loop-less
     loop-again
@@ -244,7 +220,6 @@ classes-of-spec =
     add-unshared
     shared-slice-read-unshared-2
     unshared-requires-2
-    either-requires-2
     add-j
     loop-less-2
     loop-again-2
@@ -252,12 +227,12 @@ classes-of-spec =
     is-above-requires-3
     is-above-requires-4
     shared-requires
-    either-requires-3
     shared-requires-2
-    either-requires-4
     add-i-2
     add-j-2
     loop-less-3
     loop-again-3
     enum-told
+    named-requires
+    named-requires-2
     returns)

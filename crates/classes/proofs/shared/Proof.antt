@@ -1,20 +1,18 @@
--- `classes::shared` meets its contract, for either side of each interior.
-use mathlib.Core.Path.{_≡_, refl}
-use mathlib.Core.Bool.{Bool, true, false, not, _&&_, Bool·beq}
-use mathlib.Core.List.{[], _∷_}
-use Rattle.flags.specs.Walk.{found}
-use Rattle.classes.specs.Classed.{classTests}
+-- `classes::shared` meets its contract: each way through the tests gives the one mark whose test holds.
 use Rattle.classes.proofs.shared.Statement.{statement}
 use Rattle.classes.proofs.shared.Tie as tie
 
 returns : tie.Need-returns
-returns c note = go (c .args .above) (c .args .other)
-  where
-    go : (above other : Bool) → found (false ∷ false ∷ false ∷ false ∷ (above && other) ∷ (not above && not other) ∷ not (Bool·beq above other) ∷ []) ≡ classTests above true other (not other) note
-    go true true = refl
-    go true false = refl
-    go false true = refl
-    go false false = refl
+returns c = simp (c .before .if1 .taken, c .if2 .taken)
+
+returns-2 : tie.Need-returns-2
+returns-2 c = simp (c .before .if1 .taken, c .if2 .left)
+
+returns-3 : tie.Need-returns-3
+returns-3 c = simp (c .before .if1 .left, c .if3 .taken)
+
+returns-4 : tie.Need-returns-4
+returns-4 c = simp (c .before .if1 .left, c .if3 .left)
 
 pub shared-spec : {M : Type 1} → statement M
-shared-spec = tie.close (tie.spec returns)
+shared-spec = tie.close (tie.spec returns returns-2 returns-3 returns-4)

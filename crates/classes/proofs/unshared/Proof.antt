@@ -1,21 +1,19 @@
--- `classes::unshared` meets its contract, for either side of the interior.
-use Prim.Native.Nat.{ℕ}
-use mathlib.Core.Path.{_≡_, refl}
-use mathlib.Core.Bool.{Bool, true, false, not, _&&_}
-use mathlib.Core.List.{[], _∷_}
-use lib.Dec.{eqb}
-use Rattle.flags.specs.Walk.{found}
-use Rattle.classes.specs.Classed.{classTests}
+-- `classes::unshared` meets its contract: each way through the tests gives the one mark whose test holds.
+use borrow.Author.Tests.{ne-eqb}
 use Rattle.classes.proofs.unshared.Statement.{statement}
 use Rattle.classes.proofs.unshared.Tie as tie
 
 returns : tie.Need-returns
-returns c = go (c .args .above) (c .args .note)
-  where
-    go : (above : Bool) (note : ℕ)
-        → found ((above && eqb note 0) ∷ (not above && eqb note 0) ∷ (above && not (eqb note 0)) ∷ (not above && not (eqb note 0)) ∷ []) ≡ classTests above false false false note
-    go true note = refl
-    go false note = refl
+returns c = simp (c .before .if1 .taken, c .if2 .taken)
+
+returns-2 : tie.Need-returns-2
+returns-2 c = simp (c .before .if1 .taken, c .if2 .left)
+
+returns-3 : tie.Need-returns-3
+returns-3 c = simp (ne-eqb (c .before .before .args .note) 0 (c .before .if1 .left), c .if3 .taken)
+
+returns-4 : tie.Need-returns-4
+returns-4 c = simp (ne-eqb (c .before .before .args .note) 0 (c .before .if1 .left), c .if3 .left)
 
 pub unshared-spec : {M : Type 1} → statement M
-unshared-spec = tie.close (tie.spec returns)
+unshared-spec = tie.close (tie.spec returns returns-2 returns-3 returns-4)

@@ -1,70 +1,81 @@
--- `meetings::meeting` meets its contract: each way through the tests is one line of the definition.
+-- `meetings::meeting` meets its contract: each way through the tests gives the one mark whose test holds.
 use Prim.Native.Nat.{ℕ, _<_}
 use native.Mathlib.Omega.{arith}
-use mathlib.Core.Path.{_≡_}
+use mathlib.Core.Path.{_≡_, sym, _∙_}
+use mathlib.Core.Bool.{Bool, true}
+use lib.Dec.{ltb}
+use borrow.Author.Needs.{needs}
 use borrow.Author.Tests.{ne-eqb, lt-ltb}
-use Rattle.whole.specs.Count.{odd}
-use Rattle.flags.specs.Flags.{hasBit}
+use Rattle.plane.specs.Plane.{isBoundary}
+use Rattle.flags.proofs.Boundary.{boundary-none}
 use Rattle.meetings.proofs.meeting.Statement.{statement}
 use Rattle.meetings.proofs.meeting.Tie as tie
+
+there : (n : ℕ) → (n ≡ 0 → ⊥) → ltb 0 n ≡ true
+there n h = lt-ltb 0 n (omega (arith, h))
 
 more : (n : ℕ) → (n ≡ 0 → ⊥) → (n ≡ 1 → ⊥) → 1 < n
 more n h k = omega (arith, h, k)
 
+-- the answers of the boundary rule
+module _ (d : tie.After-is-bound2) where
+  abbrev a : ℕ
+  a = d .before .before .args .a
+
+  abbrev b : ℕ
+  b = d .before .before .args .b
+
+  abbrev note : ℕ
+  note = d .before .before .args .note
+
+  in-f : {x : Bool} → d .before .is-bound .result ≡ x → isBoundary a ≡ x
+  in-f e = sym (d .before .is-bound .ensures) ∙ e
+
+  in-g : {x : Bool} → d .is-bound2 .result ≡ x → isBoundary b ≡ x
+  in-g e = sym (d .is-bound2 .ensures) ∙ e
+
+is-bound-requires : tie.Need-is-bound-requires
+is-bound-requires c κs = search needs
+
+is-bound-requires-2 : tie.Need-is-bound-requires-2
+is-bound-requires-2 c κs = search needs
+
 returns : tie.Need-returns
-unfolding hasBit odd
-returns c = rw (c .before .if1 .taken, c .if2 .taken)
+returns c = let d = c .before .before in simp (c .before .if1 .taken, boundary-none, in-g d (c .if2 .taken))
 
 returns-2 : tie.Need-returns-2
-unfolding hasBit odd
-returns-2 c = let z = c .before .before .args in rw (c .before .if1 .taken, ne-eqb (z .b) 1 (c .if2 .left))
+returns-2 c = let d = c .before .before in simp (c .before .if1 .taken, boundary-none, in-g d (c .if2 .left))
 
 returns-3 : tie.Need-returns-3
-unfolding hasBit odd
-returns-3 c = rw (c .before .before .if3 .taken, c .before .if4 .taken, c .if5 .taken)
+returns-3 c = let d = c .before .before .before .before in simp (ne-eqb (a d) 0 (c .before .before .before .if1 .left), there (a d) (c .before .before .before .if1 .left), c .before .before .if3 .taken, boundary-none, in-f d (c .before .if4 .taken), c .if5 .taken)
 
 returns-4 : tie.Need-returns-4
-unfolding hasBit odd
-returns-4 c = rw (c .before .before .before .if3 .taken, c .before .before .if4 .taken, c .if6 .taken)
+returns-4 c = let d = c .before .before .before .before .before in simp (ne-eqb (a d) 0 (c .before .before .before .before .if1 .left), there (a d) (c .before .before .before .before .if1 .left), c .before .before .before .if3 .taken, boundary-none, in-f d (c .before .before .if4 .taken), c .if6 .taken)
 
 returns-5 : tie.Need-returns-5
-unfolding hasBit odd
-returns-5 c =
-    let z = c .before .before .before .before .before .args in
-    rw (c .before .before .before .if3 .taken, c .before .before .if4 .taken, ne-eqb (z .note) 0 (c .before .if5 .left), ne-eqb (z .note) 1 (c .if6 .left), lt-ltb 1 (z .note) (more (z .note) (c .before .if5 .left) (c .if6 .left)))
+returns-5 c = let d = c .before .before .before .before .before in simp (ne-eqb (a d) 0 (c .before .before .before .before .if1 .left), there (a d) (c .before .before .before .before .if1 .left), c .before .before .before .if3 .taken, boundary-none, in-f d (c .before .before .if4 .taken), ne-eqb (note d) 0 (c .before .if5 .left), ne-eqb (note d) 1 (c .if6 .left), lt-ltb 1 (note d) (more (note d) (c .before .if5 .left) (c .if6 .left)))
 
 returns-6 : tie.Need-returns-6
-unfolding hasBit odd
-returns-6 c = rw (c .before .before .if3 .taken, c .if7 .taken)
+returns-6 c = let d = c .before .before .before in simp (ne-eqb (a d) 0 (c .before .before .if1 .left), there (a d) (c .before .before .if1 .left), c .before .if3 .taken, boundary-none, in-f d (c .if4 .left))
 
 returns-7 : tie.Need-returns-7
-unfolding hasBit odd
-returns-7 c =
-    let z = c .before .before .before .before .args in
-    rw (c .before .before .if3 .taken, ne-eqb (z .b) 0 (c .before .if4 .left), ne-eqb (z .b) 1 (c .if7 .left), lt-ltb 1 (z .b) (more (z .b) (c .before .if4 .left) (c .if7 .left)))
+returns-7 c = let d = c .before .before .before .before in simp (ne-eqb (a d) 0 (c .before .before .before .if1 .left), there (a d) (c .before .before .before .if1 .left), ne-eqb (b d) 0 (c .before .before .if3 .left), there (b d) (c .before .before .if3 .left), in-f d (c .before .if7 .taken), in-g d (c .if8 .taken))
 
 returns-8 : tie.Need-returns-8
-unfolding hasBit odd
-returns-8 c =
-    let z = c .before .before .before .args in
-    rw (c .if8 .taken, ne-eqb (z .a) 0 (c .before .before .if1 .left), ne-eqb (z .a) 1 (c .before .if3 .left), lt-ltb 1 (z .a) (more (z .a) (c .before .before .if1 .left) (c .before .if3 .left)))
+returns-8 c = let d = c .before .before .before .before in simp (ne-eqb (a d) 0 (c .before .before .before .if1 .left), there (a d) (c .before .before .before .if1 .left), ne-eqb (b d) 0 (c .before .before .if3 .left), there (b d) (c .before .before .if3 .left), in-f d (c .before .if7 .taken), in-g d (c .if8 .left))
 
 returns-9 : tie.Need-returns-9
-unfolding hasBit odd
-returns-9 c =
-    let z = c .before .before .before .before .args in
-    rw (c .if9 .taken, ne-eqb (z .a) 0 (c .before .before .before .if1 .left), ne-eqb (z .a) 1 (c .before .before .if3 .left), lt-ltb 1 (z .a) (more (z .a) (c .before .before .before .if1 .left) (c .before .before .if3 .left)))
+returns-9 c = let d = c .before .before .before .before in simp (ne-eqb (a d) 0 (c .before .before .before .if1 .left), there (a d) (c .before .before .before .if1 .left), ne-eqb (b d) 0 (c .before .before .if3 .left), there (b d) (c .before .before .if3 .left), in-f d (c .before .if7 .left), in-g d (c .if9 .taken))
 
 returns-10 : tie.Need-returns-10
-unfolding hasBit odd
-returns-10 c =
-    let z = c .before .before .before .before .args in
-    rw (ne-eqb (z .a) 0 (c .before .before .before .if1 .left), ne-eqb (z .a) 1 (c .before .before .if3 .left), lt-ltb 1 (z .a) (more (z .a) (c .before .before .before .if1 .left) (c .before .before .if3 .left)), ne-eqb (z .b) 1 (c .if9 .left), lt-ltb 1 (z .b) (more (z .b) (c .before .if8 .left) (c .if9 .left)))
+returns-10 c = let d = c .before .before .before .before in simp (ne-eqb (a d) 0 (c .before .before .before .if1 .left), there (a d) (c .before .before .before .if1 .left), ne-eqb (b d) 0 (c .before .before .if3 .left), there (b d) (c .before .before .if3 .left), in-f d (c .before .if7 .left), in-g d (c .if9 .left))
 
 pub meeting-spec : {M : Type 1} → statement M
 meeting-spec =
     tie.close
     (tie.spec
+    is-bound-requires
+    is-bound-requires-2
     returns
     returns-2
     returns-3

@@ -1,10 +1,8 @@
--- `features::question::swept_vectors` meets its contract: the masks, the flags by meetings and classes, and the wanted ones packed.
-use mathlib.Core.Path.{_≡_, sym, ap, ap₂, _∙_}
-use mathlib.Core.List.{List}
-use Prim.Native.Nat.{ℕ}
+-- `features::question::swept_vectors` meets its contract: the masks, the flags by meetings and classes, and those that are wanted.
+use mathlib.Core.Path.{sym, ap, ap₂, _∙_}
 use borrow.Author.Needs.{needs}
 use Rattle.checks.proofs.Laws.{SoundScene}
-use Rattle.flags.specs.Walk.{masked, allFlags}
+use Rattle.flags.specs.Flags.{pack}
 use Rattle.gathered.specs.Table.{flagsOfFBy, flagsOfGBy}
 use Rattle.gathered.proofs.Theorem.{flags-of-f, flags-of-g}
 use Rattle.features.proofs.Answered.{accepted, vector-f, vector-g}
@@ -26,8 +24,8 @@ wanted-requires c κs = search needs
 wanted-requires-2 : tie.Need-wanted-requires-2
 wanted-requires-2 c κs = search needs
 
-meetings-requires : tie.Need-meetings-requires
-meetings-requires c κs =
+meetings-of-requires : tie.Need-meetings-of-requires
+meetings-of-requires c κs =
     let z = start c in
     let o = taken z in
     (o .f-sound .read, o .g-sound .read, o .f-sound .order, o .g-sound .order, z .pre .1)
@@ -41,27 +39,9 @@ flags-of-f-requires c κs = search needs
 flags-of-g-requires : tie.Need-flags-of-g-requires
 flags-of-g-requires c κs = search needs
 
-unpacked-requires : tie.Need-unpacked-requires
-unpacked-requires c κs = search needs
-
-masked-requires : tie.Need-masked-requires
-masked-requires c κs = search needs
-
-packed-requires : tie.Need-packed-requires
-packed-requires c κs = search needs
-
-unpacked-requires-2 : tie.Need-unpacked-requires-2
-unpacked-requires-2 c κs = search needs
-
-masked-requires-2 : tie.Need-masked-requires-2
-masked-requires-2 c κs = search needs
-
-packed-requires-2 : tie.Need-packed-requires-2
-packed-requires-2 c κs = search needs
-
 returns : tie.Need-returns
 returns c =
-    let classed = c .before .before .before .before .before .before .before .before in
+    let classed = c .before .before in
     let met = classed .before in
     let wanted = met .before in
     let z = start wanted in
@@ -69,13 +49,11 @@ returns c =
     let m = wanted .before .before .masks-of .ensures in
     λ i. record {
       f =
-          vector-f (a .s .now) (a .scene) (a .want-f) (a .want-g) (c .before .before .before .before .before .unpacked .ensures) (c .before .before .before .packed .ensures) (m .0) (wanted .before .wanted .ensures)
-          (c .before .before .before .before .masked .ensures
-          ∙ ap (masked (c .before .before .before .before .before .unpacked .result)) (c .before .before .before .before .before .before .before .flags-of-f .ensures ∙ ap₂ (flagsOfFBy (a .scene .f .shape) (a .scene .g .shape)) (met .meetings .ensures) (classed .classes-of .ensures .0) ∙ sym (flags-of-f (taken z) (z .pre .2)))) i;
+          vector-f (a .s .now) (a .scene) (a .want-f) (a .want-g) (m .0) (wanted .before .wanted .ensures)
+          (c .before .flags-of-f .ensures ∙ ap pack (ap₂ (flagsOfFBy (a .scene .f .shape) (a .scene .g .shape)) (met .meetings-of .ensures) (classed .classes-of .ensures .0) ∙ sym (flags-of-f (taken z) (z .pre .2)))) i;
       g =
-          vector-g (a .s .now) (a .scene) (a .want-f) (a .want-g) (c .before .before .unpacked2 .ensures) (c .packed2 .ensures) (m .1) (wanted .wanted2 .ensures)
-          (c .before .masked2 .ensures
-          ∙ ap (masked (c .before .before .unpacked2 .result)) (c .before .before .before .before .before .before .flags-of-g .ensures ∙ ap₂ (flagsOfGBy (a .scene .f .shape) (a .scene .g .shape)) (met .meetings .ensures) (classed .classes-of .ensures .1) ∙ sym (flags-of-g (taken z) (z .pre .2)))) i;
+          vector-g (a .s .now) (a .scene) (a .want-f) (a .want-g) (m .1) (wanted .wanted2 .ensures)
+          (c .flags-of-g .ensures ∙ ap pack (ap₂ (flagsOfGBy (a .scene .f .shape) (a .scene .g .shape)) (met .meetings-of .ensures) (classed .classes-of .ensures .1) ∙ sym (flags-of-g (taken z) (z .pre .2)))) i;
     }
 
 pub swept-vectors-spec : {M : Type 1} → statement M
@@ -85,14 +63,8 @@ swept-vectors-spec =
     masks-of-requires
     wanted-requires
     wanted-requires-2
-    meetings-requires
+    meetings-of-requires
     classes-of-requires
     flags-of-f-requires
     flags-of-g-requires
-    unpacked-requires
-    masked-requires
-    packed-requires
-    unpacked-requires-2
-    masked-requires-2
-    packed-requires-2
     returns)

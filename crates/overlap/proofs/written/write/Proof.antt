@@ -6,7 +6,7 @@ use mathlib.Core.Path.{sym, ap, subst}
 use mathlib.Core.List.{List, [], _∷_, map}
 use lib.ListN.{length}
 use borrow.Author.Needs.{needs}
-use Rattle.flags.specs.Walk.{edges}
+use Rattle.flags.specs.Elements.{edges}
 use Rattle.classes.proofs.Standing.{Standing, standing}
 use Rattle.adjoining.specs.Bytes.{byteOf}
 use Rattle.merging.specs.declared.ByteStep.{ByteStep}

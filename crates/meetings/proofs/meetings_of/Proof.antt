@@ -1,22 +1,20 @@
--- `meetings::meetings` meets its contract. The loop's invariant: both cursors are at the elements that are left, and the flags so far are those of the
+-- `meetings::meetings_of` meets its contract. The loop's invariant: both cursors are at the elements that are left, and the marks so far are those of the
 -- elements that are passed. The measure is the number of elements that are left.
 use Prim.Native.Nat.{ℕ, _+_, _-_, _<_, _≤_, min}
 use native.Mathlib.Omega.{arith}
 use mathlib.Core.Path.{_≡_, sym, ap, ap₂, subst, _∙_}
+use lib.Bits.{bitOr}
 use lib.ListN.{getD}
-use Rattle.whole.specs.Count.{odd}
 use Rattle.scene.proofs.Taken.{taken-object}
-use Rattle.flags.specs.Flags.{hasBit}
-use Rattle.flags.specs.Walk.{either}
 use Rattle.keys.specs.Keyed.{nextKey}
-use Rattle.meetings.specs.Keyed.{Reached, marked, met}
-use Rattle.meetings.proofs.Walking.{marked-or, Walking, walking, walked, further, walked-on}
-use Rattle.meetings.proofs.meetings.Statement.{statement}
-use Rattle.meetings.proofs.meetings.Tie as tie
+use Rattle.meetings.specs.Keyed.{Reached, marks}
+use Rattle.meetings.proofs.Walking.{Walking, walking, walked, further, walked-on}
+use Rattle.meetings.proofs.meetings_of.Statement.{statement}
+use Rattle.meetings.proofs.meetings_of.Tie as tie
 
 abbrev Inv-loop : tie.InvT-loop
 Inv-loop s notes f g step-f step-g c₀ d₀ sofar₀ k₀ c d sofar k =
-    Reached s f c × Reached s g d × Walking s (record { f = f; g = g }) notes (c .index) (d .index) k (marked sofar)
+    Reached s f c × Reached s g d × Walking s (record { f = f; g = g }) notes (c .index) (d .index) k sofar
 
 abbrev μ-loop : tie.MeasureT-loop
 μ-loop s notes f g step-f step-g c₀ d₀ sofar₀ k₀ c d sofar k = f .count + g .count - (c .index + d .index)
@@ -57,7 +55,7 @@ module _ (c : tie.After-pass2 Inv-loop μ-loop) where
       (c .before .pass .ensures .1) (c .pass2 .ensures .1)
 
   after : {k : ℕ} → k ≡ min (nextKey (z .args .s .now) (z .args .scene .f) next-i) (nextKey (z .args .s .now) (z .args .scene .g) next-j)
-      → Walking (z .args .s .now) (z .args .scene) (z .args .notes .now) next-i next-j k (either (marked (at-loop .loop .sofar)) (met (next-i - i) (next-j - j) (getD (z .args .notes .now) i 0)))
+      → Walking (z .args .s .now) (z .args .scene) (z .args .notes .now) next-i next-j k (bitOr (at-loop .loop .sofar) (marks (next-i - i) (next-j - j) (getD (z .args .notes .now) i 0)))
   after =
       walked-on (z .args .s .now) (z .args .scene) (z .args .notes .now) (z .pre .0) (z .pre .1) (z .pre .2) (z .pre .3) (at-loop .loop .inv .2) (c .before .before .loop-test .taken) few-f few-g
       (c .before .pass .ensures .1) (c .pass2 .ensures .1)
@@ -78,7 +76,6 @@ least-requires : tie.Need-least-requires Inv-loop μ-loop
 least-requires c κs = tt
 
 loop-holds : tie.Need-loop-holds Inv-loop μ-loop
-unfolding hasBit odd
 loop-holds c =
     let z = c .before .before .before .before .before .before .before .before .before .args in
     let f = c .before .before .first .ensures in
@@ -123,21 +120,21 @@ loop-again c =
       f,
       g,
       subst (Walking (z d .args .s .now) (z d .args .scene) (z d .args .notes .now) (next-i d) (next-j d) (c .least2 .result))
-          (sym (marked-or (at-loop d .loop .sofar) (c .before .meeting .result) ∙ ap (either (marked (at-loop d .loop .sofar))) (c .before .meeting .ensures)))
+          (sym (ap (bitOr (at-loop d .loop .sofar)) (c .before .meeting .ensures)))
           (after d (c .least2 .ensures ∙ ap₂ min (f .key-is) (g .key-is))),
     )
 
-unpacked-requires : tie.Need-unpacked-requires Inv-loop μ-loop
-unpacked-requires c κs = tt
+named-requires : tie.Need-named-requires Inv-loop μ-loop
+named-requires c κs = tt
 
 returns : tie.Need-returns Inv-loop μ-loop
 returns c =
     let h = c .before .before in
     let z = start h in
-    c .unpacked .ensures ∙ walked (z .args .s .now) (z .args .scene) (z .args .notes .now) (z .pre .0) (z .pre .1) (z .pre .2) (z .pre .3) (h .loop .inv .2) (c .before .loop-test .left)
+    c .named .ensures ∙ walked (z .args .s .now) (z .args .scene) (z .args .notes .now) (z .pre .0) (z .pre .1) (z .pre .2) (z .pre .3) (h .loop .inv .2) (c .before .loop-test .left)
 
-pub meetings-spec : {M : Type 1} → statement M
-meetings-spec =
+pub meetings-of-spec : {M : Type 1} → statement M
+meetings-of-spec =
     tie.close
     (tie.spec
     Inv-loop
@@ -157,5 +154,5 @@ meetings-spec =
     least-requires-2
     loop-less
     loop-again
-    unpacked-requires
+    named-requires
     returns)
