@@ -16,7 +16,7 @@ ghost use Rattle.classes.specs.Marked.{unsharedMarks, sharedMarks, named
 
 pub mod merged;
 
-// Which classes the segments of an object have beside the other object. Each has its own interior above it, or not, and not where the object is a line.
+// Which classes the segments of an object have beside the other object: with their own interior above them, or not. A line's have none.
 pub struct Classes {
     // None of the other's, outside it or inside, by a note of 0 or another: (0/1), (1/0), (1/2), (2/1).
     pub above_outside: bool,

@@ -1,5 +1,5 @@
--- Which meetings and classes make each flag, for each pair of types, bit 0 first: a flag by its name in document 01, and what makes it. m are the meetings of
--- the two objects, c the classes of the object whose flags they are.
+-- Which meetings and classes make each flag, for each pair of types, bit 0 first, with the flag's name in document 01 behind it. m are the meetings of the
+-- two objects, c the classes of the object whose flags they are.
 use mathlib.Core.Bool.{Bool, _||_}
 use mathlib.Core.List.{List, [], _∷_}
 use Rattle.scene.specs.declared.Shape.{Shape}
@@ -7,7 +7,7 @@ use Rattle.scene.specs.declared.Shape.the-variants.{Points, Line, Region}
 use Rattle.meetings.specs.declared.Meetings.{Meetings}
 use Rattle.classes.specs.declared.Classes.{Classes}
 
--- a boundary point of F, or a point of a points object, that is none of G's elements' points, whatever its note
+-- a point that is bound in F and none of G's, whatever its note
 abbrev pub alone : Meetings → Bool
 alone m = m .«bound_outside» || m .«bound_inside» || m .«bound_on»
 

@@ -29,7 +29,7 @@ isInner a = ltb 0 a && not (isBoundary a)
 abbrev pub Test : Type 0
 Test = (a b n : ℕ) → Bool
 
--- bound in F, and none of G's: outside G, inside G and on it, by the note
+-- bound in F, and none of G's: outside G, inside G and on it, by the note. Beside a line the first two are both "off it".
 abbrev pub boundOutside : Test
 boundOutside a b n = isBoundary a && (eqb b 0 && eqb n 0)
 

@@ -16,7 +16,7 @@ ghost use Rattle.meetings.specs.Keyed.{Passed, Reached, marks, named};
 // How elements of F and of G meet at points: for each kind of point, whether there is one. By the number of an object's elements that have it, its degree
 // there, a point is bound in the object if the boundary rule holds of the degree, and inner if some element has it and the rule does not hold.
 pub struct Meetings {
-    // Bound in F, and none of G's: outside G, inside G or on it, by a note of 0, of 1 or of more.
+    // Bound in F, and none of G's: outside G, inside G or on it, by a note of 0, of 1 or of more. Beside a line the first two are both "off it".
     pub bound_outside: bool,
     pub bound_inside: bool,
     pub bound_on: bool,
