@@ -7,7 +7,7 @@ use native.Mathlib.Omega.{arith}
 use mathlib.Core.Path.{_≡_, refl, sym, ap, subst, subst₂, _∙_}
 use mathlib.Core.Logic.{⊎-elim}
 use mathlib.Core.Bool.{Bool, true, false, not, _&&_, _||_, true≢false}
-use mathlib.Core.List.{List, [], _∷_}
+use mathlib.Core.List.{List, [], _∷_, map}
 use lib.Dec.{T, eqb}
 use Rattle.whole.proofs.Logic.{and-left, and-right, and-make, or-cases, or-left, or-right, is-true, true-is, refute, same-test, some-find, some-make, in-map, map-in}
 use Rattle.plane.specs.declared.Segment.{Segment}
@@ -21,7 +21,8 @@ use Rattle.checks.proofs.Laws.{SoundObject, left-in, in-left, all-ordered}
 use Rattle.flags.specs.Flags.{Edge, outline, hasSegment, pack}
 use Rattle.flags.specs.Elements.{edgeOf, edges, sameIa, sameEdge, hasEdge}
 use Rattle.flags.proofs.Elements.{outline-edges}
-use Rattle.classes.specs.Marked.{unsharedMarks, sharedMarks, testsAt}
+use Rattle.classes.specs.Classed.{aboveOutside, belowOutside, aboveInside, belowInside, bothAbove, bothBelow, opposite}
+use Rattle.classes.specs.Marked.{unsharedMarks, sharedMarks}
 use Rattle.classes.specs.Walked.{NoneLeft}
 use Rattle.classes.proofs.Merging.{left-has}
 
@@ -93,6 +94,19 @@ module _ {s : List ℕ} {l : Layout} (o : SoundObject s l) where
       go (no d) (no w) = omega arith
 
 -- ---- the class of the next segment
+
+-- the tests of the element i, in the order of the marks; a right halfsegment has no class
+abbrev pub testsAt : List ℕ → (own other : Layout) (note : ℕ → ℕ) → ℕ → List Bool
+testsAt s own other note i =
+    map (λ t. isLeft s own i && t i)
+    (aboveOutside s own other note
+    ∷ belowOutside s own other note
+    ∷ aboveInside s own other note
+    ∷ belowInside s own other note
+    ∷ bothAbove s own other
+    ∷ bothBelow s own other
+    ∷ opposite s own other
+    ∷ [])
 
 -- an edge of a region is one of its segments
 pub edge-segment : (R : List Edge) (t : Segment) (above : Bool) → T (hasEdge R t above) → T (hasSegment (outline R) t)

@@ -16,9 +16,9 @@ use Rattle.flags.proofs.Bits.{pack-bit}
 use Rattle.flags.proofs.Elements.{some-same}
 use Rattle.collected.proofs.Marks.{gather, gather-bit, Gathering, gathering, gathered-one, gathered-none, gathered-all}
 use Rattle.classes.specs.Classed.{classes, classesOfF, classesOfG}
-use Rattle.classes.specs.Marked.{unsharedMarks, sharedMarks, testsAt, named}
+use Rattle.classes.specs.Marked.{unsharedMarks, sharedMarks, named}
 use Rattle.classes.specs.Walked.{NextLeft, Nexts, NextOfF, NextOfG, NextOfBoth}
-use Rattle.classes.proofs.Behind.{marks-unshared, marks-shared}
+use Rattle.classes.proofs.Behind.{testsAt, marks-unshared, marks-shared}
 use Rattle.classes.proofs.Standing.{Standing, standing, stands-next, one-segment, standing-f, alone-f, standing-g, alone-g, standing-both}
 
 -- ---- over one object

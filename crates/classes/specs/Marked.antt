@@ -1,13 +1,10 @@
--- The marks that the walk over the left halfsegments collects: a bit of a number for each class.
+-- The marks that the walk over the left halfsegments collects: a bit of a number for each class, in their order.
 use Prim.Native.Nat.{ℕ}
 use mathlib.Core.Bool.{Bool, false, not, _&&_, _||_}
-use mathlib.Core.List.{List, [], _∷_}
+use mathlib.Core.List.{[], _∷_}
 use lib.Dec.{eqb}
-use Rattle.scene.specs.declared.Layout.{Layout}
-use Rattle.scene.specs.Conditions.{isLeft}
 use Rattle.flags.specs.Flags.{pack, hasBit}
 use Rattle.classes.specs.declared.Classes.{Classes}
-use Rattle.classes.specs.Classed.{aboveOutside, belowOutside, aboveInside, belowInside, bothAbove, bothBelow, opposite}
 
 -- of a segment that is none of the other's
 abbrev pub unsharedMarks : (above : Bool) (note : ℕ) → ℕ
@@ -18,18 +15,6 @@ unsharedMarks above note =
 abbrev pub sharedMarks : (above other : Bool) → ℕ
 sharedMarks above other =
     pack (false ∷ false ∷ false ∷ false ∷ (above && other) ∷ (not above && not other) ∷ (above && not other || not above && other) ∷ [])
-
--- the tests of the element i; a right halfsegment has no class
-abbrev pub testsAt : List ℕ → (own other : Layout) (note : ℕ → ℕ) → ℕ → List Bool
-testsAt s own other note i =
-    (isLeft s own i && aboveOutside s own other note i)
-    ∷ (isLeft s own i && belowOutside s own other note i)
-    ∷ (isLeft s own i && aboveInside s own other note i)
-    ∷ (isLeft s own i && belowInside s own other note i)
-    ∷ (isLeft s own i && bothAbove s own other i)
-    ∷ (isLeft s own i && bothBelow s own other i)
-    ∷ (isLeft s own i && opposite s own other i)
-    ∷ []
 
 -- the marks by their names
 abbrev pub named : ℕ → Classes

@@ -3,8 +3,8 @@ use classes::Classes;
 use meetings::Meetings;
 use scene::Shape;
 ghost use mathlib.Core.Path.{_≡_};
-ghost use Rattle.meetings.specs.declared.Meetings.{Meetings as OfPoints};
-ghost use Rattle.classes.specs.declared.Classes.{Classes as OfSegments};
+ghost use Rattle.meetings.specs.declared.Meetings.{Meetings};
+ghost use Rattle.classes.specs.declared.Classes.{Classes};
 ghost use Rattle.flags.specs.Flags.{pack};
 ghost use Rattle.gathered.specs.Table.{alone, shared, unshared, flagsOfFBy, flagsOfGBy};
 
@@ -32,7 +32,7 @@ fn unshared(c: Classes) -> bool
 // ---- the flags of F, for each pair of types
 
 fn points_points_f(m: Meetings) -> u16
-    ensures { λ r. ⌜ ((c : OfSegments) → r ≡ pack (flagsOfFBy Shape.Points Shape.Points m c)) ⌝ }
+    ensures { λ r. ⌜ ((c : Classes) → r ≡ pack (flagsOfFBy Shape.Points Shape.Points m c)) ⌝ }
 {
     collected::packed_four(
         alone(m), // poi_disjoint
@@ -43,7 +43,7 @@ fn points_points_f(m: Meetings) -> u16
 }
 
 fn points_line_f(m: Meetings) -> u16
-    ensures { λ r. ⌜ ((c : OfSegments) → r ≡ pack (flagsOfFBy Shape.Points Shape.Line m c)) ⌝ }
+    ensures { λ r. ⌜ ((c : Classes) → r ≡ pack (flagsOfFBy Shape.Points Shape.Line m c)) ⌝ }
 {
     collected::packed_four(
         m.bound_outside | m.bound_inside, // poi_disjoint
@@ -54,7 +54,7 @@ fn points_line_f(m: Meetings) -> u16
 }
 
 fn points_region_f(m: Meetings) -> u16
-    ensures { λ r. ⌜ ((c : OfSegments) → r ≡ pack (flagsOfFBy Shape.Points Shape.Region m c)) ⌝ }
+    ensures { λ r. ⌜ ((c : Classes) → r ≡ pack (flagsOfFBy Shape.Points Shape.Region m c)) ⌝ }
 {
     collected::packed_four(
         m.bound_inside, // poi_inside
@@ -112,7 +112,7 @@ fn region_region_f(m: Meetings, c: Classes) -> u16
 // ---- the flags of G
 
 fn points_points_g(m: Meetings) -> u16
-    ensures { λ r. ⌜ ((c : OfSegments) → r ≡ pack (flagsOfGBy Shape.Points Shape.Points m c)) ⌝ }
+    ensures { λ r. ⌜ ((c : Classes) → r ≡ pack (flagsOfGBy Shape.Points Shape.Points m c)) ⌝ }
 {
     collected::packed_four(
         m.bound_of_g, // poi_disjoint
@@ -123,7 +123,7 @@ fn points_points_g(m: Meetings) -> u16
 }
 
 fn points_line_g(m: Meetings) -> u16
-    ensures { λ r. ⌜ ((c : OfSegments) → r ≡ pack (flagsOfGBy Shape.Points Shape.Line m c)) ⌝ }
+    ensures { λ r. ⌜ ((c : Classes) → r ≡ pack (flagsOfGBy Shape.Points Shape.Line m c)) ⌝ }
 {
     collected::packed_four(
         m.bound_of_g, // bound_poi_disjoint
@@ -145,7 +145,7 @@ fn line_line_g(m: Meetings, c: Classes) -> u16
 }
 
 fn line_region_g(c: Classes) -> u16
-    ensures { λ r. ⌜ ((m : OfPoints) → r ≡ pack (flagsOfGBy Shape.Line Shape.Region m c)) ⌝ }
+    ensures { λ r. ⌜ ((m : Meetings) → r ≡ pack (flagsOfGBy Shape.Line Shape.Region m c)) ⌝ }
 {
     collected::packed_four(
         unshared(c), // seg_unshared
@@ -156,7 +156,7 @@ fn line_region_g(c: Classes) -> u16
 }
 
 fn region_region_g(c: Classes) -> u16
-    ensures { λ r. ⌜ ((m : OfPoints) → r ≡ pack (flagsOfGBy Shape.Region Shape.Region m c)) ⌝ }
+    ensures { λ r. ⌜ ((m : Meetings) → r ≡ pack (flagsOfGBy Shape.Region Shape.Region m c)) ⌝ }
 {
     collected::packed_four(
         c.above_outside, // (0/1)
