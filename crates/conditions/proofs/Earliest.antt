@@ -248,9 +248,9 @@ module _ (s : List ℕ) (l : Layout) (is : IsObject s l) (order : outOfOrder s l
           (and-make (half s l i .«is_left») (byTest i) (is-true _ left) (subst T (sym one-rule) t))
 
     -- the partner of a right halfsegment comes before it
-    left-first : (region : isRegion (l .shape) ≡ true) (i : ℕ) → i < l .count → half s l i .«is_left» ≡ false → (p : Partner s l i) → p .index ≤ i
+    pub left-first : hasSegments (l .shape) ≡ true → (i : ℕ) → i < l .count → half s l i .«is_left» ≡ false → (p : Partner s l i) → p .index ≤ i
     unfolding dominating comesBefore ordered
-    left-first region i h right p = omega (arith, clash)
+    left-first e i h right p = omega (arith, clash)
       where
         at-left : dominating (half s l (p .index)) ≡ half s l i .segment .left
         at-left = rw (p .other-side ∙ ap not right) (ap (λ (t : Segment). t .left) (p .same-segment))
@@ -259,13 +259,13 @@ module _ (s : List ℕ) (l : Layout) (is : IsObject s l) (order : outOfOrder s l
         at-right = rw right
 
         both : T (before (dominating (half s l (p .index))) (dominating (half s l i)))
-        both = subst₂ (λ a b. T (before a b)) (sym at-left) (sym at-right) (half-good s l is i h (has region i h) .in-order)
+        both = subst₂ (λ a b. T (before a b)) (sym at-left) (sym at-right) (half-good s l is i h e .in-order)
 
         clash : i < p .index → ⊥
         clash g =
             comes-irreflexive (half s l i)
-            (comes-trans (half s l i) (half s l (p .index)) (half s l i) (half-good s l is i h (has region i h) .in-order) (half-good s l is (p .index) (p .there) (has region i h) .in-order) (half-good s l is i h (has region i h) .in-order)
-            (halves-rise s l is order (has region i h) i (p .index) g (p .there)) (or-left (before (dominating (half s l (p .index))) (dominating (half s l i))) _ both))
+            (comes-trans (half s l i) (half s l (p .index)) (half s l i) (half-good s l is i h e .in-order) (half-good s l is (p .index) (p .there) e .in-order) (half-good s l is i h e .in-order)
+            (halves-rise s l is order e i (p .index) g (p .there)) (or-left (before (dominating (half s l (p .index))) (dominating (half s l i))) _ both))
 
     marked-earlier : Same l (hasWrongIa s l) (isMismarked s l)
     marked-earlier = record { sound = later; complete = earlier }
@@ -289,7 +289,7 @@ module _ (s : List ℕ) (l : Layout) (is : IsObject s l) (order : outOfOrder s l
             go true e = (i, omega arith, marked-by region i h e wrong)
             go false e =
                 let p = partner-there s l paired (has region i h) i h in
-                (p .index, left-first region i h e p, marked-by region (p .index) (p .there) (p .other-side ∙ ap not e) (subst₂ (λ (a : Bool) (t : Segment). T (not (Bool·beq a (interiorAbove (segments s l) t)))) (sym (p .same-ia)) (sym (p .same-segment)) wrong))
+                (p .index, left-first (has region i h) i h e p, marked-by region (p .index) (p .there) (p .other-side ∙ ap not e) (subst₂ (λ (a : Bool) (t : Segment). T (not (Bool·beq a (interiorAbove (segments s l) t)))) (sym (p .same-ia)) (sym (p .same-segment)) wrong))
 
     pub fault-14 : earliest l (isMismarked s l) (elements l) ≡ wrongIa s l
     unfolding wrongIa
