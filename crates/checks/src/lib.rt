@@ -17,6 +17,7 @@ ghost use Rattle.scene.specs.Read.{IsObject, IsScene};
 ghost use Rattle.scene.specs.Conditions.{typesDescend, checkScene, checkObject};
 ghost use Rattle.strands.specs.Noted.{Noted};
 ghost use Rattle.checks.specs.Refusals.{sceneFaultUnder, objectVerdict, geometryVerdict};
+ghost use Rattle.checks.specs.SharedPoints.{CheckedMeans};
 
 // The first refusal under several conditions, if any.
 pub enum Verdict {
@@ -127,9 +128,9 @@ pub fn geometry_verdict(s: &[u8], scene: Scene) -> Verdict
     noted_verdict(s, scene, &mut notes)
 }
 
-// A scene's bytes, checked whole: taken, or refused with one number and one place.
+// A scene's bytes, checked whole: taken, or refused with one number and one place; and what that says of the points that its segments share.
 pub fn check_scene(s: &[u8]) -> CheckedScene
-    ensures { λ r. ⌜ r ≡ checkScene (now (s .entry)) ⌝ }
+    ensures { λ r. ⌜ (r ≡ checkScene (now (s .entry))) × CheckedMeans (now (s .entry)) r ⌝ }
 {
     match reading::read_scene(s) {
         CheckedScene::Refused(r) => CheckedScene::Refused(r),

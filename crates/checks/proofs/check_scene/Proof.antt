@@ -12,6 +12,7 @@ use Rattle.scene.specs.Conditions.{typesDescend, sceneRules, checkScene}
 use Rattle.checks.specs.declared.Verdict.the-variants.{Sound, Refused}
 use Rattle.checks.specs.Refusals.{geometryVerdict}
 use Rattle.checks.proofs.Verdicts.{check-refused, check-read}
+use Rattle.checks.proofs.CheckedMeans.{with-meaning}
 use Rattle.checks.proofs.check_scene.Statement.{statement}
 use Rattle.checks.proofs.check_scene.Tie as tie
 
@@ -72,28 +73,32 @@ returns : tie.Need-returns
 unfolding checkScene
 returns c =
     let d = c .before .before .before in
-    sym (check-refused (sceneRules [] []) (d .before .before .args .s .now) (c .before .r .given .0 .0) (sym (d .read-scene .ensures) ∙ c .before .r .given .1))
+    let s = d .before .before .args .s .now in
+    with-meaning s (sym (check-refused (sceneRules [] []) s (c .before .r .given .0 .0) (sym (d .read-scene .ensures) ∙ c .before .r .given .1)))
 
 returns-2 : tie.Need-returns-2
 returns-2 c =
     let t = c .before .before .before in
     let d = t .before in
-    descending (bytes d) (scene d) (read d) (c .before .place .given .0 .0) (sym (t .types-fault .ensures (bytes d)) ∙ c .before .place .given .1)
+    with-meaning (bytes d)
+    (descending (bytes d) (scene d) (read d) (c .before .place .given .0 .0) (sym (t .types-fault .ensures (bytes d)) ∙ c .before .place .given .1))
 
 returns-3 : tie.Need-returns-3
 returns-3 c =
     let g = c .before .before .before in
     let t = g .before .before .before in
     let d = t .before in
-    at-fault (bytes d) (scene d) (read d) (sym (t .types-fault .ensures (bytes d)) ∙ g .before .enum-told .given .1) (c .before .r2 .given .0 .0)
-    (sym (g .geometry-verdict .ensures) ∙ c .before .r2 .given .1)
+    with-meaning (bytes d)
+    (at-fault (bytes d) (scene d) (read d) (sym (t .types-fault .ensures (bytes d)) ∙ g .before .enum-told .given .1) (c .before .r2 .given .0 .0)
+    (sym (g .geometry-verdict .ensures) ∙ c .before .r2 .given .1))
 
 returns-4 : tie.Need-returns-4
 returns-4 c =
     let g = c .before .before in
     let t = g .before .before .before in
     let d = t .before in
-    taken (bytes d) (scene d) (read d) (sym (t .types-fault .ensures (bytes d)) ∙ g .before .enum-told .given .1) (sym (g .geometry-verdict .ensures) ∙ c .enum-told2 .given .1)
+    with-meaning (bytes d)
+    (taken (bytes d) (scene d) (read d) (sym (t .types-fault .ensures (bytes d)) ∙ g .before .enum-told .given .1) (sym (g .geometry-verdict .ensures) ∙ c .enum-told2 .given .1))
 
 pub check-scene-spec : {M : Type 1} → statement M
 check-scene-spec =
