@@ -3,4 +3,6 @@ pub mod Flags
 pub mod Passed
 pub mod Taken
 pub mod Given
+pub mod Indices
+pub mod Moved
 pub mod Prefix

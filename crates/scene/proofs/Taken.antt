@@ -4,7 +4,7 @@ use native.Mathlib.Nat.{lt-irrefl}
 use native.Mathlib.Decide.{decLt, ℕ-discrete}
 use native.Mathlib.Omega.{arith}
 use mathlib.Core.Path.{_≡_, refl, sym, ap, subst, _∙_}
-use mathlib.Core.Bool.{Bool, true, false, not, true≢false}
+use mathlib.Core.Bool.{Bool, true, false, not, true≢false, false≢true}
 use mathlib.Core.List.{List, [], _∷_}
 use lib.ListN.{length}
 use lib.Dec.{T, leb, eqb, eqb→eq}
@@ -20,7 +20,7 @@ use Rattle.scene.specs.declared.Record.{Record}
 use Rattle.scene.specs.declared.Record.the-variants.{Good, Bad}
 use Rattle.scene.specs.declared.CheckedObject.{CheckedObject}
 use Rattle.scene.specs.declared.CheckedScene.{CheckedScene}
-use Rattle.scene.specs.Read.{shapeNumber, standsIn, startsObject, isEnd, recordAt, place, endPlace, after, next, most, elementsFrom, begun, readObject, shapeOf, byte, unless, decide, judge, endsWith, alone, readAlone, withG, withF, readScene, IsObject}
+use Rattle.scene.specs.Read.{kindAt, shapeNumber, standsIn, startsObject, isEnd, recordAt, place, endPlace, after, next, most, elementsFrom, begun, readObject, shapeOf, byte, unless, decide, judge, endsWith, alone, readAlone, withG, withF, readScene, IsObject}
 use Rattle.scene.proofs.Passed.{Passed, passed, same-shape}
 
 abbrev pub layout : Shape → ℕ → ℕ → Layout
@@ -32,6 +32,12 @@ element-kind k Start a e = absurd a
 element-kind k (Element x) a e = ap Element (same-shape x k (eqb→eq (shapeNumber x) (shapeNumber k) a))
 element-kind k End a e = absurd (true≢false e)
 element-kind k Unknown a e = absurd a
+
+pub end-kind : (j : Kind) → isEnd j ≡ true → j ≡ End
+end-kind Start e = absurd (false≢true e)
+end-kind (Element x) e = absurd (false≢true e)
+end-kind End e = refl
+end-kind Unknown e = absurd (false≢true e)
 
 -- ---- one step, n elements having been read
 module _ (s : List ℕ) (k : Shape) (start : ℕ) where
@@ -101,8 +107,10 @@ module _ (s : List ℕ) (k : Shape) (start : ℕ) where
 -- ---- a taken object
 pub record TakenObject (s : List ℕ) (at : ℕ) (l : Layout) : Type 0 where
   pub starts : l .start ≡ at
+  pub type : l .shape ≡ shapeOf (byte s (at + 1))
   pub few : l .count ≤ most
   pub ends : after l ≤ length s
+  pub end : kindAt s (endPlace l) ≡ End
   pub elements : (i : ℕ) → i < l .count → Passed s (place l i) (standsIn (l .shape)) false (Element (l .shape))
 
 pub not-taken : {r : Refusal} {l : Layout} → CheckedObject.Refused r ≡ CheckedObject.Taken l → ⊥
@@ -118,6 +126,7 @@ module _ (s : List ℕ) (k : Shape) (start : ℕ) (l : Layout) where
     is : layout k start last ≡ l
     few : last ≤ most
     ends : endPlace (layout k start last) + 1 ≤ length s
+    end : kindAt s (endPlace (layout k start last)) ≡ End
     elements : (i : ℕ) → n ≤ i → i < last → Passed s (place (layout k start i) i) (standsIn k) false (Element k)
 
   read-one : (n : ℕ) → n ≤ most → (n < most → rest s k start (n + 1) ≡ CheckedObject.Taken l → ReadTo (n + 1)) → rest s k start n ≡ CheckedObject.Taken l → ReadTo n
@@ -128,9 +137,13 @@ module _ (s : List ℕ) (k : Shape) (start : ℕ) (l : Layout) where
         last = n;
         is = same-layout (sym (ends-here s k start n h j q x) ∙ e);
         few = h;
-        ends = omega (arith, passed s (place (layout k start n) n) (standsIn k) (eqb n most) j q .whole);
+        ends = omega (arith, tests .whole);
+        end = tests .kind ∙ end-kind j x;
         elements = λ i f t. absurd (omega arith);
       }
+        where
+          tests : Passed s (place (layout k start n) n) (standsIn k) (eqb n most) j
+          tests = passed s (place (layout k start n) n) (standsIn k) (eqb n most) j q
 
       further : GoesOn s k start n → ReadTo n
       further g = record {
@@ -138,6 +151,7 @@ module _ (s : List ℕ) (k : Shape) (start : ℕ) (l : Layout) where
         is = r .is;
         few = r .few;
         ends = r .ends;
+        end = r .end;
         elements = λ i f t. which i t (ℕ-discrete n i) f;
       }
         where
@@ -180,7 +194,7 @@ taken-object s at l e = go (recordAt s at startsObject false) e
     read : rest s k at 0 ≡ CheckedObject.Taken l → TakenObject s at l
     read q =
         subst (TakenObject s at) (r .is)
-        (record { starts = refl; few = r .few; ends = r .ends; elements = λ i t. r .elements i zero-le t })
+        (record { starts = refl; type = refl; few = r .few; ends = r .ends; end = r .end; elements = λ i t. r .elements i zero-le t })
       where
         r : ReadTo s k at l 0
         r = read-to s k at l most 0 refl q
