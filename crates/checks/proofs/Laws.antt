@@ -19,7 +19,7 @@ use Rattle.scene.specs.declared.CheckedScene.{CheckedScene}
 use Rattle.scene.specs.Read.{shapeNumber, unless}
 use Rattle.scene.specs.Conditions.{half, segments, outOfOrder, unpaired, isTouching, touching, touchingItself, oddEnd, wrongIa, Rule, rule, objectRules, orElse, overBoth, touchingAcross, sceneRules, checkSceneBy, checkObject}
 use Rattle.scene.proofs.Taken.{TakenScene}
-use Rattle.scene.proofs.Given.{NoFault, checked-scene, checked-object}
+use Rattle.scene.proofs.Given.{NoFault, neither, checked-scene, checked-object}
 use Rattle.segments.proofs.Indices.{not-nothing, none-wrong}
 pub use Rattle.strands.proofs.SoundObject.{SoundObject, in-strict-order, no-half-twice, no-point-twice, left-in, in-left, segments-in-range, all-ordered, segments-sorted, no-touch, split, partner-of, segment-in, half-of, regular, ia-is, point-in-range, points-sorted}
 
@@ -43,10 +43,6 @@ across {s} {sc} o =
         let w = in-left (o .f-sound) m in
         subst (λ (t : Segment). touch t u ≡ false) (w .3)
         (none-of (touch (half s (sc .f) (w .0) .segment)) (rw (w .2) at (none-wrong (sc .f) (isTouching s (sc .f) (segments s (sc .g))) (o .apart) (w .0) (w .1))) k)
-
-pub neither : (a b : Fault) → orElse a b ≡ Nothing → (a ≡ Nothing) × (b ≡ Nothing)
-neither (At p) b e = absurd (not-nothing e)
-neither Nothing b e = (refl, e)
 
 holds : (b : Bool) (p : ℕ) → unless b p ≡ Nothing → T b
 holds true p e = tt

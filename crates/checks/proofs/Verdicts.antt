@@ -20,9 +20,9 @@ use Rattle.checks.specs.declared.Verdict.{Verdict}
 use Rattle.checks.specs.declared.Verdict.the-variants.{Sound, Refused}
 use Rattle.conditions.specs.Faults.{faultUnder}
 use Rattle.checks.specs.Refusals.{sceneFaultUnder, verdict, settle, objectVerdict, geometryRules, geometryVerdict}
+use Rattle.scene.proofs.Given.{neither}
 use Rattle.segments.proofs.Walk.{between, between-next, between-none}
 use Rattle.conditions.proofs.Earliest.{fault-11, fault-12, fault-13, fault-14, fault-15}
-use Rattle.checks.proofs.Laws.{neither}
 
 -- ---- by number
 

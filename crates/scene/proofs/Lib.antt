@@ -6,3 +6,5 @@ pub mod Given
 pub mod Indices
 pub mod Moved
 pub mod Prefix
+pub mod Standing
+pub mod SideBySide

@@ -52,12 +52,15 @@ module _ (d : ℕ) where
   moved-begun (Bad r) o = refl
 
 -- by 0: nothing moves
+pub unmoved : (l : Layout) → moved 0 l ≡ l
+unmoved l = ap (λ (p : ℕ). layout (l .shape) p (l .count)) (add-zero (l .start))
+
 pub unmoved-fault : (f : Fault) → movedFault 0 f ≡ f
 unmoved-fault (At p) = ap At (add-zero p)
 unmoved-fault Nothing = refl
 
 pub unmoved-object : (o : CheckedObject) → movedObject 0 o ≡ o
-unmoved-object (CheckedObject.Taken l) = ap (λ (p : ℕ). CheckedObject.Taken (layout (l .shape) p (l .count))) (add-zero (l .start))
+unmoved-object (CheckedObject.Taken l) = ap CheckedObject.Taken (unmoved l)
 unmoved-object (CheckedObject.Refused r) = ap (λ (p : ℕ). CheckedObject.Refused (refusal (r .number) p)) (add-zero (r .place))
 
 -- ---- bytes that agree

@@ -8,7 +8,7 @@ use mathlib.Core.Bool.{Bool, true, false, not, true≢false, false≢true}
 use mathlib.Core.List.{List, [], _∷_}
 use lib.ListN.{length}
 use lib.Dec.{T, leb, eqb, eqb→eq}
-use borrow.Author.Tests.{eq-eqb, ne-eqb, leb-true}
+use borrow.Author.Tests.{eq-eqb, ne-eqb, leb-true, le-leb}
 use Rattle.scene.specs.declared.Shape.{Shape}
 use Rattle.scene.specs.declared.Shape.the-variants.{Points, Line, Region}
 use Rattle.scene.specs.declared.Kind.{Kind}
@@ -259,6 +259,19 @@ taken-scene s sc e = of-f (readObject s 0) refl e
     of-f : (o : CheckedObject) → readObject s 0 ≡ o → withF s o ≡ CheckedScene.Taken sc → TakenScene s sc
     of-f (CheckedObject.Refused r) q x = absurd (never-taken x)
     of-f (CheckedObject.Taken f) q x = of-g f q (readObject s (after f)) refl x
+
+-- and back: an object, or two, with no bytes after
+no-seven : {A : Type 0} (refuse : Refusal → A) (a : A) (s : List ℕ) (l : Layout) → length s ≡ after l → judge refuse a (endsWith s l ∷ []) ≡ a
+no-seven refuse a s l e = rw (le-leb (length s) (after l) (omega arith))
+
+pub alone-read : (s : List ℕ) (l : Layout) → readObject s 0 ≡ CheckedObject.Taken l → length s ≡ after l → readAlone s ≡ CheckedObject.Taken l
+unfolding readAlone
+alone-read s l e all = ap (alone s) e ∙ no-seven CheckedObject.Refused (CheckedObject.Taken l) s l all
+
+pub scene-read : (s : List ℕ) (sc : Scene) → readObject s 0 ≡ CheckedObject.Taken (sc .f) → readObject s (after (sc .f)) ≡ CheckedObject.Taken (sc .g)
+    → length s ≡ after (sc .g) → readScene s ≡ CheckedScene.Taken sc
+unfolding readScene
+scene-read s sc f g all = ap (withF s) f ∙ ap (withG s (sc .f)) g ∙ no-seven CheckedScene.Refused (CheckedScene.Taken sc) s (sc .g) all
 
 -- no object takes more than 19,459 bytes, and no scene more than 38,918
 abbrev pub longest : ℕ

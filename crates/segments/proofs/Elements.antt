@@ -15,6 +15,7 @@ use Rattle.scene.specs.declared.Layout.{Layout}
 use Rattle.scene.specs.Read.{pointAt, halfsegmentAt, iaAt, size, place, IsObject}
 use Rattle.scene.specs.Conditions.{hasSegments, isRegion, half, ia, inOrder, partner}
 use Rattle.scene.proofs.Taken.{TakenObject, taken-object}
+pub use Rattle.scene.proofs.Given.{region-segments}
 use Rattle.scene.proofs.Given.{GoodPoint, good-point, GoodHalfsegment, good-halfsegment, ia-there}
 use Rattle.segments.specs.Walked.{partners}
 
@@ -22,11 +23,6 @@ pub no-segments-points : (k : Shape) → hasSegments k ≡ false → k ≡ Point
 no-segments-points Points e = refl
 no-segments-points Line e = absurd (true≢false e)
 no-segments-points Region e = absurd (true≢false e)
-
-pub region-segments : (k : Shape) → isRegion k ≡ true → hasSegments k ≡ true
-region-segments Points e = absurd (false≢true e)
-region-segments Line e = absurd (false≢true e)
-region-segments Region e = refl
 
 module _ (s : List ℕ) (l : Layout) (is : IsObject s l) (i : ℕ) (h : i < l .count) where
   taken : TakenObject s (l .start) l
