@@ -1,7 +1,7 @@
 -- What a taken scene or object gives, in the form that the plane's lemmas take: elements in range and in strict order, partners, segments that are
 -- split, even ends and right ia for regions, and no touch across the two objects.
 use Prim.Native.Nat.{ℕ, _≤_}
-use mathlib.Core.Path.{_≡_, refl, subst}
+use mathlib.Core.Path.{_≡_, subst}
 use mathlib.Core.Bool.{Bool, true, false}
 use mathlib.Core.List.{List, [], _∷_, _++_, map}
 use lib.Dec.{T, leb, leb→le}
@@ -12,12 +12,11 @@ use Rattle.plane.specs.Plane.{touch}
 use Rattle.plane.proofs.Accepted.{Across, across-from-touch}
 use Rattle.scene.specs.declared.Layout.{Layout}
 use Rattle.scene.specs.declared.Scene.{Scene}
-use Rattle.scene.specs.declared.Fault.{Fault}
-use Rattle.scene.specs.declared.Fault.the-variants.{At, Nothing}
+use Rattle.scene.specs.declared.Fault.the-variants.{Nothing}
 use Rattle.scene.specs.declared.CheckedObject.{CheckedObject}
 use Rattle.scene.specs.declared.CheckedScene.{CheckedScene}
 use Rattle.scene.specs.Read.{shapeNumber, unless}
-use Rattle.scene.specs.Conditions.{half, segments, outOfOrder, unpaired, isTouching, touching, touchingItself, oddEnd, wrongIa, Rule, rule, objectRules, orElse, overBoth, touchingAcross, sceneRules, checkSceneBy, checkObject}
+use Rattle.scene.specs.Conditions.{half, segments, outOfOrder, unpaired, isTouching, touching, touchingItself, oddEnd, wrongIa, Rule, rule, objectRules, overBoth, touchingAcross, sceneRules, checkSceneBy, checkObject}
 use Rattle.scene.proofs.Taken.{TakenScene}
 use Rattle.scene.proofs.Given.{NoFault, neither, checked-scene, checked-object}
 use Rattle.segments.proofs.Indices.{not-nothing, none-wrong}

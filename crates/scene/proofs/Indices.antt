@@ -9,7 +9,6 @@ use mathlib.Core.List.{List, [], _∷_, map}
 use Rattle.whole.specs.Count.{_∈_, here, there}
 use Rattle.whole.proofs.Logic.{in-nil, in-cons, Sorted, sorted-nil, sorted-cons}
 use Rattle.scene.specs.declared.Layout.{Layout}
-use Rattle.scene.specs.declared.Fault.{Fault}
 use Rattle.scene.specs.declared.Fault.the-variants.{At, Nothing}
 use Rattle.scene.specs.Read.{place}
 use Rattle.scene.specs.Conditions.{indices, elements, keep, earliest}

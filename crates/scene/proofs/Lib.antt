@@ -1,4 +1,4 @@
--- Laws of reading that the proofs of the functions and of other crates cite.
+-- Laws of reading, of elements and of conditions that the proofs of the functions and of other crates cite.
 pub mod Flags
 pub mod Passed
 pub mod Taken

@@ -1,14 +1,13 @@
 -- Bytes that stand elsewhere: where t from offset d on reads as s does, a record, and with it an object, is read in t as in s, each place raised by d.
-use Prim.Native.Nat.{ℕ, zero, suc, _+_, _*_, _<_, _≤_}
+use Prim.Native.Nat.{ℕ, zero, suc, _+_, _<_, _≤_}
 use native.Mathlib.Nat.{add-zero, mul-le-mul-right}
 use native.Mathlib.Omega.{arith}
 use mathlib.Core.Path.{_≡_, refl, sym, ap, ap₂, subst, _∙_}
 use mathlib.Core.Bool.{Bool, true, false, false≢true}
 use mathlib.Core.List.{List, [], _∷_}
 use lib.ListN.{length}
-use lib.Dec.{leb, eqb}
+use lib.Dec.{eqb}
 use borrow.Author.Tests.{eqb-true, eqb-false, not-true}
-use Rattle.plane.specs.declared.Segment.{Segment}
 use Rattle.plane.specs.Plane.{inRange, segmentInRange, ordered}
 use Rattle.scene.specs.declared.Shape.{Shape}
 use Rattle.scene.specs.declared.Shape.the-variants.{Points, Line, Region}
@@ -28,9 +27,12 @@ use Rattle.scene.proofs.Taken.{layout, rest, recordOf, stops, ends-here
 
 -- ---- places raised by d
 
+abbrev pub placed : ℕ → Layout → Layout
+placed to l = layout (l .shape) to (l .count)
+
 module _ (d : ℕ) where
   abbrev pub moved : Layout → Layout
-  moved l = layout (l .shape) (l .start + d) (l .count)
+  moved l = placed (l .start + d) l
 
   abbrev pub movedFault : Fault → Fault
   movedFault (At p) = At (p + d)
@@ -53,7 +55,7 @@ module _ (d : ℕ) where
 
 -- by 0: nothing moves
 pub unmoved : (l : Layout) → moved 0 l ≡ l
-unmoved l = ap (λ (p : ℕ). layout (l .shape) p (l .count)) (add-zero (l .start))
+unmoved l = ap (λ (p : ℕ). placed p l) (add-zero (l .start))
 
 pub unmoved-fault : (f : Fault) → movedFault 0 f ≡ f
 unmoved-fault (At p) = ap At (add-zero p)
@@ -199,8 +201,8 @@ pub record Reach (n : ℕ) (s : List ℕ) (k : Shape) (at : ℕ) : Type 0 where
 module _ {d n : ℕ} {s t : List ℕ} (g : Agree d n s t) (at to : ℕ) (e : to ≡ at + d) where
   module _ (k : Shape) (o : Reach n s k at) where
     -- c elements having been read
-    one : (c : ℕ) → c ≤ o .last → (c < o .last → rest t k to (c + 1) ≡ movedObject d (rest s k at (c + 1))) → rest t k to c ≡ movedObject d (rest s k at c)
-    one c h later = go (recordOf s k at c) refl
+    moved-one : (c : ℕ) → c ≤ o .last → (c < o .last → rest t k to (c + 1) ≡ movedObject d (rest s k at (c + 1))) → rest t k to c ≡ movedObject d (rest s k at c)
+    moved-one c h later = go (recordOf s k at c) refl
       where
         few : c ≤ most
         few = omega (arith, o .few)
@@ -211,16 +213,16 @@ module _ {d n : ℕ} {s t : List ℕ} (g : Agree d n s t) (at to : ℕ) (e : to 
         in-reach : endPlace (layout k at c) < n
         in-reach = omega (arith, o .within, mul-le-mul-right (size k) h)
 
-        room : hasRoom (eqb c most) (Element k) ≡ true → c < most
-        room r = omega (arith, eqb-false c most (not-true (eqb c most) r))
+        -- only the last may be cut off, and that is no element, or has no room
+        whole : kindAt s (endPlace (layout k at c)) ≡ Element k → eqb c most ≡ false → endPlace (layout k at c) + size k ≤ n
+        whole q r = omega (arith, o .within, room-for k at c (o .last) (omega (arith, not-last (omega (arith, eqb-false c most r)) q)))
 
         reach : InReach g (endPlace (layout k at c)) (endPlace (layout k to c)) (omega arith) (standsIn k) (eqb c most)
         reach Start q a r = absurd (false≢true a)
         reach (Element x) q a r =
             let same : x ≡ k = same-shape x k (eqb-true (shapeNumber x) (shapeNumber k) a) in
-            let body : endPlace (layout k at c) + size k ≤ endPlace (layout k at (o .last)) =
-                room-for k at c (o .last) (omega (arith, not-last (room r) (q ∙ ap Element same))) in
-            subst (λ (x : Shape). endPlace (layout k at c) + 1 + bodyLength (Element x) ≤ n) (sym same) (omega (arith, o .within))
+            let body : endPlace (layout k at c) + size k ≤ n = whole (q ∙ ap Element same) (not-true (eqb c most) r) in
+            omega (arith, ap size same)
         reach End q a r = omega (arith, in-reach)
         reach Unknown q a r = absurd (false≢true a)
 
@@ -245,8 +247,8 @@ module _ {d n : ℕ} {s t : List ℕ} (g : Agree d n s t) (at to : ℕ) (e : to 
         go (Good j) q = good j q (isEnd j) refl
 
     moved-rest : (m c : ℕ) → c + m ≡ o .last → rest t k to c ≡ movedObject d (rest s k at c)
-    moved-rest zero c q = one c (omega arith) (λ h. absurd (omega arith))
-    moved-rest (suc m) c q = one c (omega arith) (λ h. moved-rest m (c + 1) (omega arith))
+    moved-rest zero c q = moved-one c (omega arith) (λ h. absurd (omega arith))
+    moved-rest (suc m) c q = moved-one c (omega arith) (λ h. moved-rest m (c + 1) (omega arith))
 
   -- what is read in t, or refused, is what is read in s, moved
   pub moved-object : Reach n s (shapeOf (byte s (at + 1))) at → readObject t to ≡ movedObject d (readObject s at)

@@ -20,6 +20,12 @@ use Rattle.scene.proofs.Standing.{Stands, faultless-there, faultless-he
 
 -- ---- an object's bytes that stand in t from offset d on
 
+-- what is read of s alone, and is l where its places are raised by d
+pub record Alone (d : ℕ) (s : List ℕ) (l : Layout) : Type 0 where
+  pub own : Layout
+  pub read : readAlone s ≡ CheckedObject.Taken own
+  pub is : l ≡ moved d own
+
 module _ {d : ℕ} {s t : List ℕ} (g : Agree d (length s) s t) where
   object-there : (l : Layout) → readAlone s ≡ CheckedObject.Taken l → readObject t d ≡ CheckedObject.Taken (moved d l)
   object-there l e =
@@ -29,19 +35,14 @@ module _ {d : ℕ} {s t : List ℕ} (g : Agree d (length s) s t) where
       taken : TakenAlone s 0 l
       taken = taken-alone s l e
 
-  -- and back, for an object that takes all of them
-  record Alone (l : Layout) : Type 0 where
-    own : Layout
-    read : readAlone s ≡ CheckedObject.Taken own
-    is : l ≡ moved d own
-
-  object-alone : (l : Layout) → readObject t d ≡ CheckedObject.Taken l → after l ≡ length s + d → Alone l
+  -- and back, for an object that takes all of s
+  object-alone : (l : Layout) → readObject t d ≡ CheckedObject.Taken l → after l ≡ length s + d → Alone d s l
   object-alone l e all = go (readObject s 0) refl
     where
       there : readObject t d ≡ movedObject d (readObject s 0)
       there = moved-object g 0 d (sym (zero-add d)) (taken-reach g 0 d (sym (zero-add d)) l (taken-object t d l e) (omega arith))
 
-      go : (o : CheckedObject) → readObject s 0 ≡ o → Alone l
+      go : (o : CheckedObject) → readObject s 0 ≡ o → Alone d s l
       go (CheckedObject.Refused r) q = absurd (not-taken (sym (there ∙ ap (movedObject d) q) ∙ e))
       go (CheckedObject.Taken own) q = record { own = own; read = alone-read s own q (omega (arith, ap after is)); is = is }
         where
@@ -82,7 +83,7 @@ module _ (a b : List ℕ) where
     start = refl;
   }
 
-  -- ---- reading
+  -- ---- reading an object
 
   pub first-read : (l : Layout) → readAlone a ≡ CheckedObject.Taken l → readObject (a ++ b) 0 ≡ CheckedObject.Taken l
   first-read l e = object-there first-agrees l e ∙ ap CheckedObject.Taken (unmoved l)
@@ -90,46 +91,15 @@ module _ (a b : List ℕ) where
   pub second-read : (m : Layout) → readAlone b ≡ CheckedObject.Taken m → readObject (a ++ b) (length a) ≡ CheckedObject.Taken (moved (length a) m)
   second-read m e = object-there second-agrees m e
 
-  abbrev pub beside : Layout → Layout → Scene
-  beside l m = record { f = l; g = moved (length a) m }
+  pub first-alone : (l : Layout) → readObject (a ++ b) 0 ≡ CheckedObject.Taken l → after l ≡ length a → readAlone a ≡ CheckedObject.Taken l
+  first-alone l e all =
+      let o = object-alone first-agrees l e (omega arith) in
+      o .read ∙ ap CheckedObject.Taken (sym (unmoved (o .own)) ∙ sym (o .is))
 
-  pub both-read : (l m : Layout) → readAlone a ≡ CheckedObject.Taken l → readAlone b ≡ CheckedObject.Taken m → readScene (a ++ b) ≡ CheckedScene.Taken (beside l m)
-  both-read l m e q =
-      scene-read (a ++ b) (beside l m) (first-read l e)
-      (subst (λ (at : ℕ). readObject (a ++ b) at ≡ CheckedObject.Taken (moved (length a) m)) (taken-alone a l e .all) (second-read m q))
-      (omega (arith, length-append a b, taken-alone b m q .all))
+  pub second-alone : (g : Layout) → readObject (a ++ b) (length a) ≡ CheckedObject.Taken g → after g ≡ length (a ++ b) → Alone (length a) b g
+  second-alone g e all = object-alone second-agrees g e (omega (arith, length-append a b))
 
-  -- and back, where a is as long as the scene's first object
-  pub record EachRead (sc : Scene) : Type 0 where
-    pub second : Layout
-    pub read-first : readAlone a ≡ CheckedObject.Taken (sc .f)
-    pub read-second : readAlone b ≡ CheckedObject.Taken second
-    pub g-is : sc .g ≡ moved (length a) second
-
-  pub each-read : (sc : Scene) → readScene (a ++ b) ≡ CheckedScene.Taken sc → length a ≡ after (sc .f) → EachRead sc
-  each-read sc e all = record {
-    second = in-b .own;
-    read-first = in-a .read ∙ ap CheckedObject.Taken (sym (unmoved (in-a .own)) ∙ sym (in-a .is));
-    read-second = in-b .read;
-    g-is = in-b .is;
-  }
-    where
-      taken : TakenScene (a ++ b) sc
-      taken = taken-scene (a ++ b) sc e
-
-      at-0 : readObject (a ++ b) 0 ≡ CheckedObject.Taken (sc .f)
-      at-0 = subst (λ (at : ℕ). readObject (a ++ b) at ≡ CheckedObject.Taken (sc .f)) (taken .f-taken .starts) (taken .f-read)
-
-      after-a : readObject (a ++ b) (length a) ≡ CheckedObject.Taken (sc .g)
-      after-a = subst (λ (at : ℕ). readObject (a ++ b) at ≡ CheckedObject.Taken (sc .g)) (taken .g-taken .object .starts ∙ sym all) (taken .g-taken .read)
-
-      in-a : Alone first-agrees (sc .f)
-      in-a = object-alone first-agrees (sc .f) at-0 (omega arith)
-
-      in-b : Alone second-agrees (sc .g)
-      in-b = object-alone second-agrees (sc .g) after-a (omega (arith, taken .g-taken .all, length-append a b))
-
-  -- ---- the conditions 10 to 14
+  -- ---- the conditions 10 to 14 of an object
 
   pub first-faultless : (l : Layout) → checkObject a ≡ CheckedObject.Taken l → NoFault (a ++ b) l objectRules
   first-faultless l e = let c = checked-object a l e in faultless-there (first-stands l (c .0 .read)) (c .1)
@@ -137,24 +107,56 @@ module _ (a b : List ℕ) where
   pub second-faultless : (m : Layout) → checkObject b ≡ CheckedObject.Taken m → NoFault (a ++ b) (moved (length a) m) objectRules
   second-faultless m e = let c = checked-object b m e in faultless-there (second-stands m (c .0 .read)) (c .1)
 
+  pub first-checked : (l : Layout) → readAlone a ≡ CheckedObject.Taken l → NoFault (a ++ b) l objectRules → checkObject a ≡ CheckedObject.Taken l
+  first-checked l e n = object-checked a l e (faultless-here (first-stands l (taken-alone a l e .read)) n)
+
+  pub second-checked : (m : Layout) → readAlone b ≡ CheckedObject.Taken m → NoFault (a ++ b) (moved (length a) m) objectRules → checkObject b ≡ CheckedObject.Taken m
+  second-checked m e n = object-checked b m e (faultless-here (second-stands m (taken-alone b m e .read)) n)
+
+-- ---- the scene that two objects form
+
+abbrev pub beside : List ℕ → Layout → Layout → Scene
+beside a l m = record { f = l; g = moved (length a) m }
+
+module _ (a b : List ℕ) where
   module _ (l m : Layout) where
-    pub both-faultless : checkObject a ≡ CheckedObject.Taken l → checkObject b ≡ CheckedObject.Taken m → NoFault (a ++ b) (beside l m) (map overBoth objectRules)
-    both-faultless e q = over-both (a ++ b) (beside l m) objectRules (first-faultless l e) (second-faultless m q)
+    pub both-read : readAlone a ≡ CheckedObject.Taken l → readAlone b ≡ CheckedObject.Taken m → readScene (a ++ b) ≡ CheckedScene.Taken (beside a l m)
+    both-read e q =
+        scene-read (a ++ b) (beside a l m) (first-read a b l e)
+        (subst (λ (at : ℕ). readObject (a ++ b) at ≡ CheckedObject.Taken (moved (length a) m)) (taken-alone a l e .all) (second-read a b m q))
+        (omega (arith, length-append a b, taken-alone b m q .all))
 
-    pub each-checked : readAlone a ≡ CheckedObject.Taken l → readAlone b ≡ CheckedObject.Taken m → NoFault (a ++ b) (beside l m) (map overBoth objectRules)
+    pub both-faultless : checkObject a ≡ CheckedObject.Taken l → checkObject b ≡ CheckedObject.Taken m → NoFault (a ++ b) (beside a l m) (map overBoth objectRules)
+    both-faultless e q = over-both (a ++ b) (beside a l m) objectRules (first-faultless a b l e) (second-faultless a b m q)
+
+    pub both-checked : readAlone a ≡ CheckedObject.Taken l → readAlone b ≡ CheckedObject.Taken m → NoFault (a ++ b) (beside a l m) (map overBoth objectRules)
         → (checkObject a ≡ CheckedObject.Taken l) × (checkObject b ≡ CheckedObject.Taken m)
-    each-checked e q n =
-        let c = in-neither (a ++ b) (beside l m) objectRules n in
-        (object-checked a l e (faultless-here (first-stands l (taken-alone a l e .read)) (c .0)),
-         object-checked b m q (faultless-here (second-stands m (taken-alone b m q .read)) (c .1)))
+    both-checked e q n = let c = in-neither (a ++ b) (beside a l m) objectRules n in (first-checked a b l e (c .0), second-checked a b m q (c .1))
 
--- ---- a taken scene is two objects side by side: the bytes up to the end of the first, and the others
+  -- a scene whose first object is as long as a
+  pub both-alone : (sc : Scene) → readScene (a ++ b) ≡ CheckedScene.Taken sc → after (sc .f) ≡ length a → (readAlone a ≡ CheckedObject.Taken (sc .f)) × Alone (length a) b (sc .g)
+  both-alone sc e all = (
+    first-alone a b (sc .f) (read (taken .f-taken .starts) (taken .f-read)) all,
+    second-alone a b (sc .g) (read (taken .g-taken .object .starts ∙ all) (taken .g-taken .read)) (sym (taken .g-taken .all)),
+  )
+    where
+      taken : TakenScene (a ++ b) sc
+      taken = taken-scene (a ++ b) sc e
 
-pub each-object : (s : List ℕ) (sc : Scene) → readScene s ≡ CheckedScene.Taken sc
-    → (s ≡ take (after (sc .f)) s ++ drop (after (sc .f)) s) × EachRead (take (after (sc .f)) s) (drop (after (sc .f)) s) sc
-each-object s sc e = (
-    sym joined,
-    each-read (take (after (sc .f)) s) (drop (after (sc .f)) s) sc (ap readScene joined ∙ e) (length-take-le (after (sc .f)) s (taken-scene s sc e .f-taken .ends)))
-  where
-    joined : take (after (sc .f)) s ++ drop (after (sc .f)) s ≡ s
-    joined = take-append-drop (after (sc .f)) s
+      read : {l : Layout} {at : ℕ} → l .start ≡ at → IsObject (a ++ b) l → readObject (a ++ b) at ≡ CheckedObject.Taken l
+      read {l} q = subst (λ (at : ℕ). readObject (a ++ b) at ≡ CheckedObject.Taken l) q
+
+-- every taken scene is two objects side by side: the bytes up to the end of its first, and those after
+module _ (s : List ℕ) (sc : Scene) where
+  abbrev pub firstBytes : List ℕ
+  firstBytes = take (after (sc .f)) s
+
+  abbrev pub secondBytes : List ℕ
+  secondBytes = drop (after (sc .f)) s
+
+  pub joined : firstBytes ++ secondBytes ≡ s
+  joined = take-append-drop (after (sc .f)) s
+
+  pub parted : readScene s ≡ CheckedScene.Taken sc → (readAlone firstBytes ≡ CheckedObject.Taken (sc .f)) × Alone (length firstBytes) secondBytes (sc .g)
+  parted e =
+      both-alone firstBytes secondBytes sc (ap readScene joined ∙ e) (sym (length-take-le (after (sc .f)) s (taken-scene s sc e .f-taken .ends)))

@@ -33,7 +33,7 @@ element-kind k (Element x) a e = ap Element (same-shape x k (eqb→eq (shapeNumb
 element-kind k End a e = absurd (true≢false e)
 element-kind k Unknown a e = absurd a
 
-pub end-kind : (j : Kind) → isEnd j ≡ true → j ≡ End
+end-kind : (j : Kind) → isEnd j ≡ true → j ≡ End
 end-kind Start e = absurd (false≢true e)
 end-kind (Element x) e = absurd (false≢true e)
 end-kind End e = refl
