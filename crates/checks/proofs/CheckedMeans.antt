@@ -15,7 +15,7 @@ use Rattle.scene.specs.Read.{judge, readScene, readAlone, IsObject, IsScene}
 use Rattle.scene.specs.Conditions.{segments, outOfOrder, unpaired, touchingItself, Rule, rule, conditions, objectRules, orElse, overBoth, touchingAcross, sceneRules, checkedScene, checkSceneBy, checkScene, checkedObject, checkObject}
 use Rattle.scene.proofs.Taken.{taken-alone, taken-scene}
 use Rattle.checks.specs.SharedPoints.{FaultMeans, OnlyEndsIn, EarliestIn, OnlyEndsInEach, EarliestInEither, OnlyEndsAcross, EarliestAcross, RefusalSays, CheckedMeans, CheckedObjectMeans}
-use Rattle.checks.proofs.Laws.{neither}
+use Rattle.scene.proofs.Given.{neither}
 use Rattle.checks.proofs.Numbers.{Numbers, decided, SmallObject, SmallScene, small-alone, small-scene}
 use Rattle.checks.proofs.SharedPoints.{segments-ordered, no-fault-exactly, fault-exactly}
 
