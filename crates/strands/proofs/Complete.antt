@@ -30,7 +30,7 @@ use Rattle.strands.specs.Lower.{passesUnder, passesOver, lowerAtLeft, lo
 use Rattle.strands.specs.Lower
 use Rattle.strands.specs.Kept.{Strand, isOf, sameObject, underOf, Lower, Kept}
 use Rattle.strands.specs.Swept.{objectOf, strandOf, isFirst, strandAt, isBeginning, strandsBy, total}
-use Rattle.strands.specs.Complete.{Place, FitsAt, CanBegin, OwnAt, EndsAt, CanEnd, CanTake}
+use Rattle.strands.specs.Event.{Place, FitsAt, CanBegin, OwnAt, CanMeet, EndsAt, CanEnd}
 use Rattle.strands.proofs.Under.{NotBefore, side-left, side-right, side-turned, under-itself, under-later}
 use Rattle.strands.proofs.Between.{Spans, sideOf, strictly-under}
 use Rattle.strands.proofs.Events.{Reached, UnderBeginning, UnderEnd, passing-end, ending, OverEnd, passing-over, equal-over, Beginning, now-under, new-segment, no-and, sorted-after}
@@ -209,9 +209,11 @@ module _ (s : List ℕ) (sc : Scene) (o : Orderly s sc) (fair : Fair s sc) {i j 
       fits : FitsAt s sc first (placeOf s sc i j first) entries k
       fits =
           record {
-            under-it = λ i q. under-beginning-make a (strandAt s sc (getD entries i 0)) (neighbour i q);
-            lower-next = λ i q. under-right a (strandAt s sc (getD entries i 0)) own-order (spans-left (entry-below i q)) (own-clear (entry-below i q)) (neighbour i q);
-            upper-next = λ h. let m = in-at entries 0 k h in over-right a (strandAt s sc (getD entries k 0)) own-order (spans-left m) (clear-own m) (found .over-it h);
+            over = λ i q. (
+              under-beginning-make a (strandAt s sc (getD entries i 0)) (neighbour i q),
+              under-right a (strandAt s sc (getD entries i 0)) own-order (spans-left (entry-below i q)) (own-clear (entry-below i q)) (neighbour i q),
+            );
+            under = λ h. let m = in-at entries 0 k h in over-right a (strandAt s sc (getD entries k 0)) own-order (spans-left m) (clear-own m) (found .over-it h);
             right-ia = λ r. ap odd (sym count-under) ∙ fair .interior first next more r;
           }
 
@@ -373,8 +375,7 @@ module _ (s : List ℕ) (sc : Scene) (o : Orderly s sc) (fair : Fair s sc) {i j 
           equal i h l (inr t) = absurd (below-not-over i l t)
 
       -- where it goes, its neighbours are in order
-      meeting : (k : ℕ) → OwnAt s sc first (placeOf s sc i j first) entries top k → (i : ℕ) → suc i ≡ k → suc k < length entries
-          → T (lowerAtRight (segmentAt s (getD entries i 0)) (segmentAt s (getD entries (suc k) 0)))
+      meeting : (k : ℕ) → OwnAt s sc first (placeOf s sc i j first) entries top k → CanMeet s entries k
       meeting k at i q h = go under-it over-it
         where
           lower-in : getD entries i 0 ∈ entries

@@ -19,10 +19,12 @@ use Rattle.plane.specs.Plane.{before, samePoint, sameSegment, dominating, choos
 use Rattle.plane.proofs.Equal.{sameSegment-read, sameSegment-refl, samePoint-read, samePoint-refl}
 use Rattle.plane.proofs.Order.{before-irreflexive, comes-irreflexive, halfOf}
 use Rattle.scene.specs.declared.Layout.{Layout}
-use Rattle.scene.specs.Conditions.{indices, elements, keep, hasSegments, isRegion, half, isLeft, segments}
+use Rattle.scene.specs.declared.Fault.the-variants.{Nothing}
+use Rattle.scene.specs.Read.{IsObject}
+use Rattle.scene.specs.Conditions.{indices, elements, keep, hasSegments, isRegion, half, isLeft, segments, outOfOrder}
 use Rattle.segments.proofs.Indices.{element-in, in-element, keep-in, in-keep, kept-rise, indices-in, halves-rise}
 use Rattle.segments.proofs.Elements.{region-segments}
-use Rattle.strands.specs.Evenly.{dominatedBy, EndsEvenly, Pairable}
+use Rattle.strands.specs.Evenly.{dominatedBy, EndsEvenly}
 use Rattle.strands.proofs.Under.{NotBefore}
 use Rattle.strands.proofs.Ordered.{not-after}
 use Rattle.strands.proofs.Pairs.{parityFrom}
@@ -114,7 +116,7 @@ module _ {s : List ℕ} {l : Layout} (o : SoundObject s l) (region : T (isRegion
   none-odd : (f : Segment → Bool) → parity f (segments s l) ⊻ parity f rights ≡ false
   none-odd f = sym (both f) ∙ sym (parity-map f seg (elements l)) ∙ even-all sameSegment sameSegment-read sameSegment-refl (map seg (elements l)) twice f
 
-  ends-evenly : EndsEvenly s l
+  pub ends-evenly : EndsEvenly s l
   unfolding dominating
   ends-evenly v =
       parity-same (dominatedBy s l v) (λ i. (left i && samePoint (seg i .left) v) ⊻ (not (left i) && samePoint (seg i .right) v)) (elements l) (λ i m. at (left i) (seg i .left) (seg i .right))
@@ -127,33 +129,36 @@ module _ {s : List ℕ} {l : Layout} (o : SoundObject s l) (region : T (isRegion
       at true p q = sym (xor-false (samePoint p v))
       at false p q = refl
 
-  count-all : (n i : ℕ) → count (λ k. true) (indices n i) ≡ n
-  count-all zero i = refl
-  count-all (suc n) i = omega (arith, count-all n (suc i))
+-- ---- where each point is so evenly often
 
-  even-count : l .count % 2 ≡ 0
+count-all : (n i : ℕ) → count (λ k. true) (indices n i) ≡ n
+count-all zero i = refl
+count-all (suc n) i = omega (arith, count-all n (suc i))
+
+module _ (s : List ℕ) (l : Layout) (evenly : EndsEvenly s l) where
+  -- there is an even number of halfsegments
+  pub even-count : l .count % 2 ≡ 0
   unfolding odd
   even-count = go (eqb-false (l .count % 2) 1 none)
     where
+      at : ℕ → Point
+      at i = dominating (half s l i)
+
       none : odd (l .count) ≡ false
-      none = ap odd (sym (count-all (l .count) 0)) ∙ odd-count (λ k. true) (elements l) ∙ both (λ t. true) ∙ none-odd (λ t. true)
+      none =
+          ap odd (sym (count-all (l .count) 0)) ∙ odd-count (λ k. true) (elements l) ∙ sym (parity-map (λ (p : Point). true) at (elements l))
+          ∙ even-all (λ p q. samePoint q p) (λ p q t. sym (samePoint-read q p t)) samePoint-refl (map at (elements l)) (λ p m. parity-map (λ (q : Point). samePoint q p) at (elements l) ∙ evenly p) (λ p. true)
 
       go : (l .count % 2 ≡ 1 → ⊥) → l .count % 2 ≡ 0
       go h = omega arith
 
-  pub pairable : Pairable s l
-  pairable =
-      record {
-        even-count = even-count;
-        evenly = ends-evenly;
-        rises = λ i j h k. not-after (half s l i) (half s l j) (halves-rise s l (o .read) (o .order) has i j h k);
-      }
-
--- ---- where evenly many are left at each point, the next two share theirs
-
-module _ {s : List ℕ} {l : Layout} (p : Pairable s l) (i : ℕ) (h : i + 1 < l .count) (left : (v : Point) → parityFrom (dominatedBy s l v) i (l .count) ≡ false) where
+-- and where evenly many are left at each point, and points come in order, the next two share theirs
+module _ (s : List ℕ) (l : Layout) (is : IsObject s l) (has : T (hasSegments (l .shape))) (order : outOfOrder s l ≡ Nothing) (i : ℕ) (h : i + 1 < l .count) (left : (v : Point) → parityFrom (dominatedBy s l v) i (l .count) ≡ false) where
   abbrev at : ℕ → Point
   at k = dominating (half s l k)
+
+  rises : (j k : ℕ) → j < k → k < l .count → NotBefore (at k) (at j)
+  rises j k h b = not-after (half s l j) (half s l k) (halves-rise s l is order (true-is _ has) j k h b)
 
   pub next-shares : samePoint (at i) (at (i + 1)) ≡ false → ⊥
   next-shares n = true≢false (sym (ap (λ (m : ℕ). parity f (indices m i)) more ∙ parity-cons f i (indices (l .count - (i + 1)) (suc i)) ∙ ap₂ (λ a b. a ⊻ b) own (parity-none f (indices (l .count - (i + 1)) (suc i)) later)) ∙ left (at i))
@@ -168,7 +173,7 @@ module _ {s : List ℕ} {l : Layout} (p : Pairable s l) (i : ℕ) (h : i + 1 < l
       own = true-is (f i) (samePoint-refl (at i))
 
       later : (k : ℕ) → k ∈ indices (l .count - (i + 1)) (suc i) → f k ≡ false
-      later k m = refute (f k) (λ t. subst T n (subst (λ (q : Point). T (samePoint (at i) q)) (sym (not-before-both (at (i + 1)) (at i) (p .rises i (i + 1) (omega arith) h) (back (samePoint-read (at k) (at i) t)))) (samePoint-refl (at i))))
+      later k m = refute (f k) (λ t. subst T n (subst (λ (q : Point). T (samePoint (at i) q)) (sym (not-before-both (at (i + 1)) (at i) (rises i (i + 1) (omega arith) h) (back (samePoint-read (at k) (at i) t)))) (samePoint-refl (at i))))
         where
           k-after : suc i ≤ k
           k-after = indices-in (l .count - (i + 1)) (suc i) k m .0
@@ -182,4 +187,4 @@ module _ {s : List ℕ} {l : Layout} (p : Pairable s l) (i : ℕ) (h : i + 1 < l
           back : at k ≡ at i → NotBefore (at i) (at (i + 1))
           back e =
               subst (λ (q : Point). NotBefore q (at (i + 1))) e
-              (⊎-elim (λ q. subst (λ (m : ℕ). NotBefore (at m) (at (i + 1))) q (not-T (before (at (i + 1)) (at (i + 1))) (before-irreflexive (at (i + 1))))) (λ g. p .rises (i + 1) k g k-in) (eq-or-lt-of-le after-next))
+              (⊎-elim (λ q. subst (λ (m : ℕ). NotBefore (at m) (at (i + 1))) q (not-T (before (at (i + 1)) (at (i + 1))) (before-irreflexive (at (i + 1))))) (λ g. rises (i + 1) k g k-in) (eq-or-lt-of-le after-next))

@@ -254,17 +254,11 @@ module _ (s : List ℕ) (sc : Scene) (o : Orderly s sc) (run : Run s sc (total s
         even = λ first. no-fault (objectOf s sc first) (endsOddly s (objectOf s sc first)) (unless-region first (λ k. odd (endsAt (segments s (objectOf s sc first)) (grid (dominating (half s (objectOf s sc first) k))))) (λ r k h. even-at first r (dominating (half s (objectOf s sc first) k))));
         right-ia = λ first. no-fault (objectOf s sc first) (hasWrongIa s (objectOf s sc first)) (unless-region first (λ k. not (Bool·beq (ia s (objectOf s sc first) k) (interiorAbove (segments s (objectOf s sc first)) (half s (objectOf s sc first) k .segment)))) (λ r k h. agrees (ia s (objectOf s sc first) k) (interiorAbove (segments s (objectOf s sc first)) (half s (objectOf s sc first) k .segment)) (interior-at first r k h)));
         across = no-touch true false;
-        matched = λ first h f. count-elements first (true-is (hasSegments (objectOf s sc first .shape)) h) f false
-            ∙ count-same (λ i. Bool·beq (isBeginning s sc first i) false && f (strandBy s sc first i .segment)) (λ i. not (isBeginning s sc first i) && f (strandBy s sc first i .segment)) (elements (objectOf s sc first)) (λ i m. ap (λ b. b && f (strandBy s sc first i .segment)) (beq-false (isBeginning s sc first i)));
       }
     where
       unless : (b c : Bool) → (T b → T c) → b && not c ≡ false
       unless true c f = ap not (true-is c (f tt))
       unless false c f = refl
-
-      beq-false : (b : Bool) → Bool·beq b false ≡ not b
-      beq-false true = refl
-      beq-false false = refl
 
       agrees : (a b : Bool) → b ≡ a → not (Bool·beq a b) ≡ false
       agrees true b e = ap (λ x. not (Bool·beq true x)) e

@@ -17,7 +17,7 @@ use Rattle.plane.proofs.Equal.{samePoint-read, samePoint-refl, sameSegment-refl
 use Rattle.plane.proofs.Order.{ends-differ, before-irreflexive}
 use Rattle.strands.specs.Lower.{passesUnder, passesOver, lowerAtLeft, lowerAtRight}
 use Rattle.strands.specs.Kept.{Strand, sameObject}
-use Rattle.strands.specs.Swept.{underBeginning}
+use Rattle.strands.specs.Event.{underBeginning}
 use Rattle.strands.proofs.Under.{NotBefore, side-left, side-right, side-turned}
 use Rattle.strands.proofs.Between.{sideOf, way, not-before, Spans}
 use Rattle.strands.proofs.Events.{UnderBeginning, passing, turning, equal}

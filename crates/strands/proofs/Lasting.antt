@@ -18,13 +18,13 @@ use Rattle.plane.proofs.Equal.{sameSegment-refl}
 use Rattle.scene.specs.declared.Scene.{Scene}
 use Rattle.scene.specs.Read.{place}
 use Rattle.strands.specs.Kept.{Strand, sameObject, ownEqual, Kept}
-use Rattle.strands.specs.Swept.{objectOf, isFirst, strandOf, strandAt, isBeginning, Began, Ended, Taken, it-began, it-ended, total}
-use Rattle.strands.specs.Complete.{CanTake}
+use Rattle.strands.specs.Swept.{objectOf, isFirst, strandOf, strandAt, isBeginning, total}
+use Rattle.strands.specs.Event.{Began, Ended, Taken, it-began, it-ended, CanTake}
 use Rattle.strands.proofs.Under.{NotBefore}
 use Rattle.strands.proofs.Begun.{strandBy, reached, strands, Next}
 use Rattle.strands.proofs.Shifted.{in-inserted, in-removed}
 use Rattle.strands.proofs.Ordered.{comes-by-point}
-use Rattle.strands.proofs.Run.{pointOf, Orderly, isRegionOf, EndsLater, AllEndLater, Run, placeOf, ownOf, left-point, right-point, map-append}
+use Rattle.strands.proofs.Run.{pointOf, Orderly, isRegionOf, EndsLater, AllEndLater, Run, placeOf, ownOf, left-point, right-point, own-there, map-append}
 use Rattle.strands.proofs.Strict.{halfBy, Rises, After, Earliest, not-earlier}
 use Rattle.strands.proofs.Complete.{less-or-not, Other, Fair, can-begin, can-end}
 
@@ -92,8 +92,8 @@ module _ (s : List ℕ) (sc : Scene) (o : Orderly s sc) (rise : Rises s sc) (fai
         (in-inserted (b .position) entries (subst (λ r. e ∈ r) (b .new-is) m))
 
     -- only its own entry ends at an ending
-    ended-later : isBeginning s sc first next ≡ false → {notes new : List ℕ} {note : ℕ} → Ended s sc first (placeOf s sc i j first) notes entries new note → AllEndLater s sc i′ j′ new
-    ended-later ends b e m = let l = later e (in-removed 0 (b .position) entries (b .there) n) in still l (λ f g. twice (sym (l .is) ∙ ap (λ (b : Bool). strandBy s sc b (l .index)) f ∙ ap (strandBy s sc first) g))
+    ended-later : isBeginning s sc first next ≡ false → {notes new : List ℕ} {note : ℕ} → Ended s sc first (placeOf s sc i j first) entries notes new note → AllEndLater s sc i′ j′ new
+    ended-later ends b e m = let l = later e (in-removed 0 (b .position) entries (own-there s sc b) n) in still l (λ f g. twice (sym (l .is) ∙ ap (λ (b : Bool). strandBy s sc b (l .index)) f ∙ ap (strandBy s sc first) g))
       where
         n : e ∈ (take (b .position) entries ++ drop (suc (b .position)) entries)
         n = subst (λ r. e ∈ r) (b .new-is) m
@@ -107,7 +107,7 @@ module _ (s : List ℕ) (sc : Scene) (o : Orderly s sc) (rise : Rises s sc) (fai
         k : Kept (isRegionOf s sc) (strands s sc true i j) (strands s sc false i j) (low ++ (a ∷ high))
         k =
             subst (Kept (isRegionOf s sc) (strands s sc true i j) (strands s sc false i j))
-            (ap (map (strandAt s sc)) (split-at entries (b .position) 0 (b .there)) ∙ map-append (strandAt s sc) (take (b .position) entries) (getD entries (b .position) 0 ∷ drop (suc (b .position)) entries) ∙ ap (λ (c : Strand). low ++ (c ∷ high)) (b .own))
+            (ap (map (strandAt s sc)) (split-at entries (b .position) 0 (own-there s sc b)) ∙ map-append (strandAt s sc) (take (b .position) entries) (getD entries (b .position) 0 ∷ drop (suc (b .position)) entries) ∙ ap (λ (c : Strand). low ++ (c ∷ high)) (b .found .own))
             (run .kept later)
 
         own : T (ownEqual a a)

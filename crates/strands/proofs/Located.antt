@@ -41,21 +41,6 @@ use Rattle.strands.proofs.Begun.{strandBy, reached, strands, find-by}
 use Rattle.strands.proofs.Counts.{count-first, count-segments, in-segments}
 use Rattle.strands.proofs.Run.{count-map, isRegionOf, Orderly, Run, AllEndLater, pointOf, left-point, reaches}
 
--- ---- the note, by places
-
-module _ (s status : List ℕ) (n : ℕ) (v : Point) (room : n ≤ length status) where
-  whole-length : length (take n status) ≡ n
-  whole-length = length-take-le n status room
-
-  pub near-on : {note : ℕ} (k : ℕ) → k < n → T (onLine (segmentAt s (getD status k 0)) v) → note ≡ 2 → NearNote s (take n status) v note
-  near-on k h t e = on-entry k (omega (arith, whole-length)) (subst (λ (m : ℕ). T (onLine (segmentAt s m) v)) (sym (getD-take n status k 0 h)) t) e
-
-  pub near-between : {note : ℕ} (k : ℕ) → k ≤ n → ((i : ℕ) → suc i ≡ k → T (passesUnder (segmentAt s (getD status i 0)) v))
-      → (k < n → T (passesOver (segmentAt s (getD status k 0)) v)) → note ≡ bit (odd k) → NearNote s (take n status) v note
-  near-between k h below above e =
-      between k (omega (arith, whole-length)) (λ i q. subst (λ (m : ℕ). T (passesUnder (segmentAt s m) v)) (sym (getD-take n status i 0 (omega arith))) (below i q))
-      (λ l. let g : k < n = omega (arith, whole-length) in subst (λ (m : ℕ). T (passesOver (segmentAt s m) v)) (sym (getD-take n status k 0 g)) (above g)) e
-
 -- ---- the line of a segment passes under a point, over it or through it
 
 module _ (t : Segment) (v : Point) where
@@ -68,17 +53,17 @@ module _ (t : Segment) (v : Point) where
   over-not-under : T (passesOver t v) → passesUnder t v ≡ false
   over-not-under u = refute (passesUnder t v) (λ w. pos-clash (ltZ0-pos (side (t .left) (t .right) v) w) (ltZ0-neg (side (t .left) (t .right) v) u))
 
--- a value that is neither zero nor positive
-pub over-else : (x : ℤ) → (x ≡ pos 0 → ⊥) → ltZ (pos 0) x ≡ false → T (ltZ x (pos 0))
-over-else x off none = go (half x)
+-- or under it, where it passes neither over it nor through it
+pub under-else : (x : ℤ) → (x ≡ pos 0 → ⊥) → ltZ x (pos 0) ≡ false → T (ltZ (pos 0) x)
+under-else x off none = go (half x)
   where
-    go : Half x → T (ltZ x (pos 0))
-    go (under k) = neg-ltZ0 x k
+    go : Half x → T (ltZ (pos 0) x)
+    go (under k) = absurd (true≢false (sym (true-is (ltZ x (pos 0)) (neg-ltZ0 x k)) ∙ none))
     go (at-least k) = by-weak (weak k)
       where
-        by-weak : Weak x → T (ltZ x (pos 0))
+        by-weak : Weak x → T (ltZ (pos 0) x)
         by-weak (weak-zero e) = absurd (off e)
-        by-weak (weak-plus w) = absurd (true≢false (sym (true-is (ltZ (pos 0) x) (pos-ltZ0 x w)) ∙ none))
+        by-weak (weak-plus w) = pos-ltZ0 x w
 
 count-all : {A : Type 0} (f : A → Bool) (l : List A) → ((a : A) → a ∈ l → T (f a)) → count f l ≡ length l
 count-all f [] h = refl

@@ -3,8 +3,8 @@ pub mod Lower
 pub mod Status
 pub mod Kept
 pub mod Swept
+pub mod Event
 pub mod Evenly
 pub mod Ready
 pub mod Noted
 pub mod Located
-pub mod Complete

@@ -11,8 +11,8 @@ use lib.ListN.{length, take}
 use Rattle.scene.specs.declared.Layout.{Layout}
 use Rattle.scene.specs.Read.{byte, place}
 use Rattle.strands.specs.Ready.{Ready}
-use Rattle.strands.specs.Swept.{objectOf, isFirst, Entry, Began, Ended, it-began, it-ended}
-use Rattle.strands.specs.Complete.{CanBegin, CanEnd}
+use Rattle.strands.specs.Swept.{objectOf, isFirst, Entry}
+use Rattle.strands.specs.Event.{Began, Ended, CanBegin, CanEnd, it-began, it-ended}
 use Rattle.strands.proofs.Objects.{good, owned, entry}
 use Rattle.sweep.proofs.take_event.Statement.{statement}
 use Rattle.sweep.proofs.take_event.Tie as tie
@@ -47,8 +47,7 @@ module _ (c : tie.After-place) where
         scene = a .pre .0;
         event = subst (Entry s sc) (sym at-is) (entry s sc (a .pre .0) (a .args .first) (a .args .k) (a .pre .1));
         object = ap (isFirst s sc) at-is ∙ owned s sc (a .pre .0) (a .args .first) (a .args .k) (a .pre .1);
-        room = a .pre .2;
-        entries = a .pre .3;
+        held = a .pre .2;
       }
 
   -- its byte
@@ -69,7 +68,7 @@ begin-requires : tie.Need-begin-requires
 begin-requires c κs = ready (c .before .before .before)
 
 end-requires : tie.Need-end-requires
-end-requires c κs = (ready (c .before .before .before), a (c .before .before .before) .pre .4)
+end-requires c κs = (ready (c .before .before .before), a (c .before .before .before) .pre .3)
 
 same-length : tie.Need-same-length
 same-length c = search needs
@@ -81,13 +80,15 @@ returns c =
     let p = t .before .before in
     let x = a p .args in (
       r .begin .ensures .0,
-      λ m v h e. let w = r .begin .ensures .1 m v h e in (
-        w .1,
-        it-began (beginning-is p (eq-eqb _ _ (t .if2 .taken)))
-            (subst (λ (at : ℕ). Began (x .s .now) (x .scene) (x .first) at (take (x .n) (x .status .now)) (take m (r .begin .last .1 .1 .1 .1 .0)) v) (at-is p) (w .2)),
-      ),
-      λ room can. let e = beginning-is p (eq-eqb _ _ (t .if2 .taken)) in
-          r .begin .ensures .2 (room e) (subst (λ (at : ℕ). CanBegin (x .s .now) (x .scene) (x .first) at (take (x .n) (x .status .now))) (sym (at-is p)) (can .can-begin e)),
+      record {
+        done = λ m v h e. let w = r .begin .ensures .1 .done m v h e in (
+          w .0,
+          it-began (beginning-is p (eq-eqb _ _ (t .if2 .taken)))
+              (subst (λ (at : ℕ). Began (x .s .now) (x .scene) (x .first) at (take (x .n) (x .status .now)) (take m (r .begin .last .1 .1 .1 .1 .0)) v) (at-is p) (w .1)),
+        );
+        goes-on = λ can. let e = beginning-is p (eq-eqb _ _ (t .if2 .taken)) in
+            r .begin .ensures .1 .goes-on (can .0 e, subst (λ (at : ℕ). CanBegin (x .s .now) (x .scene) (x .first) at (take (x .n) (x .status .now))) (sym (at-is p)) (can .1 .can-begin e));
+      },
     )
 
 same-length-2 : tie.Need-same-length-2
@@ -100,12 +101,15 @@ returns-2 c =
     let p = t .before .before in
     let x = a p .args in (
       r .end .ensures .0,
-      λ m v h e. let w = r .end .ensures .1 m v h e in (
-        omega (arith, w .0, a p .pre .2, r .end .ensures .0),
-        it-ended (beginning-is p (ne-eqb _ _ (t .if2 .left)))
-            (subst (λ (at : ℕ). Ended (x .s .now) (x .scene) (x .first) at (x .notes .now) (take (x .n) (x .status .now)) (take m (r .end .last .1 .1 .1 .1 .0)) v) (at-is p) (w .1)),
-      ),
-      λ room can. r .end .ensures .2 (subst (λ (at : ℕ). CanEnd (x .s .now) (x .scene) (x .first) at (take (x .n) (x .status .now))) (sym (at-is p)) (can .can-end (beginning-is p (ne-eqb _ _ (t .if2 .left))))),
+      record {
+        done = λ m v h e. let w = r .end .ensures .1 .done m v h e in (
+          w .0,
+          it-ended (beginning-is p (ne-eqb _ _ (t .if2 .left)))
+              (subst (λ (at : ℕ). Ended (x .s .now) (x .scene) (x .first) at (take (x .n) (x .status .now)) (x .notes .now) (take m (r .end .last .1 .1 .1 .1 .0)) v) (at-is p) (w .1)),
+        );
+        goes-on = λ can. r .end .ensures .1 .goes-on
+            (subst (λ (at : ℕ). CanEnd (x .s .now) (x .scene) (x .first) at (take (x .n) (x .status .now))) (sym (at-is p)) (can .1 .can-end (beginning-is p (ne-eqb _ _ (t .if2 .left)))));
+      },
     )
 
 pub take-event-spec : {M : Type 1} → statement M
