@@ -16,7 +16,6 @@ use Rattle.plane.specs.declared.Halfsegment.{Halfsegment}
 use Rattle.plane.specs.Plane.{before, ordered, comesBefore}
 use Rattle.plane.proofs.Order.{before-trans, comes-trans}
 use Rattle.scene.specs.declared.Layout.{Layout}
-use Rattle.scene.specs.declared.Fault.{Fault}
 use Rattle.scene.specs.declared.Fault.the-variants.{At, Nothing}
 use Rattle.scene.specs.Read.{pointAt, place, IsObject}
 use Rattle.scene.specs.Conditions.{indices, elements, keep, hasSegments, half, earliest, inOrder, isMisplaced, outOfOrder}

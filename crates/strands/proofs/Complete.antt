@@ -5,36 +5,33 @@ use native.Mathlib.Nat.{le-refl}
 use native.Mathlib.Omega.{arith}
 use mathlib.Core.Path.{_≡_, refl, sym, ap, _∙_, subst, subst₂}
 use mathlib.Core.Logic.{_⊎_, inl, inr, ⊎-elim}
-use mathlib.Core.Bool.{Bool, true, false, not, _&&_, _||_, Bool·beq}
-use mathlib.Core.List.{List, [], _∷_, _++_, map}
-use lib.Dec.{T, T-not, not-T, ltb}
+use mathlib.Core.Bool.{Bool, true, false, not, _||_, Bool·beq}
+use mathlib.Core.List.{List, _∷_, _++_, map}
+use lib.Dec.{T, T-not, ltb}
 use borrow.Author.Tests.{ltb-true, ltb-false}
-use lib.IntN.{ℤ, pos, negℤ}
 use lib.ListN.{length, getD, take, drop, take-append-drop, length-drop, length-take}
 use lib.Seq.{split-at, getD-drop, getD-take}
 use Rattle.whole.specs.Count.{_∈_, bit, odd, count}
-use Rattle.whole.proofs.Sign.{Pos, NonNeg, Neg, Sign, minus, nought, plus, sign, Half, at-least, under, half, pos-nonneg, zero-nonneg, neg-pos, zero-pos, zero-neg, ltZ0-pos, ltZ0-neg, pos-ltZ0, neg-ltZ0}
-use Rattle.whole.proofs.Logic.{Sorted, and-left, and-right, or-cases, or-left, or-right, decide, refute, true-is, in-map, map-in, in-at, in-index, in-right}
-use Rattle.plane.specs.declared.Point.{Point}
+use Rattle.whole.proofs.Sign.{Pos, NonNeg, Half, at-least, under, half, pos-nonneg, neg-pos, zero-pos, zero-neg, ltZ0-pos, ltZ0-neg, neg-ltZ0}
+use Rattle.whole.proofs.Logic.{Sorted, or-left, or-right, decide, refute, true-is, in-map, map-in, in-at, in-index}
 use Rattle.plane.specs.declared.Segment.{Segment}
 use Rattle.plane.specs.declared.Halfsegment.{Halfsegment}
-use Rattle.plane.specs.Plane.{side, before, ordered, samePoint, sameSegment, comesBefore, dominating, touch}
+use Rattle.plane.specs.Plane.{side, before, ordered, samePoint, comesBefore, touch}
 use Rattle.plane.proofs.OnSegment.{Ordered, ordered-read}
 use Rattle.plane.proofs.Equal.{samePoint-read, samePoint-refl}
 use Rattle.plane.proofs.Order.{ends-differ, halfOf, comes-irreflexive}
 use Rattle.scene.specs.declared.Scene.{Scene}
 use Rattle.scene.specs.Read.{segmentAt, iaAt, place}
-use Rattle.scene.specs.Conditions.{isRegion, segments}
-use Rattle.whole.proofs.Counted.{count-none}
-use Rattle.strands.specs.Lower.{passesUnder, passesOver, lowerAtLeft, lowerAtRight}
+use Rattle.scene.specs.Conditions.{segments}
+use Rattle.strands.specs.Lower.{passesUnder, passesOver, lowerAtRight}
 use Rattle.strands.specs.Lower
 use Rattle.strands.specs.Kept.{Strand, isOf, sameObject, underOf, Lower, Kept}
-use Rattle.strands.specs.Swept.{objectOf, strandOf, isFirst, strandAt, isBeginning, strandsBy, total}
-use Rattle.strands.specs.Event.{Place, FitsAt, CanBegin, OwnAt, CanMeet, EndsAt, CanEnd}
-use Rattle.strands.proofs.Under.{NotBefore, side-left, side-right, side-turned, under-itself, under-later}
+use Rattle.strands.specs.Swept.{objectOf, isFirst, strandAt, isBeginning, strandsBy, total}
+use Rattle.strands.specs.Event.{Place, FitsAt, CanBegin, OwnAt, CanMeet, CanEnd}
+use Rattle.strands.proofs.Under.{NotBefore, side-right, side-turned, under-itself, under-later}
 use Rattle.strands.proofs.Between.{Spans, sideOf, strictly-under}
 use Rattle.strands.proofs.Events.{Reached, UnderBeginning, UnderEnd, passing-end, ending, OverEnd, passing-over, equal-over, Beginning, now-under, new-segment, no-and, sorted-after}
-use Rattle.strands.proofs.Linked.{Linked, upwards}
+use Rattle.strands.proofs.Linked.{upwards}
 use Rattle.strands.proofs.Neighbours.{Below, over-up, spans, linked, all-over, all-under-beginning, all-under-end, all-over-end}
 use Rattle.strands.proofs.Begun.{strandBy, reached, strands, Of, find-of, make-of}
 use Rattle.strands.proofs.Run.{pointOf, Orderly, isRegionOf, EndsLater, AllEndLater, Run, placeOf, ownOf, left-point, right-point, reaching, new-own, map-append, count-map}

@@ -7,12 +7,12 @@ use mathlib.Core.Path.{_≡_, refl, sym, ap, ap₂, subst, _∙_}
 use mathlib.Core.Bool.{Bool, true, false, not, _&&_, Bool·beq}
 use mathlib.Core.List.{List, [], _∷_}
 use lib.Dec.{T}
-use lib.ListN.{length, getD, take, drop, take-append-drop, length-drop}
-use lib.Seq.{length-take-le, take-suc, take-take, getD-take, getD-drop}
+use lib.ListN.{length, getD, take, drop, take-append-drop}
+use lib.Seq.{length-take-le, take-suc, take-take, getD-take}
 use native.Mathlib.Numerals.{add-one}
 use Rattle.whole.specs.Count.{_∈_, bit, count}
 use Rattle.whole.specs.Decides.{Decides}
-use Rattle.whole.proofs.Logic.{in-at, in-index, in-left}
+use Rattle.whole.proofs.Logic.{in-at, in-left}
 use Rattle.whole.proofs.Deciding.{by-test, same-as}
 use Rattle.whole.proofs.Parity.{_⊻_, xor-false, parity, parity-nil, parity-cons, parity-append}
 use Rattle.plane.specs.declared.Point.{Point}
@@ -27,7 +27,7 @@ use Rattle.strands.specs.Lower.{passesOver}
 use Rattle.strands.specs.Status.{AtPlace, BelowPlace}
 use Rattle.strands.specs.Swept.{objectOf, isFirst, strandOf, strandAt, Entry}
 use Rattle.strands.specs.Event.{Place, OwnAt}
-use Rattle.strands.specs.Ready.{Placed, Readable, Held, Ready}
+use Rattle.strands.specs.Ready.{Placed, Readable, Held}
 use Rattle.strands.proofs.Objects.{few-elements}
 
 -- ---- an entry's record
@@ -105,9 +105,8 @@ module _ {s : List ℕ} {sc : Scene} {status : List ℕ} {n : ℕ} (h : Held s s
     entries = λ e k. h .entries e (subst (λ (l : List ℕ). e ∈ l) (take-append-drop m (take n status)) (in-left (drop m (take n status)) (subst (λ (l : List ℕ). e ∈ l) (sym (take-take m n status b)) k)));
   }
 
--- ---- from places to members
+-- ---- what holds of each place, from one end of a row or from the other
 
--- one place more
 pub one-more : {P : ℕ → Type 0} (k : ℕ) → ((i : ℕ) → i < k → P i) → P k → (i : ℕ) → i < k + 1 → P i
 one-more {P} k old new i h = go (ℕ-discrete k i)
   where
@@ -115,14 +114,6 @@ one-more {P} k old new i h = go (ℕ-discrete k i)
     go (yes e) = subst P e new
     go (no e) = old i (omega arith)
 
-module _ (P : ℕ → Type 0) (l : List ℕ) (n k : ℕ) (room : n ≤ length l) where
-  pub of-rest : ((i : ℕ) → k ≤ i → i < n → P (getD l i 0)) → (e : ℕ) → e ∈ drop k (take n l) → P e
-  of-rest p e m =
-      let w = in-index 0 m in
-      let b : k + w .0 < n = omega (arith, w .1, length-drop k (take n l), length-take-le n l room) in
-      subst P (sym (getD-take n l (k + w .0) 0 b) ∙ sym (getD-drop k (take n l) (w .0) 0) ∙ w .2) (p (k + w .0) (omega arith) b)
-
--- one place more, from the top
 pub one-lower : {P : ℕ → Type 0} (k n : ℕ) → ((i : ℕ) → k ≤ i → i < n → P i) → P (k - 1) → (i : ℕ) → k - 1 ≤ i → i < n → P i
 one-lower {P} k n old new i h l = go (ℕ-discrete (k - 1) i)
   where

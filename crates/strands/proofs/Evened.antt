@@ -7,11 +7,11 @@ use mathlib.Core.Path.{_≡_, refl, sym, ap, ap₂, _∙_, subst, subst₂}
 use mathlib.Core.Bool.{Bool, true, false, not, _&&_, cond, true≢false}
 use mathlib.Core.List.{List, [], _∷_, map}
 use mathlib.Core.Logic.{⊎-elim}
-use lib.Dec.{T, not-T, eqb}
+use lib.Dec.{T, not-T}
 use borrow.Author.Tests.{eqb-false}
-use Rattle.whole.specs.Count.{_∈_, here, there, bit, odd, count}
+use Rattle.whole.specs.Count.{_∈_, odd, count}
 use Rattle.whole.proofs.Logic.{refute, true-is, in-map, map-in, Sorted, sorted-map}
-use Rattle.whole.proofs.Parity.{_⊻_, xor-none, xor-false, parity, parity-nil, parity-cons, parity-same, parity-xor, parity-none, odd-count, even-all, sorted-once}
+use Rattle.whole.proofs.Parity.{_⊻_, xor-none, xor-false, parity, parity-cons, parity-same, parity-xor, parity-none, odd-count, even-all, sorted-once}
 use Rattle.plane.specs.declared.Point.{Point}
 use Rattle.plane.specs.declared.Segment.{Segment}
 use Rattle.plane.specs.declared.Halfsegment.{Halfsegment}

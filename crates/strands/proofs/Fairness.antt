@@ -2,37 +2,28 @@
 -- many of a region's own pass under the beginning.
 use Prim.Native.Nat.{ℕ, _<_}
 use mathlib.Core.Path.{_≡_, refl, sym, ap, _∙_, subst}
-use mathlib.Core.Logic.{⊎-elim}
-use mathlib.Core.Bool.{Bool, true, false, not, _&&_, cond}
+use mathlib.Core.Bool.{Bool, true, false, not, _&&_}
 use mathlib.Core.List.{List}
 use lib.Dec.{T}
 use Rattle.whole.specs.Count.{_∈_, odd, count}
-use Rattle.whole.proofs.Logic.{refute, true-is, is-true, none-of}
+use Rattle.whole.proofs.Logic.{refute, true-is, none-of}
 use Rattle.whole.proofs.Parity.{odd-count}
 use Rattle.plane.specs.declared.Segment.{Segment}
-use Rattle.plane.specs.Plane.{ordered, interiorAbove, touch}
+use Rattle.plane.specs.Plane.{touch}
 use Rattle.plane.proofs.OnSegment.{ordered-read}
 use Rattle.plane.proofs.Accepted.{Regular}
-use Rattle.scene.specs.declared.Shape.{Shape}
-use Rattle.scene.specs.declared.Shape.the-variants.{Points, Line, Region}
 use Rattle.scene.specs.declared.Scene.{Scene}
-use Rattle.scene.specs.Read.{place, segmentAt, iaAt, IsScene}
-use Rattle.scene.specs.Conditions.{hasSegments, isRegion, half, segments, isTouching, touching, touchingItself, wrongIa}
+use Rattle.scene.specs.Read.{place, iaAt, IsScene}
+use Rattle.scene.specs.Conditions.{isRegion, half, segments, isTouching, touching}
 use Rattle.segments.proofs.Indices.{none-wrong}
-use Rattle.segments.proofs.Partners.{Partner}
 use Rattle.segments.proofs.Parted.{touch-swap}
 use Rattle.strands.specs.Lower.{under}
-use Rattle.strands.specs.Swept.{objectOf, isBeginning, total, InOrder, Passes}
+use Rattle.strands.specs.Swept.{objectOf, total, InOrder, Passes}
 use Rattle.strands.proofs.Begun.{strandBy}
 use Rattle.strands.proofs.Objects.{has, read}
 use Rattle.strands.proofs.Start.{start-interior}
 use Rattle.strands.proofs.SoundObject.{SoundObject, partner-of, segment-in, all-ordered, no-touch, split, regular, ia-is, in-left}
 use Rattle.strands.proofs.Complete.{Other, Fair}
-
-pub region-segments : (k : Shape) → T (isRegion k) → hasSegments k ≡ true
-region-segments Points t = absurd t
-region-segments Line t = absurd t
-region-segments Region t = refl
 
 module _ (s : List ℕ) (sc : Scene) (is : IsScene s sc) (order : InOrder s sc) (passes : Passes s sc) where
   pub sound : (first : Bool) → SoundObject s (objectOf s sc first)

@@ -1,17 +1,17 @@
 -- A run that has taken all elements and has no active segment: the conditions 11 to 15 find no fault.
-use Prim.Native.Nat.{ℕ, _+_, _<_}
+use Prim.Native.Nat.{ℕ, _<_}
 use native.Mathlib.Omega.{arith}
 use mathlib.Core.Path.{_≡_, refl, sym, ap, ap₂, _∙_, subst}
-use mathlib.Core.Logic.{_⊎_, inl, inr, ⊎-elim}
+use mathlib.Core.Logic.{_⊎_, ⊎-elim}
 use mathlib.Core.Bool.{Bool, true, false, not, _&&_, cond, Bool·beq, true≢false}
-use mathlib.Core.List.{List, [], _∷_, map}
+use mathlib.Core.List.{List, []}
 use lib.Dec.{T}
 use Rattle.whole.specs.Count.{_∈_, bit, odd, some, count}
 use Rattle.whole.proofs.Logic.{in-nil, map-in, some-find, some-make, none-of, refute, true-is, is-true, and-make, beq-refl, beq-same}
 use Rattle.whole.proofs.Parity.{_⊻_, parity, parity-same, parity-xor, xor-false, odd-count}
 use Rattle.plane.specs.declared.Point.{Point}
 use Rattle.plane.specs.declared.Segment.{Segment}
-use Rattle.plane.specs.Plane.{samePoint, sameSegment, dominating, choose, isEnd, endsAt, grid, interiorAbove, touch, ordered}
+use Rattle.plane.specs.Plane.{samePoint, sameSegment, dominating, choose, isEnd, endsAt, grid, interiorAbove, touch}
 use Rattle.plane.proofs.OnSegment.{Ordered, ordered-read}
 use Rattle.plane.proofs.Equal.{sameSegment-refl}
 use Rattle.plane.proofs.Path.{Even}
@@ -20,14 +20,13 @@ use Rattle.scene.specs.declared.Shape.{Shape}
 use Rattle.scene.specs.declared.Shape.the-variants.{Points, Line, Region}
 use Rattle.scene.specs.declared.Scene.{Scene}
 use Rattle.scene.specs.declared.Fault.the-variants.{Nothing}
-use Rattle.scene.specs.Read.{place, segmentAt, iaAt}
-use Rattle.scene.specs.Conditions.{elements, keep, hasSegments, isRegion, half, ia, isLeft, segments, partner, isUnpaired, unpaired, isTouching, touching, touchingItself, endsOddly, oddEnd, hasWrongIa, wrongIa, touchingAcross}
-use Rattle.whole.proofs.Counted.{count-none, count-same}
+use Rattle.scene.specs.Conditions.{elements, keep, hasSegments, isRegion, half, ia, isLeft, segments, partner, isUnpaired, unpaired, isTouching, touching, touchingItself, endsOddly, oddEnd, hasWrongIa, wrongIa}
+use Rattle.whole.proofs.Counted.{count-none}
 use Rattle.segments.proofs.Indices.{element-in, in-element, keep-in, no-fault}
 use Rattle.strands.specs.Lower.{under}
 use Rattle.strands.specs.Evenly.{EndsEvenly, dominatedBy}
 use Rattle.strands.specs.Kept.{Strand, NoneEqual, Kept}
-use Rattle.strands.specs.Swept.{objectOf, strandOf, isBeginning, strandsBy, total, Passes}
+use Rattle.strands.specs.Swept.{objectOf, isBeginning, strandsBy, total, Passes}
 use Rattle.strands.specs.Noted.{SegmentsNoted}
 use Rattle.strands.proofs.Start.{start-interior}
 use Rattle.strands.proofs.Begun.{strandBy, reached, strands, Of, find-of, make-of}

@@ -1,24 +1,22 @@
 -- In a scene where the conditions 11 to 15 find no fault, each active segment ends at an event to come; so none is active when all have been taken.
-use Prim.Native.Nat.{ℕ, zero, suc, _+_, _<_, _≤_}
+use Prim.Native.Nat.{ℕ, suc, _+_, _<_, _≤_}
 use native.Mathlib.Omega.{arith}
 use mathlib.Core.Path.{_≡_, refl, sym, ap, _∙_, subst, subst₂}
 use mathlib.Core.Logic.{_⊎_, inl, inr, ⊎-elim}
 use mathlib.Core.Bool.{Bool, true, false, not, true≢false}
 use mathlib.Core.List.{List, [], _∷_, _++_, map}
-use lib.Dec.{T, ltb}
+use lib.Dec.{T}
 use lib.ListN.{length, getD, take, drop}
 use lib.Seq.{split-at}
 use borrow.Author.Tests.{ltb-true}
 use Rattle.whole.specs.Count.{_∈_, here, bit, some, count}
 use Rattle.whole.proofs.Logic.{in-map, some-make, true-is, and-make, is-true, beq-refl}
 use Rattle.whole.proofs.Counted.{count-between, some-count, at-between}
-use Rattle.plane.specs.declared.Segment.{Segment}
 use Rattle.plane.specs.Plane.{before, ordered, sameSegment, comesBefore}
 use Rattle.plane.proofs.Equal.{sameSegment-refl}
 use Rattle.scene.specs.declared.Scene.{Scene}
-use Rattle.scene.specs.Read.{place}
 use Rattle.strands.specs.Kept.{Strand, sameObject, ownEqual, Kept}
-use Rattle.strands.specs.Swept.{objectOf, isFirst, strandOf, strandAt, isBeginning, total}
+use Rattle.strands.specs.Swept.{isFirst, strandOf, strandAt, isBeginning, total}
 use Rattle.strands.specs.Event.{Began, Ended, Taken, it-began, it-ended, CanTake}
 use Rattle.strands.proofs.Under.{NotBefore}
 use Rattle.strands.proofs.Begun.{strandBy, reached, strands, Next}

@@ -11,7 +11,7 @@ use lib.Dec.{T, ltb}
 use lib.IntN.{ℤ, pos, _-ℤ_}
 use lib.Signed.{ltZ}
 use lib.ListN.{length, getD, take, drop, take-append-drop}
-use lib.Seq.{length-take-le, getD-take}
+use lib.Seq.{length-take-le}
 use Rattle.whole.specs.Count.{_∈_, here, there, bit, odd, some, count}
 use Rattle.whole.proofs.Solver.{var, _:-_, opp, solve}
 use Rattle.whole.proofs.Sign.{NonNeg, nonneg-both, sub-zero-eq, zero-pos, zero-neg, pos-clash, ltZ0-pos, pos-ltZ0, ltZ0-neg, neg-ltZ0, Half, at-least, under, half, Weak, weak-zero, weak-plus, weak}

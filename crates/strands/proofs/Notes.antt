@@ -9,11 +9,11 @@ use mathlib.Core.Bool.{Bool, true, false, not}
 use mathlib.Core.List.{List, [], _∷_}
 use lib.ListN.{length, getD, set}
 use lib.Seq.{getD-set-same, getD-set-other}
-use Rattle.whole.specs.Count.{_∈_, here, there, bit, odd, count}
+use Rattle.whole.specs.Count.{_∈_, there, bit, odd, count}
 use Rattle.scene.specs.declared.Scene.{Scene}
 use Rattle.scene.specs.Read.{place}
 use Rattle.strands.specs.Kept.{Strand, underOf, NoneEqual}
-use Rattle.strands.specs.Swept.{slot, objectOf, isFirst, strandOf, strandAt, isBeginning, total}
+use Rattle.strands.specs.Swept.{slot, objectOf, isFirst, strandOf, isBeginning, total}
 use Rattle.strands.specs.Event.{Began, Ended, Taken, it-began, it-ended}
 use Rattle.strands.proofs.Under.{NotBefore}
 use Rattle.strands.proofs.Events.{Beginning, now-under, still-under}

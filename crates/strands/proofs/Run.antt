@@ -10,10 +10,10 @@ use mathlib.Core.List.{List, [], _∷_, _++_, map}
 use lib.Dec.{T}
 use lib.ListN.{length, getD, take, drop, take-append-drop}
 use lib.Seq.{split-at}
-use Rattle.whole.specs.Count.{_∈_, there, odd, count}
+use Rattle.whole.specs.Count.{_∈_, odd, count}
 use Rattle.whole.proofs.Logic.{sorted-nil, in-nil, in-at, map-in, or-cases, and-left, and-right, false-is, true-is, beq-same}
 use Rattle.plane.specs.declared.Point.{Point}
-use Rattle.plane.specs.Plane.{before, ordered, samePoint, sameSegment, dominating, choose}
+use Rattle.plane.specs.Plane.{ordered, samePoint, sameSegment, dominating, choose}
 use Rattle.plane.proofs.OnSegment.{ordered-read}
 use Rattle.plane.proofs.Equal.{samePoint-read, sameSegment-read}
 use Rattle.scene.specs.declared.Scene.{Scene}

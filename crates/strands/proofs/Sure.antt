@@ -12,9 +12,9 @@ use Rattle.strands.specs.Swept.{isBeginning, total, InOrder, Passes}
 use Rattle.strands.specs.Event.{Taken, CanTake}
 use Rattle.strands.proofs.Begun.{reached, Next}
 use Rattle.strands.proofs.Ordered.{orderly}
-use Rattle.strands.proofs.Run.{Orderly, AllEndLater, Run}
+use Rattle.strands.proofs.Run.{AllEndLater, Run}
 use Rattle.strands.proofs.Chosen.{Chosen}
-use Rattle.strands.proofs.Strict.{Rises, rises, After, Earliest}
+use Rattle.strands.proofs.Strict.{rises, After, Earliest}
 use Rattle.strands.proofs.Fairness.{fair, sound}
 use Rattle.strands.proofs.Lasting.{lasts, can-take}
 use Rattle.strands.proofs.Few.{room-left}

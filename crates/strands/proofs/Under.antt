@@ -1,20 +1,20 @@
 -- The test `under` where the sweep knows the answer: for a segment that passes strictly under or over the beginning, that has ended before it, or
 -- that begins after it.
-use mathlib.Core.Path.{_≡_, refl, sym, ap, ap₂, _∙_, subst}
+use mathlib.Core.Path.{_≡_, sym, ap, ap₂, _∙_, subst}
 use mathlib.Core.Logic.{⊎-elim}
 use mathlib.Core.Bool.{Bool, true, false, not, _&&_, _||_}
 use mathlib.Core.List.{[], _∷_}
 use lib.Dec.{T, T-not}
-use lib.IntN.{ℤ, pos, negℤ, one, _+ℤ_, _-ℤ_, _*ℤ_, *ℤ-one}
+use lib.IntN.{ℤ, pos, negℤ, one, _-ℤ_, _*ℤ_, *ℤ-one}
 use lib.Signed.{ltZ, leZ}
 use Rattle.whole.specs.Count.{eqZ}
-use Rattle.whole.proofs.Solver.{var, con, opp, _:+_, _:-_, _:*_, solve}
+use Rattle.whole.proofs.Solver.{var, con, opp, _:-_, _:*_, solve}
 use Rattle.whole.proofs.Sign.{Pos, NonNeg, zero-pos, zero-neg, nonneg-clash, nonneg-mul, nonneg-both, leZ-nonneg, nonneg-leZ, ltZ-leZ, ltZ0-pos, ltZ0-neg, neg-of-pos, pos-clash, zero-eqZ, sub-zero-eq}
-use Rattle.whole.proofs.Logic.{and-left, and-right, or-cases, or-left, or-right, and-make, refute, true-is, decide}
+use Rattle.whole.proofs.Logic.{and-left, and-right, or-cases, or-left, and-make, refute, decide}
 use Rattle.plane.specs.declared.Point.{Point}
 use Rattle.plane.specs.declared.Segment.{Segment}
 use Rattle.plane.specs.Plane.{side, sideAt, samePoint, before, ordered, countsBelow, grid}
-use Rattle.plane.proofs.OnSegment.{Ordered, ordered-read, width}
+use Rattle.plane.proofs.OnSegment.{Ordered, width}
 use Rattle.plane.proofs.Equal.{samePoint-read}
 use Rattle.plane.proofs.Grid.{side-grid}
 use Rattle.strands.specs.Lower.{passesUnder, passesOver, under}

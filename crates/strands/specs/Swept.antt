@@ -2,7 +2,7 @@
 use Prim.Native.Nat.{ℕ, zero, suc, _+_, _<_}
 use mathlib.Core.Path.{_≡_}
 use mathlib.Core.Bool.{Bool, true, false, not, _&&_, _||_, cond, Bool·beq}
-use mathlib.Core.List.{List, [], _∷_, _++_}
+use mathlib.Core.List.{List, [], _∷_}
 use lib.Dec.{T, ltb}
 use Rattle.plane.specs.Plane.{comesBefore}
 use Rattle.scene.specs.declared.Layout.{Layout}
@@ -42,12 +42,6 @@ module _ (s : List ℕ) (sc : Scene) where
   strandsBy begins first zero = []
   strandsBy begins first (suc i) =
       cond (Bool·beq (isBeginning first i) begins) (strandOf first (place (objectOf first) i) ∷ strandsBy begins first i) (strandsBy begins first i)
-
-  abbrev pub begun : ℕ → ℕ → List Strand
-  begun i j = strandsBy true true i ++ strandsBy true false j
-
-  abbrev pub ended : ℕ → ℕ → List Strand
-  ended i j = strandsBy false true i ++ strandsBy false false j
 
   -- ---- the order of events
 

@@ -1,6 +1,6 @@
 -- `event::begin` meets its contract: at the place that is found, the tests are those of a segment that fits there, and the parities are those of the
 -- entries below it.
-use Prim.Native.Nat.{ℕ, _+_, _<_, _≤_}
+use Prim.Native.Nat.{ℕ, _+_, _≤_}
 use native.Mathlib.Omega.{arith}
 use mir.Syntax.{w64}
 use mir.Val.{Fits}

@@ -1,6 +1,6 @@
 -- `event::end` meets its contract: at the place that is found, the tests are those of a segment that ends there, and the entry's element is of the same
 -- object.
-use Prim.Native.Nat.{ℕ, suc, _-_, _<_, _≤_}
+use Prim.Native.Nat.{ℕ, _-_, _<_, _≤_}
 use native.Mathlib.Omega.{arith}
 use mathlib.Core.Path.{_≡_, refl, sym, ap, subst, _∙_}
 use mathlib.Core.List.{List}
