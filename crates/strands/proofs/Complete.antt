@@ -7,13 +7,12 @@ use mathlib.Core.Path.{_≡_, refl, sym, ap, _∙_, subst, subst₂}
 use mathlib.Core.Logic.{_⊎_, inl, inr, ⊎-elim}
 use mathlib.Core.Bool.{Bool, true, false, not, _||_, Bool·beq}
 use mathlib.Core.List.{List, _∷_, _++_, map}
-use lib.Dec.{T, T-not, ltb}
-use borrow.Author.Tests.{ltb-true, ltb-false}
+use lib.Dec.{T, T-not}
 use lib.ListN.{length, getD, take, drop, take-append-drop, length-drop, length-take}
 use lib.Seq.{split-at, getD-drop, getD-take}
 use Rattle.whole.specs.Count.{_∈_, bit, odd, count}
 use Rattle.whole.proofs.Sign.{Pos, NonNeg, Half, at-least, under, half, pos-nonneg, neg-pos, zero-pos, zero-neg, ltZ0-pos, ltZ0-neg, neg-ltZ0}
-use Rattle.whole.proofs.Logic.{Sorted, or-left, or-right, decide, refute, true-is, in-map, map-in, in-at, in-index}
+use Rattle.whole.proofs.Logic.{less-or-not, Sorted, or-left, or-right, decide, refute, true-is, in-map, map-in, in-at, in-index}
 use Rattle.plane.specs.declared.Segment.{Segment}
 use Rattle.plane.specs.declared.Halfsegment.{Halfsegment}
 use Rattle.plane.specs.Plane.{side, before, ordered, samePoint, comesBefore, touch}
@@ -39,15 +38,8 @@ use Rattle.strands.proofs.Counts.{count-own, count-first, count-segment
 use Rattle.strands.proofs.Objects.{has}
 use Rattle.strands.proofs.Ordered.{comes-by-point}
 use Rattle.strands.proofs.Crossing.{lower-at-right}
-use Rattle.strands.proofs.Strict.{halfBy, as-half, Rises, After, Earliest, right-left, left-left, right-right}
+use Rattle.strands.proofs.EventOrder.{halfBy, as-half, Rises, After, Earliest, right-left, left-left, right-right}
 use Rattle.strands.proofs.Fits.{under-beginning-make, under-it, under-right, over-right, higher-first}
-
-pub less-or-not : (m n : ℕ) → (m < n) ⊎ (n ≤ m)
-less-or-not m n = go (ltb m n) refl
-  where
-    go : (b : Bool) → ltb m n ≡ b → (m < n) ⊎ (n ≤ m)
-    go true e = inl (ltb-true m n e)
-    go false e = inr (ltb-false m n e)
 
 -- ---- what the conditions give
 

@@ -18,7 +18,7 @@ use Rattle.plane.proofs.OnSegment.{Ordered, ordered-read}
 use Rattle.plane.proofs.Equal.{samePoint-refl, sameSegment-refl, sameSegment-read}
 use Rattle.strands.specs.Lower.{passesUnder, passesOver, lowerAtRight, under}
 use Rattle.strands.specs.Kept.{Strand, isOf, sameObject, underOf, NoneEqual, ownEqual, Lower, Kept}
-use Rattle.strands.proofs.Pair.{ordered-clear, after-clear}
+use Rattle.strands.proofs.NoTouch.{ordered-clear, after-clear}
 use Rattle.whole.proofs.Counted.{count-append, count-between, count-none, count-same, in-between, at-between, or-between}
 use Rattle.strands.proofs.Under.{NotBefore, side-left, side-right, side-turned, under-lower, under-over, under-ended, under-later, under-itself}
 

@@ -10,7 +10,7 @@ use lib.ListN.{length, getD, take, drop}
 use lib.Seq.{split-at}
 use borrow.Author.Tests.{ltb-true}
 use Rattle.whole.specs.Count.{_∈_, here, bit, some, count}
-use Rattle.whole.proofs.Logic.{in-map, some-make, true-is, and-make, is-true, beq-refl}
+use Rattle.whole.proofs.Logic.{less-or-not, in-map, some-make, true-is, and-make, is-true, beq-refl}
 use Rattle.whole.proofs.Counted.{count-between, some-count, at-between}
 use Rattle.plane.specs.Plane.{before, ordered, sameSegment, comesBefore}
 use Rattle.plane.proofs.Equal.{sameSegment-refl}
@@ -23,8 +23,8 @@ use Rattle.strands.proofs.Begun.{strandBy, reached, strands, Next}
 use Rattle.strands.proofs.Shifted.{in-inserted, in-removed}
 use Rattle.strands.proofs.Ordered.{comes-by-point}
 use Rattle.strands.proofs.Run.{pointOf, Orderly, isRegionOf, EndsLater, AllEndLater, Run, placeOf, ownOf, left-point, right-point, own-there, map-append}
-use Rattle.strands.proofs.Strict.{halfBy, Rises, After, Earliest, not-earlier}
-use Rattle.strands.proofs.Complete.{less-or-not, Other, Fair, can-begin, can-end}
+use Rattle.strands.proofs.EventOrder.{halfBy, Rises, After, Earliest, not-earlier}
+use Rattle.strands.proofs.Complete.{Other, Fair, can-begin, can-end}
 
 counted : {A : Type 0} (f : A → Bool) {l : List A} {a : A} → a ∈ l → T (f a) → 0 < count f l
 counted f {l} m t = ltb-true 0 (count f l) (sym (some-count f l) ∙ true-is (some f l) (some-make f m t))

@@ -8,20 +8,19 @@ use mathlib.Core.Logic.{⊎-elim}
 use mathlib.Core.Bool.{Bool, true, false, not, _&&_, _||_, cond, true≢false}
 use mathlib.Core.List.{List, [], _∷_, map}
 use lib.Dec.{T, ltb}
-use lib.IntN.{ℤ, pos, _-ℤ_}
+use lib.IntN.{ℤ, pos}
 use lib.Signed.{ltZ}
 use lib.ListN.{length, getD, take, drop, take-append-drop}
 use lib.Seq.{length-take-le}
 use Rattle.whole.specs.Count.{_∈_, here, there, bit, odd, some, count}
-use Rattle.whole.proofs.Solver.{var, _:-_, opp, solve}
-use Rattle.whole.proofs.Sign.{NonNeg, nonneg-both, sub-zero-eq, zero-pos, zero-neg, pos-clash, ltZ0-pos, pos-ltZ0, ltZ0-neg, neg-ltZ0, Half, at-least, under, half, Weak, weak-zero, weak-plus, weak}
+use Rattle.whole.proofs.Sign.{zero-pos, zero-neg, pos-clash, ltZ0-pos, pos-ltZ0, ltZ0-neg, neg-ltZ0, Half, at-least, under, half, Weak, weak-zero, weak-plus, weak}
 use Rattle.whole.proofs.Logic.{and-left, and-right, or-left, or-right, refute, same-test, and-follows, true-is, in-map, in-at, in-append, some-find, some-make, none-of}
 use Rattle.whole.proofs.Counted.{count-append, count-none, count-same, some-count}
 use Rattle.plane.specs.declared.Point.{Point}
 use Rattle.plane.specs.declared.Segment.{Segment}
 use Rattle.plane.specs.Plane.{side, turn, samePoint, before, grid, on, isEnd, endsAt, onSome, countsBelow}
 use Rattle.plane.proofs.OnSegment.{Ordered, ordered-read}
-use Rattle.plane.proofs.Equal.{point-eq, samePoint-refl}
+use Rattle.plane.proofs.Equal.{samePoint-refl}
 use Rattle.plane.proofs.Machine.{isStraight, straight-is, eqZ-no}
 use Rattle.plane.proofs.Grid.{on-grid, end-grid}
 use Rattle.scene.specs.declared.Scene.{Scene}
@@ -32,7 +31,7 @@ use Rattle.strands.specs.Kept.{Strand, Kept}
 use Rattle.strands.specs.Noted.{pointNote}
 use Rattle.strands.specs.Located.{onLine, NearNote, on-entry, between}
 use Rattle.strands.specs.Swept.{objectOf, strandAt, isBeginning, strandsBy, total}
-use Rattle.strands.proofs.Under.{NotBefore, after-x, after-y, counts-under, counts-make, counts-ended, counts-later}
+use Rattle.strands.proofs.Under.{NotBefore, not-before-both, counts-under, counts-make, counts-ended, counts-later}
 use Rattle.strands.proofs.Between.{Spans, under-next}
 use Rattle.strands.proofs.Linked.{Linked, linked-sorted, downwards}
 use Rattle.strands.proofs.Neighbours.{all-over}
@@ -70,16 +69,6 @@ count-all f [] h = refl
 count-all f (a ∷ l) h = omega (arith, ap bit (true-is (f a) (h a here)), count-all f l (λ b m. h b (there m)))
 
 -- ---- one segment beside a point that is no end of it
-
--- points neither of which comes before the other are one
-pub not-before-both : (p q : Point) → NotBefore p q → NotBefore q p → p ≡ q
-not-before-both p q h k = point-eq same-x (both (p .y) (q .y) (after-y p q h same-x) (after-y q p k (sym same-x)))
-  where
-    both : (a b : ℤ) → NonNeg (a -ℤ b) → NonNeg (b -ℤ a) → a ≡ b
-    both a b m n = sub-zero-eq a b (nonneg-both n (subst NonNeg (solve (a ∷ b ∷ []) (var 0 :- var 1) (opp (var 1 :- var 0)) tt) m))
-
-    same-x : p .x ≡ q .x
-    same-x = both (p .x) (q .x) (after-x p q h) (after-x q p k)
 
 module _ (t : Segment) (v : Point) where
   abbrev straight : Bool

@@ -15,7 +15,7 @@ use Rattle.plane.specs.declared.Point.{Point}
 use Rattle.plane.specs.declared.Segment.{Segment}
 use Rattle.plane.specs.Plane.{side, sideAt, samePoint, before, ordered, countsBelow, grid}
 use Rattle.plane.proofs.OnSegment.{Ordered, width}
-use Rattle.plane.proofs.Equal.{samePoint-read}
+use Rattle.plane.proofs.Equal.{point-eq, samePoint-read}
 use Rattle.plane.proofs.Grid.{side-grid}
 use Rattle.strands.specs.Lower.{passesUnder, passesOver, under}
 
@@ -49,6 +49,16 @@ after-y p q t e =
     rest : (a b : Bool) → T a → T (not (a && b)) → T (not b)
     rest true b h t = t
     rest false b h t = absurd h
+
+-- points neither of which comes before the other are one
+pub not-before-both : (p q : Point) → NotBefore p q → NotBefore q p → p ≡ q
+not-before-both p q h k = point-eq same-x (both (p .y) (q .y) (after-y p q h same-x) (after-y q p k (sym same-x)))
+  where
+    both : (a b : ℤ) → NonNeg (a -ℤ b) → NonNeg (b -ℤ a) → a ≡ b
+    both a b m n = sub-zero-eq a b (nonneg-both n (subst NonNeg (solve (a ∷ b ∷ []) (var 0 :- var 1) (opp (var 1 :- var 0)) tt) m))
+
+    same-x : p .x ≡ q .x
+    same-x = both (p .x) (q .x) (after-x p q h) (after-x q p k)
 
 -- ---- the side value at an end
 

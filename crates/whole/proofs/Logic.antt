@@ -1,6 +1,7 @@
 -- Tests as propositions: `T b` taken apart and put together at each Boolean operation, and "some" and "every" of a list with their witnesses.
 -- And lists whose elements rise in a strict order: from neighbours to any two.
-use Prim.Native.Nat.{ℕ, zero, suc, _<_}
+use Prim.Native.Nat.{ℕ, zero, suc, _<_, _≤_}
+use native.Mathlib.Decide.{decLt}
 use native.Mathlib.Nat.{not-suc-le-zero, le-of-suc-le-suc, eq-or-lt-of-le}
 use native.Mathlib.Omega.{arith}
 use mathlib.Core.Path.{_≡_, refl, sym, subst}
@@ -34,6 +35,13 @@ or-left false b t = absurd t
 pub or-right : (a b : Bool) → T b → T (a || b)
 or-right true b t = tt
 or-right false b t = t
+
+pub less-or-not : (m n : ℕ) → (m < n) ⊎ (n ≤ m)
+less-or-not m n = go (decLt m n)
+  where
+    go : Dec (m < n) → (m < n) ⊎ (n ≤ m)
+    go (yes h) = inl h
+    go (no h) = inr (omega arith)
 
 pub decide : (b : Bool) → T b ⊎ T (not b)
 decide true = inl tt

@@ -14,8 +14,7 @@ use Rattle.whole.proofs.Logic.{is-true}
 use Rattle.whole.proofs.Deciding.{yes, no}
 use Rattle.whole.proofs.Parity.{parity}
 use Rattle.strands.specs.Evenly.{dominatedBy}
-use Rattle.strands.proofs.Pairs.{parityFrom, parity-all, parity-end, parity-pair, Pair, pair, shared}
-use Rattle.strands.proofs.Evened.{even-count, next-shares}
+use Rattle.strands.proofs.Evenly.{parityFrom, parity-all, parity-end, parity-pair, Pair, pair, shared, even-count, next-shares}
 use Rattle.evenly.proofs.ends_evenly.Statement.{statement}
 use Rattle.evenly.proofs.ends_evenly.Tie as tie
 

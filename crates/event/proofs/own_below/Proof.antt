@@ -8,7 +8,7 @@ use mathlib.Core.Logic.{⊎-elim}
 use lib.Dec.{T}
 use borrow.Author.Needs.{needs}
 use lib.ListN.{getD}
-use Rattle.whole.proofs.Logic.{is-true}
+use Rattle.whole.proofs.Logic.{less-or-not, is-true}
 use Rattle.plane.proofs.Equal.{sameSegment-read, sameSegment-refl}
 use Rattle.plane.specs.declared.Segment.{Segment}
 use Rattle.plane.specs.Plane.{sameSegment}
@@ -16,7 +16,6 @@ use Rattle.scene.specs.Read.{segmentAt}
 use Rattle.scene.proofs.Flags.{upheld, refuted}
 use Rattle.strands.specs.Swept.{strandOf, strandAt, Entry}
 use Rattle.strands.proofs.Entries.{entry-readable, held-entry, one-lower}
-use Rattle.strands.proofs.Complete.{less-or-not}
 use Rattle.event.proofs.own_below.Statement.{statement}
 use Rattle.event.proofs.own_below.Tie as tie
 

@@ -10,7 +10,7 @@ use Rattle.scene.specs.declared.Shape.the-variants.{Points}
 use Rattle.scene.specs.Conditions.{hasSegments}
 use Rattle.segments.proofs.Elements.{no-segments-points}
 use Rattle.strands.specs.Evenly.{RegionsEndEvenly}
-use Rattle.strands.proofs.Sure.{regions-end-evenly}
+use Rattle.strands.proofs.GoesOn.{regions-end-evenly}
 use Rattle.sweep.proofs.accepts.Statement.{statement}
 use Rattle.sweep.proofs.accepts.Tie as tie
 

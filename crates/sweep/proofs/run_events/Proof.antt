@@ -16,10 +16,10 @@ use Rattle.strands.specs.Swept.{slot, objectOf, isBeginning, total, Passes}
 use Rattle.strands.proofs.Begun.{reached}
 use Rattle.strands.specs.Event.{Taken, CanTake}
 use Rattle.strands.proofs.Run.{Run, Orderly, AllEndLater, run-start, advance}
-use Rattle.strands.proofs.Strict.{After, Earliest, rises, earliest, after-start, after-next}
+use Rattle.strands.proofs.EventOrder.{After, Earliest, rises, earliest, after-start, after-next}
 use Rattle.strands.proofs.Lasting.{none-active}
-use Rattle.strands.proofs.Sure
-use Rattle.strands.proofs.Sure.{goes-on, all-later}
+use Rattle.strands.proofs.GoesOn
+use Rattle.strands.proofs.GoesOn.{goes-on, all-later}
 use Rattle.whole.proofs.Logic.{in-nil}
 use Rattle.whole.proofs.Deciding.{no}
 use lib.Seq.{length-take-le}
@@ -97,7 +97,7 @@ module _ (c : tie.After-next-of Inv-loop μ-loop) where
     has-room e =
         omega (
           arith,
-          Sure.room (y .args .s .now) (y .args .scene) (y .pre .0) (y .pre .1) pass (d .loop .inv .5) (d .loop .inv .10 pass) (c .before .takes-first .result) it (reached-within d)
+          GoesOn.room (y .args .s .now) (y .args .scene) (y .pre .0) (y .pre .1) pass (d .loop .inv .5) (d .loop .inv .10 pass) (c .before .takes-first .result) it (reached-within d)
               (subst (λ (k : ℕ). isBeginning (y .args .s .now) (y .args .scene) (c .before .takes-first .result) k ≡ true) (sym its-index) e),
           length-take-le (d .loop .n) (d .loop .status) (d .loop .inv .4),
           d .loop .inv .0,

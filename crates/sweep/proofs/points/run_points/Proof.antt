@@ -14,10 +14,10 @@ use Rattle.strands.specs.Located.{isPointNext}
 use Rattle.strands.proofs.Begun.{reached, Next}
 use Rattle.strands.specs.Event.{Taken, CanTake}
 use Rattle.strands.specs.Ready.{Held}
-use Rattle.strands.proofs.Strict.{After, Earliest, rises, not-earlier, after-start, after-next}
+use Rattle.strands.proofs.EventOrder.{After, Earliest, rises, not-earlier, after-start, after-next}
 use Rattle.strands.proofs.Lasting.{none-active}
-use Rattle.strands.proofs.Sure
-use Rattle.strands.proofs.Sure.{goes-on, all-later}
+use Rattle.strands.proofs.GoesOn
+use Rattle.strands.proofs.GoesOn.{goes-on, all-later}
 use Rattle.whole.proofs.Logic.{in-nil}
 use Rattle.whole.proofs.Deciding.{no}
 use Rattle.strands.proofs.Run.{Run, Orderly, AllEndLater, run-start, later-taken, advance}
@@ -109,7 +109,7 @@ module _ (c : tie.After-note-points Inv-loop μ-loop) where
     has-room e =
         omega (
           arith,
-          Sure.room (y .args .s .now) (y .args .scene) (y .pre .0) (y .pre .1) pass (d .loop .inv .5) (d .loop .inv .9 pass) false it (reached-within d) e,
+          GoesOn.room (y .args .s .now) (y .args .scene) (y .pre .0) (y .pre .1) pass (d .loop .inv .5) (d .loop .inv .9 pass) false it (reached-within d) e,
           length-take-le (d .loop .n) (d .loop .status) (d .loop .inv .4),
           d .loop .inv .0,
           y .pre .5,

@@ -14,11 +14,11 @@ use Rattle.strands.proofs.Begun.{reached, Next}
 use Rattle.strands.proofs.Ordered.{orderly}
 use Rattle.strands.proofs.Run.{AllEndLater, Run}
 use Rattle.strands.proofs.Chosen.{Chosen}
-use Rattle.strands.proofs.Strict.{rises, After, Earliest}
+use Rattle.strands.proofs.EventOrder.{rises, After, Earliest}
 use Rattle.strands.proofs.Fairness.{fair, sound}
 use Rattle.strands.proofs.Lasting.{lasts, can-take}
-use Rattle.strands.proofs.Few.{room-left}
-use Rattle.strands.proofs.Evened.{ends-evenly}
+use Rattle.strands.proofs.Room.{room-left}
+use Rattle.strands.proofs.Evenly.{ends-evenly}
 
 module _ (s : List ℕ) (sc : Scene) (is : IsScene s sc) (order : InOrder s sc) (passes : Passes s sc) where
   pub regions-end-evenly : RegionsEndEvenly s sc
