@@ -13,14 +13,12 @@ pub mod Between
 pub mod Crossing
 -- what passes under a segment's beginning counts below its midpoint
 pub mod Start
-
 -- ---- lists
 
 -- what goes on from neighbour to neighbour
 pub mod Linked
 -- one entry more or less
 pub mod Shifted
-
 -- ---- a scene's bytes
 
 -- the records of its elements
@@ -31,7 +29,6 @@ pub mod Entries
 pub mod SoundObject
 -- 13 by pairs of halfsegments
 pub mod Evenly
-
 -- ---- a run, event by event
 
 -- an event keeps what the sweep keeps
@@ -48,7 +45,6 @@ pub mod Ordered
 pub mod Chosen
 -- the notes so far
 pub mod Notes
-
 -- ---- a run that ends well: 11 to 15 find no fault
 
 pub mod Counts
@@ -56,7 +52,6 @@ pub mod Final
 -- the points of F, noted by the entries
 pub mod Located
 pub mod PointRun
-
 -- ---- where 11 to 15 find no fault, a run ends well
 
 -- the order of events at one point

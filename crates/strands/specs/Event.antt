@@ -17,15 +17,21 @@ use Rattle.strands.specs.Kept.{Strand, sameObject}
 use Rattle.strands.specs.Status.{AtPlace, BelowPlace, inserted, removed}
 use Rattle.strands.specs.Swept.{slot, objectOf, strandOf, isFirst, strandAt, isBeginning}
 
+-- ---- what is tested of entries
+
 -- a place for p among the entries: the entry there passes over p, and the one just below does not
 pub record Place (s entries : List ℕ) (p : Point) (k : ℕ) : Type 0 where
   pub within : k ≤ length entries
   pub over-it : AtPlace entries k (λ e. T (passesOver (segmentAt s e) p))
   pub not-below : BelowPlace entries k (λ e. passesOver (segmentAt s e) p ≡ false)
 
--- what neighbours are tested for when they become neighbours: e is the lower of the two at the right
+-- e can stand just below f: it is the lower of the two at the right
 abbrev pub LowerNext : List ℕ → ℕ → ℕ → Type 0
 LowerNext s e f = T (lowerAtRight (segmentAt s e) (segmentAt s f))
+
+-- where the entry at k goes, its neighbours can become neighbours
+abbrev pub CanMeet : List ℕ → List ℕ → ℕ → Type 0
+CanMeet s entries k = BelowPlace entries k (λ e. AtPlace entries (suc k) (LowerNext s e))
 
 -- b belongs under a, which begins: it passes under a's left end, or begins there and turns left into a, or is a's equal of the other object
 abbrev pub underBeginning : Strand → Strand → Bool
@@ -34,8 +40,12 @@ underBeginning a b =
     || (samePoint (b .segment .left) (a .segment .left) && passesUnder (b .segment) (a .segment .right))
     || (sameSegment (b .segment) (a .segment) && not (sameObject a b))
 
+-- an odd number of the entries are of the object
+abbrev pub oddOf : List ℕ → Scene → Bool → List ℕ → Bool
+oddOf s sc object entries = odd (count (λ e. Bool·beq object (isFirst s sc e)) entries)
+
 module _ (s : List ℕ) (sc : Scene) (first : Bool) (at : ℕ) where
-  -- ---- the left halfsegment at an offset begins
+  -- ---- the left halfsegment at an offset begins its segment
 
   -- the entry e can stand just below it
   abbrev pub FitsOver : ℕ → Type 0
@@ -45,59 +55,50 @@ module _ (s : List ℕ) (sc : Scene) (first : Bool) (at : ℕ) where
   abbrev pub RightIa : Bool → Type 0
   RightIa oddBelow = T (isRegion (objectOf s sc first .shape)) → oddBelow ≡ not (iaAt s at)
 
-  -- ---- the right halfsegment at an offset ends
-
-  -- its entry is at k, with none but its equals above it below the place top
-  pub record OwnAt (entries : List ℕ) (top k : ℕ) : Type 0 where
-    pub below : k < top
-    pub own : strandAt s sc (getD entries k 0) ≡ strandOf s sc first at
-    pub equals : (i : ℕ) → k < i → i < top → segmentAt s (getD entries i 0) ≡ segmentAt s at
-
--- where the entry at k goes, its neighbours become neighbours
-abbrev pub CanMeet : List ℕ → List ℕ → ℕ → Type 0
-CanMeet s entries k = BelowPlace entries k (λ e. AtPlace entries (suc k) (LowerNext s e))
-
-module _ (s : List ℕ) (sc : Scene) (first : Bool) (at : ℕ) (old : List ℕ) where
-  -- an odd number of the first k entries are of the object
-  abbrev pub oddOf : Bool → ℕ → Bool
-  oddOf object k = odd (count (λ e. Bool·beq object (isFirst s sc e)) (take k old))
-
-  -- it fits between its neighbours at a place
-  pub record FitsAt (k : ℕ) : Type 0 where
-    pub over : BelowPlace old k (FitsOver s sc first at)
+  -- it can stand at a place
+  pub record FitsAt (old : List ℕ) (k : ℕ) : Type 0 where
+    pub over : BelowPlace old k FitsOver
     pub under : AtPlace old k (LowerNext s at)
-    pub right-ia : RightIa s sc first at (oddOf first k)
+    pub right-ia : RightIa (oddOf s sc first (take k old))
 
-  pub record Began (new : List ℕ) (note : ℕ) : Type 0 where
+  pub record Began (old new : List ℕ) (note : ℕ) : Type 0 where
     pub position : ℕ
     pub at-place : Place s old (segmentAt s at .left) position
-    pub fits : FitsAt position
+    pub fits : FitsAt old position
     pub new-is : new ≡ inserted position at old
     -- 1 where an odd number of the other object stand below it
-    pub noted : note ≡ bit (oddOf (not first) position)
+    pub noted : note ≡ bit (oddOf s sc (not first) (take position old))
 
-  pub record Ended (notes new : List ℕ) (note : ℕ) : Type 0 where
+  -- whatever place is found for it
+  abbrev pub CanBegin : List ℕ → Type 0
+  CanBegin old = (k : ℕ) → Place s old (segmentAt s at .left) k → FitsAt old k
+
+  -- ---- the right halfsegment at an offset ends its segment
+
+  -- its entry is the one at k, and all above that, up to the place top, are its equals
+  pub record OwnAt (old : List ℕ) (top k : ℕ) : Type 0 where
+    pub below : k < top
+    pub own : strandAt s sc (getD old k 0) ≡ strandOf s sc first at
+    pub equals : (i : ℕ) → k < i → i < top → segmentAt s (getD old i 0) ≡ segmentAt s at
+
+  pub record Ended (old notes new : List ℕ) (note : ℕ) : Type 0 where
     pub position : ℕ
     pub top : ℕ
     pub at-place : Place s old (segmentAt s at .right) top
-    pub found : OwnAt s sc first at old top position
+    pub found : OwnAt old top position
     pub meeting : CanMeet s old position
     pub new-is : new ≡ removed position old
     -- that of the element that began it
     pub noted : (k : ℕ) → getD old position 0 ≡ place (objectOf s sc first) k → note ≡ getD notes (slot first k) 0
 
-  -- ---- it can, whatever place is found for it
-
-  abbrev pub CanBegin : Type 0
-  CanBegin = (k : ℕ) → Place s old (segmentAt s at .left) k → FitsAt k
-
-  pub record EndsAt (top : ℕ) : Type 0 where
+  pub record EndsAt (old : List ℕ) (top : ℕ) : Type 0 where
     pub position : ℕ
-    pub found : OwnAt s sc first at old top position
-    pub meeting : (k : ℕ) → OwnAt s sc first at old top k → CanMeet s old k
+    pub found : OwnAt old top position
+    pub meeting : (k : ℕ) → OwnAt old top k → CanMeet s old k
 
-  abbrev pub CanEnd : Type 0
-  CanEnd = (top : ℕ) → Place s old (segmentAt s at .right) top → EndsAt top
+  -- whatever place is found for it
+  abbrev pub CanEnd : List ℕ → Type 0
+  CanEnd old = (top : ℕ) → Place s old (segmentAt s at .right) top → EndsAt old top
 
 -- ---- the element k of an object
 

@@ -20,12 +20,12 @@ module _ {P : Type 0} where
   pub same-as : {Q : Type 0} {r : Bool} → (Q → P) → (P → Q) → Decides Q r → Decides P r
   same-as to from d = record { sound = λ t. to (d .sound t); complete = λ p. d .complete (from p) }
 
-  -- both, by two tests one after the other
-  pub and-then : {Q : Type 0} {a b : Bool} → Decides P a → a ≡ true → Decides Q b → Decides (P × Q) b
-  and-then d e f = record { sound = λ t. (d .sound (is-true _ e), f .sound t); complete = λ w. f .complete (w .1) }
+  -- both, by two tests one after the other: the first one passed, or not
+  pub and-second : {Q : Type 0} {a b : Bool} → Decides P a → a ≡ true → Decides Q b → Decides (P × Q) b
+  and-second d e f = record { sound = λ t. (d .sound (is-true _ e), f .sound t); complete = λ w. f .complete (w .1) }
 
-  pub not-even : {Q : Type 0} {a : Bool} → Decides P a → a ≡ false → Decides (P × Q) a
-  not-even d e = record { sound = λ t. absurd (subst T e t); complete = λ w. d .complete (w .0) }
+  pub and-first : {Q : Type 0} {a : Bool} → Decides P a → a ≡ false → Decides (P × Q) a
+  and-first d e = record { sound = λ t. absurd (subst T e t); complete = λ w. d .complete (w .0) }
 
   module _ {r : Bool} (d : Decides P r) where
     pub holds : r ≡ true → P

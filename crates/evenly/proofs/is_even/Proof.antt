@@ -1,4 +1,4 @@
--- `evenly::is_even` meets its contract: of what is no region nothing is said, and a region has segments.
+-- `evenly::is_even` meets its contract: what is no region passes, and a region has segments.
 use mathlib.Core.Path.{subst}
 use borrow.Author.Needs.{needs}
 use lib.Dec.{T}

@@ -7,7 +7,7 @@ use borrow.Author.Needs.{needs}
 use lib.Dec.{T, ltb}
 use lib.ListN.{getD}
 use Rattle.whole.specs.Decides.{Decides}
-use Rattle.whole.proofs.Deciding.{yes, and-then, not-even}
+use Rattle.whole.proofs.Deciding.{yes, and-second, and-first}
 use Rattle.plane.specs.declared.Segment.{Segment}
 use Rattle.plane.specs.Plane.{segmentInRange, samePoint, sameSegment}
 use Rattle.scene.specs.Read.{segmentAt}
@@ -97,12 +97,12 @@ returns-2 : tie.Need-returns-2
 returns-2 c =
     let w = c .before .before in
     by-below (x w .args .status .now) (x w .args .k) (Fits w) (k′ (a w)) (is-below w)
-    (and-then (belongs w) (c .before .if2 .taken) (tested lowerAtRight (c .is-lower .ensures) (below (a w)) (a w .segment .ensures)))
+    (and-second (belongs w) (c .before .if2 .taken) (tested lowerAtRight (c .is-lower .ensures) (below (a w)) (a w .segment .ensures)))
 
 returns-3 : tie.Need-returns-3
 returns-3 c =
     let w = c .before in
-    by-below (x w .args .status .now) (x w .args .k) (Fits w) (k′ (a w)) (is-below w) (not-even (belongs w) (c .if2 .left))
+    by-below (x w .args .status .now) (x w .args .k) (Fits w) (k′ (a w)) (is-below w) (and-first (belongs w) (c .if2 .left))
 
 pub fits-over-spec : {M : Type 1} → statement M
 fits-over-spec =
