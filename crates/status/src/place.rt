@@ -83,7 +83,7 @@ fn segment_of(s: &[u8], status: &[u16], i: usize) -> Segment
     bytes::segment(s, wide(status[i]))
 }
 
-// A place for p, by halving. Where those that pass over p are above all others, it is the only one.
+// A place for p, by halving. Where those that pass over p stand above all others, it is the first of them.
 pub fn first_over(s: &[u8], p: Point, status: &[u16], n: usize) -> usize
     requires { ⌜ T (inRange p) × Readable (now s) (now status) n ⌝ }
     ensures { λ r. ⌜ Place (now (s .entry)) (take n (now (status .entry))) p r ⌝ }

@@ -7,7 +7,7 @@ use mathlib.Core.Bool.{Bool, true, false, not, true≢false}
 use mathlib.Core.List.{List, [], _∷_, _++_, map}
 use lib.Dec.{T}
 use lib.ListN.{length, getD, take, drop}
-use lib.Seq.{split-at}
+use lib.Seq.{split-at, length-take-le}
 use borrow.Author.Tests.{ltb-true}
 use Rattle.whole.specs.Count.{_∈_, here, bit, some, count}
 use Rattle.whole.proofs.Logic.{less-or-not, in-map, some-make, true-is, and-make, is-true, beq-refl}
@@ -136,14 +136,25 @@ module _ (s : List ℕ) (sc : Scene) (o : Orderly s sc) (rise : Rises s sc) (fai
         can-end = can-end s sc o fair run later after within first more least earliest rise;
       }
 
--- at the end none is active
-pub none-active : (s : List ℕ) (sc : Scene) (entries : List ℕ) → AllEndLater s sc (total s sc true) (total s sc false) entries → length entries ≡ 0
-none-active s sc [] later = refl
-none-active s sc (e ∷ l) later = absurd (over (isFirst s sc e) (w .to-come) (w .within))
-  where
-    w : EndsLater s sc (total s sc true) (total s sc false) e
-    w = later e here
+-- when all have been taken, none is active
+module _ (s : List ℕ) (sc : Scene) where
+  none-active : (entries : List ℕ) → AllEndLater s sc (total s sc true) (total s sc false) entries → length entries ≡ 0
+  none-active [] later = refl
+  none-active (e ∷ l) later = absurd (over (isFirst s sc e) (w .to-come) (w .within))
+    where
+      w : EndsLater s sc (total s sc true) (total s sc false) e
+      w = later e here
 
-    over : (b : Bool) → reached s sc (total s sc true) (total s sc false) b ≤ w .index → w .index < total s sc b → ⊥
-    over true h l = omega arith
-    over false h l = omega arith
+      over : (b : Bool) → reached s sc (total s sc true) (total s sc false) b ≤ w .index → w .index < total s sc b → ⊥
+      over true h l = omega arith
+      over false h l = omega arith
+
+  module _ (status : List ℕ) {i j n : ℕ} (of-f : i ≡ total s sc true) (of-g : j ≡ total s sc false) where
+    pub none-left : n ≤ length status → AllEndLater s sc i j (take n status) → n ≡ 0
+    none-left room later =
+        sym (length-take-le n status room)
+        ∙ none-active (take n status) (subst₂ (λ (i j : ℕ). AllEndLater s sc i j (take n status)) of-f of-g later)
+
+    -- what holds then of the elements and entries
+    pub at-end : (P : ℕ → ℕ → List ℕ → Type 0) → n ≡ 0 → P i j (take n status) → P (total s sc true) (total s sc false) []
+    at-end P e p = subst₂ (λ (i j : ℕ). P i j []) of-f of-g (subst (λ (n : ℕ). P i j (take n status)) e p)

@@ -1,13 +1,18 @@
 -- What a test that decides a proposition says, either way, and how such a test is made.
+use Prim.Native.Nat.{ℕ}
 use mathlib.Core.Path.{_≡_, sym, subst}
 use mathlib.Core.Bool.{Bool, true, false, not}
-use lib.Dec.{T, T-not}
+use lib.Dec.{T, T-not, eqb, eqb→eq}
+use borrow.Author.Tests.{eq-eqb}
 use Rattle.whole.specs.Decides.{Decides}
 use Rattle.whole.proofs.Logic.{is-true}
 
 -- a test decides whether another is passed that is its equal
 pub by-test : {r b : Bool} → r ≡ b → Decides (T b) r
 by-test e = record { sound = subst T e; complete = subst T (sym e) }
+
+pub by-equality : (m n : ℕ) → Decides (m ≡ n) (eqb m n)
+by-equality m n = record { sound = eqb→eq m n; complete = λ e. is-true (eqb m n) (eq-eqb m n e) }
 
 module _ {P : Type 0} where
   pub yes : P → Decides P true
@@ -31,7 +36,7 @@ module _ {P : Type 0} where
     pub holds : r ≡ true → P
     holds e = d .sound (is-true r e)
 
-    -- as code asks that ends where it does not hold
+    -- after `if !test { return .. }`
     pub accepted : not r ≡ false → P
     accepted e = d .sound (go r e)
       where
@@ -39,5 +44,6 @@ module _ {P : Type 0} where
         go true e = tt
         go false e = absurd (subst T e tt)
 
+-- and in it
 pub refused : (r : Bool) → not r ≡ true → T r → ⊥
 refused r e t = T-not r (is-true (not r) e) t

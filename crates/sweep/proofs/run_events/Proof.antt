@@ -7,7 +7,7 @@ use mir.Val.{boolByte}
 use mathlib.Core.Path.{_≡_, refl, sym, ap, subst, _∙_}
 use mathlib.Core.Bool.{Bool, true, false, not, cond, true≢false}
 use mathlib.Core.List.{List, []}
-use lib.Dec.{T, eqb, eqb→eq}
+use lib.Dec.{eqb→eq}
 use lib.ListN.{length, take, set, length-set}
 use borrow.Author.Needs.{needs}
 use Rattle.keys.specs.Keyed.{nextKey}
@@ -17,11 +17,11 @@ use Rattle.strands.proofs.Begun.{reached}
 use Rattle.strands.specs.Event.{Taken, CanTake}
 use Rattle.strands.proofs.Run.{Run, Orderly, AllEndLater, run-start, advance}
 use Rattle.strands.proofs.EventOrder.{After, Earliest, rises, earliest, after-start, after-next}
-use Rattle.strands.proofs.Lasting.{none-active}
+use Rattle.strands.proofs.Lasting.{none-left, at-end}
 use Rattle.strands.proofs.GoesOn
 use Rattle.strands.proofs.GoesOn.{goes-on, all-later}
 use Rattle.whole.proofs.Logic.{in-nil}
-use Rattle.whole.proofs.Deciding.{no}
+use Rattle.whole.proofs.Deciding.{by-equality, no, same-as}
 use lib.Seq.{length-take-le}
 use Rattle.strands.proofs.Notes.{AllNoted, noted-start, noted-next, slot-room}
 use Rattle.strands.proofs.Objects.{read, few-events}
@@ -339,14 +339,11 @@ module _ (c : tie.After-loop Inv-loop μ-loop) where
   of-g : b .loop .j ≡ all-of false
   of-g = omega (arith, b .loop .inv .2, b .loop .inv .3, b .before .before .before .before .event-count .ensures, b .before .before .before .event-count2 .ensures)
 
-  -- what holds of the elements and entries at the end
-  at-end : (P : ℕ → ℕ → List ℕ → Type 0) → b .loop .n ≡ 0 → P (b .loop .i) (b .loop .j) (take (b .loop .n) (b .loop .status)) → P (all-of true) (all-of false) []
-  at-end P e p =
-      subst (λ (i : ℕ). P i (all-of false) []) of-f
-      (subst (λ (j : ℕ). P (b .loop .i) j []) of-g (subst (λ (n : ℕ). P (b .loop .i) (b .loop .j) (take n (b .loop .status))) e p))
+  ends : (P : ℕ → ℕ → List ℕ → Type 0) → b .loop .n ≡ 0 → P (b .loop .i) (b .loop .j) (take (b .loop .n) (b .loop .status)) → P (all-of true) (all-of false) []
+  ends = at-end (z b .args .s .now) (z b .args .scene) (b .loop .status) of-f of-g
 
-  run-at-end : T (eqb (b .loop .n) 0) → Run (z b .args .s .now) (z b .args .scene) (all-of true) (all-of false) []
-  run-at-end t = at-end (Run (z b .args .s .now) (z b .args .scene)) (eqb→eq (b .loop .n) 0 t) (b .loop .inv .5)
+  run-at-end : b .loop .n ≡ 0 → Run (z b .args .s .now) (z b .args .scene) (all-of true) (all-of false) []
+  run-at-end none = ends (Run (z b .args .s .now) (z b .args .scene)) none (b .loop .inv .5)
 
 returns-2 : tie.Need-returns-2 Inv-loop μ-loop
 returns-2 c =
@@ -356,13 +353,10 @@ returns-2 c =
     let evenly = z b .pre .2 in (
       b .loop .inv .0,
       b .loop .inv .1,
-      record {
-        sound = λ t. passes s sc (start b) (run-at-end c t) evenly;
-        complete = λ pass.
-            let none = none-active s sc (take (b .loop .n) (b .loop .status)) (subst (λ (i : ℕ). AllEndLater s sc i (all-of c false) (take (b .loop .n) (b .loop .status))) (of-f c) (subst (λ (j : ℕ). AllEndLater s sc (b .loop .i) j (take (b .loop .n) (b .loop .status))) (of-g c) (b .loop .inv .10 pass))) in
-            subst (λ (n : ℕ). T (eqb n 0)) (sym none ∙ length-take-le (b .loop .n) (b .loop .status) (b .loop .inv .4)) tt;
-      },
-      λ t. notes-hold s sc (start b) (run-at-end c t) evenly (b .loop .notes) (at-end c (λ i j l. AllNoted s sc i j l (b .loop .notes)) (eqb→eq (b .loop .n) 0 t) (b .loop .inv .6)),
+      same-as (λ none. passes s sc (start b) (run-at-end c none) evenly) (λ pass. none-left s sc (b .loop .status) (of-f c) (of-g c) (b .loop .inv .4) (b .loop .inv .10 pass))
+          (by-equality (b .loop .n) 0),
+      λ t. let none = eqb→eq (b .loop .n) 0 t in
+          notes-hold s sc (start b) (run-at-end c none) evenly (b .loop .notes) (ends c (λ i j l. AllNoted s sc i j l (b .loop .notes)) none (b .loop .inv .6)),
     )
 
 pub run-events-spec : {M : Type 1} → statement M

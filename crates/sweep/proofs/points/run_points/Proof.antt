@@ -5,7 +5,7 @@ use native.Mathlib.Omega.{arith}
 use mathlib.Core.Path.{_≡_, refl, sym, subst, _∙_}
 use mathlib.Core.Bool.{Bool, true, false}
 use mathlib.Core.List.{List, []}
-use lib.Dec.{T, eqb, eqb→eq}
+use lib.Dec.{eqb→eq}
 use lib.ListN.{length, take, set, length-set}
 use lib.Seq.{getD-set-other, length-take-le}
 use borrow.Author.Needs.{needs}
@@ -15,11 +15,11 @@ use Rattle.strands.proofs.Begun.{reached, Next}
 use Rattle.strands.specs.Event.{Taken, CanTake}
 use Rattle.strands.specs.Ready.{Held}
 use Rattle.strands.proofs.EventOrder.{After, Earliest, rises, not-earlier, after-start, after-next}
-use Rattle.strands.proofs.Lasting.{none-active}
+use Rattle.strands.proofs.Lasting.{none-left, at-end}
 use Rattle.strands.proofs.GoesOn
 use Rattle.strands.proofs.GoesOn.{goes-on, all-later}
 use Rattle.whole.proofs.Logic.{in-nil}
-use Rattle.whole.proofs.Deciding.{no}
+use Rattle.whole.proofs.Deciding.{by-equality, no, same-as}
 use Rattle.strands.proofs.Run.{Run, Orderly, AllEndLater, run-start, later-taken, advance}
 use Rattle.strands.proofs.Notes.{AllNoted, noted-start, noted-next}
 use Rattle.strands.proofs.Objects.{few-elements, few-events}
@@ -180,14 +180,11 @@ module _ (c : tie.After-note-points2 Inv-loop μ-loop) where
   abbrev noted-all : List ℕ
   noted-all = c .note-points2 .last .1 .1 .1 .1 .1 .1 .0
 
-  -- what holds of the elements and entries at the end
-  at-end : (P : ℕ → ℕ → List ℕ → Type 0) → f .loop .n ≡ 0 → P 0 (f .loop .j) (take (f .loop .n) (f .loop .status)) → P (all-of true) (all-of false) []
-  at-end P e p =
-      subst (λ (i : ℕ). P i (all-of false) []) of-f
-      (subst (λ (j : ℕ). P 0 j []) of-g (subst (λ (n : ℕ). P 0 (f .loop .j) (take n (f .loop .status))) e p))
+  ends : (P : ℕ → ℕ → List ℕ → Type 0) → f .loop .n ≡ 0 → P 0 (f .loop .j) (take (f .loop .n) (f .loop .status)) → P (all-of true) (all-of false) []
+  ends = at-end (z f .args .s .now) (z f .args .scene) (f .loop .status) of-f of-g
 
-  run-at-end : T (eqb (f .loop .n) 0) → Run (z f .args .s .now) (z f .args .scene) (all-of true) (all-of false) []
-  run-at-end t = at-end (Run (z f .args .s .now) (z f .args .scene)) (eqb→eq (f .loop .n) 0 t) (f .loop .inv .5)
+  run-at-end : f .loop .n ≡ 0 → Run (z f .args .s .now) (z f .args .scene) (all-of true) (all-of false) []
+  run-at-end none = ends (Run (z f .args .s .now) (z f .args .scene)) none (f .loop .inv .5)
 
 event-count-requires : tie.Need-event-count-requires Inv-loop μ-loop
 event-count-requires c κs = search needs
@@ -274,19 +271,14 @@ returns-2 c =
     let sc = z (f b) .args .scene in (
       l .inv .0,
       b .note-points2 .ensures .2 .same-length ∙ l .inv .1,
-      record {
-        sound = λ t. passes s sc (orderly (f b)) (run-at-end b t) (p .4);
-        complete = λ pass.
-            let none = none-active s sc (take (l .n) (l .status)) (subst (λ (i : ℕ). AllEndLater s sc i (all-of b false) (take (l .n) (l .status))) (of-f b) (subst (λ (j : ℕ). AllEndLater s sc 0 j (take (l .n) (l .status))) (of-g b) (l .inv .9 pass))) in
-            subst (λ (n : ℕ). T (eqb n 0)) (sym none ∙ length-take-le (l .n) (l .status) (l .inv .4)) tt;
-      },
+      same-as (λ none. passes s sc (orderly (f b)) (run-at-end b none) (p .4)) (λ pass. none-left s sc (l .status) (of-f b) (of-g b) (l .inv .4) (l .inv .9 pass)) (by-equality (l .n) 0),
       λ t.
           let none = eqb→eq (l .n) 0 t in
           record {
-            of-segments = notes-hold s sc (orderly (f b)) (run-at-end b t) (p .4) (noted-all b)
-                (at-end b (λ i j entries. AllNoted s sc i j entries (noted-all b)) none (still-noted s sc (b .note-points2 .ensures .2) (omega (arith, b .note-points2 .ensures .0, few (f b))) (l .inv .6)));
+            of-segments = notes-hold s sc (orderly (f b)) (run-at-end b none) (p .4) (noted-all b)
+                (ends b (λ i j entries. AllNoted s sc i j entries (noted-all b)) none (still-noted s sc (b .note-points2 .ensures .2) (omega (arith, b .note-points2 .ensures .0, few (f b))) (l .inv .6)));
             of-points = all-noted s sc (p .0) (p .1) (p .2) (p .3)
-                (at-end b (λ i j entries. Passed s sc (b .note-points2 .result) j entries (noted-all b)) none (passed-points s sc (p .0) (p .1) (p .2) (p .3) (l .inv .5) (l .inv .3) (l .inv .7) (b .note-points2 .ensures .0) (b .note-points2 .ensures .2)))
+                (ends b (λ i j entries. Passed s sc (b .note-points2 .result) j entries (noted-all b)) none (passed-points s sc (p .0) (p .1) (p .2) (p .3) (l .inv .5) (l .inv .3) (l .inv .7) (b .note-points2 .ensures .0) (b .note-points2 .ensures .2)))
                 (subst (λ (j : ℕ). isPointNext s sc (b .note-points2 .result) j ≡ false) (of-g b) (b .note-points2 .ensures .1));
           },
     )
