@@ -25,6 +25,10 @@ pub enum Step {
     Stop,
 }
 
+// With fewer entries than these, a search costs no more than a look at two places. Which it is, is asked where it is done: a function for it would be
+// called, and not compiled into its place.
+const FEW: usize = 32;
+
 // ---- a segment begins
 
 // Are an odd number of the first k entries F's? G starts at an offset.
@@ -99,7 +103,11 @@ pub fn begin(
         return Step::Stop;
     }
     let t = bytes::segment(s, at);
-    let k = place::near(s, t.left, status, n, hint);
+    let k = if n < FEW {
+        place::first_over(s, t.left, status, n)
+    } else {
+        place::near(s, t.left, status, n, hint)
+    };
     if !place::fits_over(s, scene, first, at, status, k) {
         return Step::Stop;
     }
@@ -171,7 +179,11 @@ pub fn end(
     ensures { λ r. ⌜ (length (now (status .exit)) ≡ length (now (status .entry))) × Steps (λ m v. (m ≤ length (now (status .exit))) × Ended (now (s .entry)) scene first at (take n (now (status .entry))) (now (notes .entry)) (take m (now (status .exit))) v) (CanEnd (now (s .entry)) scene first at (take n (now (status .entry)))) r ⌝ }
 {
     let t = bytes::segment(s, at);
-    let top = place::near(s, t.right, status, n, hint);
+    let top = if n < FEW {
+        place::first_over(s, t.right, status, n)
+    } else {
+        place::near(s, t.right, status, n, hint)
+    };
     let k = own_below(s, scene, first, at, status, top);
     if k == top {
         return Step::Stop;

@@ -120,18 +120,12 @@ fn is_place(s: &[u8], p: Point, status: &[u16], n: usize, k: usize) -> bool
     is_over(segment_of(s, status, k), p)
 }
 
-// With fewer entries than these, a search costs no more than a look at two places.
-const FEW: usize = 32;
-
-// A place for p, among many entries looked for first at a hint, the place of the event before, and just above it: where several halfsegments meet at
-// a point, the next one is there.
+// A place for p, looked for first at a hint, the place of the event before, and just above it: where several halfsegments meet at a point, the next one
+// is there.
 pub fn near(s: &[u8], p: Point, status: &[u16], n: usize, hint: usize) -> usize
     requires { ⌜ T (inRange p) × Readable (now s) (now status) n ⌝ }
     ensures { λ r. ⌜ Place (now (s .entry)) (take n (now (status .entry))) p r ⌝ }
 {
-    if n < FEW {
-        return first_over(s, p, status, n);
-    }
     if is_place(s, p, status, n, hint) {
         return hint;
     }

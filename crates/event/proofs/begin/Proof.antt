@@ -6,17 +6,21 @@ use mir.Syntax.{w64}
 use mir.Val.{Fits}
 use mathlib.Core.Path.{_≡_, refl, sym, ap, subst, _∙_}
 use mathlib.Core.Bool.{Bool, not, Bool·beq}
+use mathlib.Core.Logic.{⊎-elim}
 use mathlib.Core.List.{List}
 use borrow.Author.Needs.{needs}
+use lib.Dec.{T}
 use lib.ListN.{length, take}
 use lib.Seq.{length-take-le, take-take}
 use Rattle.whole.specs.Count.{bit, odd, count}
 use Rattle.whole.proofs.Deciding.{accepted, refused}
 use Rattle.plane.specs.declared.Segment.{Segment}
+use Rattle.plane.specs.Plane.{inRange}
 use Rattle.plane.proofs.Machine.{left-in-range}
 use Rattle.scene.specs.Read.{segmentAt}
 use Rattle.scene.proofs.Given.{GoodHalfsegment}
 use Rattle.strands.specs.Swept.{isFirst}
+use Rattle.strands.specs.Ready.{Readable}
 use Rattle.strands.specs.Event.{Place, FitsOver, FitsAt, Began, CanBegin}
 use Rattle.strands.proofs.Entries.{entry-readable, entry-small, start-small, in-range-at, held-readable, held-fewer, own-and-other, first-length, to-below, from-below}
 use Rattle.event.proofs.Answers.{stops, on}
@@ -27,10 +31,21 @@ use Rattle.event.proofs.begin.Tie as tie
 fits : (c : tie.Else1) → Fits w64 (c .before .before .before .args .n + 1)
 fits c = search needs
 
--- the place was found
-module _ (c : tie.After-near) where
+-- the segment was read
+module _ (c : tie.After-segment) where
+  abbrev y : tie.Start
+  y = c .before .before .before .before
+
+  asked : T (inRange (c .segment .result .left)) × Readable (y .args .s .now) (y .args .status .now) (y .args .n)
+  asked = (
+    left-in-range (c .segment .result) (in-range-at (entry-readable (y .args .s .now) (y .args .scene) (y .pre .scene) (y .pre .event)) (c .segment .ensures)),
+    held-readable (y .pre .held) (y .pre .scene),
+  )
+
+-- the place was found, by one search or the other
+module _ (c : tie.Joined2) where
   abbrev there : tie.Else1
-  there = c .before .before .before
+  there = c .before .before
 
   abbrev z : tie.Start
   z = there .before .before .before
@@ -45,19 +60,21 @@ module _ (c : tie.After-near) where
   old = take (z .args .n) status
 
   abbrev k : ℕ
-  k = c .near .result
+  k = c .if2 .k
 
   size : length old ≡ z .args .n
   size = first-length status (z .args .n) (z .pre .held .room)
 
+  at-place : Place s old (segmentAt s (z .args .at) .left) k
+  at-place =
+      subst (λ (t : Segment). Place s old (t .left) k) (c .before .segment .ensures)
+      (⊎-elim (λ w. subst (Place s old (c .before .segment .result .left)) (sym (w .3)) (w .2 .ensures)) (λ w. subst (Place s old (c .before .segment .result .left)) (sym (w .3)) (w .2 .ensures)) (c .if2 .came))
+
   below-all : k ≤ z .args .n
-  below-all = omega (arith, c .near .ensures .within, size)
+  below-all = omega (arith, at-place .within, size)
 
   event : GoodHalfsegment s (z .args .at)
   event = entry-readable s (z .args .scene) (z .pre .scene) (z .pre .event)
-
-  at-place : Place s old (segmentAt s (z .args .at) .left) k
-  at-place = subst (λ (t : Segment). Place s old (t .left) k) (c .before .before .segment .ensures) (c .near .ensures)
 
   abbrev Fitting : ℕ → Type 0
   Fitting = FitsOver s (z .args .scene) (z .args .first) (z .args .at)
@@ -78,19 +95,19 @@ module _ (c : tie.After-other-note) where
   abbrev put : tie.After-insert
   put = c .before .before .before
 
-  abbrev ia : tie.Else4
+  abbrev ia : tie.Else5
   ia = put .before .before
 
   abbrev counted : tie.After-has-odd-own
   counted = ia .before .before
 
-  abbrev under : tie.Else3
+  abbrev under : tie.Else4
   under = counted .before .before .before .before
 
-  abbrev over : tie.Else2
+  abbrev over : tie.Else3
   over = under .before .before .before
 
-  abbrev found : tie.After-near
+  abbrev found : tie.Joined2
   found = over .before .before .before
 
   abbrev a : tie.Start
@@ -107,9 +124,9 @@ module _ (c : tie.After-other-note) where
         position = k found;
         at-place = at-place found;
         fits = record {
-          over = to-below (status found) (a .args .n) (a .pre .held .room) (Fitting found) (k found) (below-all found) (accepted (over .before .fits-over .ensures) (over .if2 .left));
-          under = accepted (under .before .fits-under .ensures) (under .if3 .left);
-          right-ia = λ region. ap odd (of-first found (a .args .first)) ∙ sym (counted .has-odd-own .ensures) ∙ accepted (ia .before .has-right-ia .ensures) (ia .if4 .left) region;
+          over = to-below (status found) (a .args .n) (a .pre .held .room) (Fitting found) (k found) (below-all found) (accepted (over .before .fits-over .ensures) (over .if3 .left));
+          under = accepted (under .before .fits-under .ensures) (under .if4 .left);
+          right-ia = λ region. ap odd (of-first found (a .args .first)) ∙ sym (counted .has-odd-own .ensures) ∙ accepted (ia .before .has-right-ia .ensures) (ia .if5 .left) region;
         };
         new-is = put .insert .ensures .1;
         noted = c .other-note .ensures (of found (a .args .first) (take (k found) (status found))) (of found (not (a .args .first)) (take (k found) (status found))) all (counted .has-odd-own .ensures)
@@ -122,13 +139,11 @@ returns c = (refl, stops (λ can. omega (arith, can .0)))
 segment-requires : tie.Need-segment-requires
 segment-requires c κs = let z = c .before .before .before in entry-readable (z .args .s .now) (z .args .scene) (z .pre .scene) (z .pre .event) .there
 
+first-over-requires : tie.Need-first-over-requires
+first-over-requires c κs = asked (c .before .before)
+
 near-requires : tie.Need-near-requires
-near-requires c κs =
-    let t = c .before in
-    let z = t .before .before .before .before in (
-      left-in-range (t .segment .result) (in-range-at (entry-readable (z .args .s .now) (z .args .scene) (z .pre .scene) (z .pre .event)) (t .segment .ensures)),
-      held-readable (z .pre .held) (z .pre .scene),
-    )
+near-requires c κs = asked (c .before .before)
 
 fits-over-requires : tie.Need-fits-over-requires
 fits-over-requires c κs =
@@ -142,7 +157,7 @@ returns-2 : tie.Need-returns-2
 returns-2 c =
     let f = c .before in
     let d = f .before .before in
-    (refl, stops (λ can. refused (f .fits-over .result) (c .if2 .taken) (f .fits-over .ensures .complete (from-below (status d) (z d .args .n) (z d .pre .held .room) (Fitting d) (k d) (below-all d) (fits-here d (can .1) .over)))))
+    (refl, stops (λ can. refused (f .fits-over .result) (c .if3 .taken) (f .fits-over .ensures .complete (from-below (status d) (z d .args .n) (z d .pre .held .room) (Fitting d) (k d) (below-all d) (fits-here d (can .1) .over)))))
 
 fits-under-requires : tie.Need-fits-under-requires
 fits-under-requires c κs =
@@ -156,7 +171,7 @@ returns-3 : tie.Need-returns-3
 returns-3 c =
     let f = c .before in
     let d = f .before .before .before .before .before in
-    (refl, stops (λ can. refused (f .fits-under .result) (c .if3 .taken) (f .fits-under .ensures .complete (fits-here d (can .1) .under))))
+    (refl, stops (λ can. refused (f .fits-under .result) (c .if4 .taken) (f .fits-under .ensures .complete (fits-here d (can .1) .under))))
 
 cast-has-odd-own : tie.Need-cast-has-odd-own
 cast-has-odd-own c =
@@ -179,7 +194,7 @@ returns-4 c =
     let f = c .before in
     let o = f .before in
     let d = o .before .before .before .before .before .before .before .before .before .before in
-    (refl, stops (λ can. refused (f .has-right-ia .result) (c .if4 .taken) (f .has-right-ia .ensures .complete (λ region. o .has-odd-own .ensures ∙ ap odd (sym (of-first d (z d .args .first))) ∙ fits-here d (can .1) .right-ia region))))
+    (refl, stops (λ can. refused (f .has-right-ia .result) (c .if5 .taken) (f .has-right-ia .ensures .complete (λ region. o .has-odd-own .ensures ∙ ap odd (sym (of-first d (z d .args .first))) ∙ fits-here d (can .1) .right-ia region))))
 
 cast-insert : tie.Need-cast-insert
 cast-insert c =
@@ -197,17 +212,16 @@ add-t12 c = fits (there (c .before .before .before .before .before .before .befo
 other-note-requires : tie.Need-other-note-requires
 other-note-requires c κs = search needs
 
-add-t28 : tie.Need-add-t28
-add-t28 c = let d = found c in omega (arith, below-all d, fits (there d))
+add-t31 : tie.Need-add-t31
+add-t31 c = let d = found (c .before) in omega (arith, below-all d, fits (there d))
 
 same-length-4 : tie.Need-same-length-4
 same-length-4 c = search needs
 
 returns-5 : tie.Need-returns-5
-returns-5 c = (
-  put c .insert .ensures .0,
-  on (omega (arith, put c .insert .ensures .0, a c .pre .held .room, there (found c) .if1 .left), began c),
-)
+returns-5 c =
+    let o = c .before in
+    (put o .insert .ensures .0, on (omega (arith, put o .insert .ensures .0, a o .pre .held .room, there (found o) .if1 .left), began o))
 
 pub begin-spec : {M : Type 1} → statement M
 begin-spec =
@@ -215,6 +229,7 @@ begin-spec =
     (tie.spec
     returns
     segment-requires
+    first-over-requires
     near-requires
     fits-over-requires
     same-length
@@ -231,6 +246,6 @@ begin-spec =
     insert-requires
     add-t12
     other-note-requires
-    add-t28
+    add-t31
     same-length-4
     returns-5)

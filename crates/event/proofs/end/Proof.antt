@@ -3,27 +3,41 @@
 use Prim.Native.Nat.{ℕ, _-_, _<_, _≤_}
 use native.Mathlib.Omega.{arith}
 use mathlib.Core.Path.{_≡_, refl, sym, ap, subst, _∙_}
+use mathlib.Core.Logic.{⊎-elim}
 use mathlib.Core.List.{List}
 use borrow.Author.Needs.{needs}
+use lib.Dec.{T}
 use lib.ListN.{length, getD, take}
 use lib.Seq.{getD-take}
 use Rattle.whole.proofs.Deciding.{accepted, refused}
 use Rattle.plane.specs.declared.Segment.{Segment}
+use Rattle.plane.specs.Plane.{inRange}
 use Rattle.plane.proofs.Machine.{right-in-range}
 use Rattle.scene.specs.Read.{segmentAt}
 use Rattle.strands.specs.Kept.{Strand}
 use Rattle.strands.specs.Swept.{objectOf}
 use Rattle.strands.specs.Event.{Place, OwnAt, Ended, EndsAt, CanEnd}
-use Rattle.strands.specs.Ready.{Placed}
+use Rattle.strands.specs.Ready.{Readable, Placed}
 use Rattle.strands.proofs.Entries.{entry-readable, entry-placed, in-range-at, held-entry, held-readable, held-fewer, first-length, to-own, from-own}
 use Rattle.event.proofs.Answers.{stops, on}
 use Rattle.event.proofs.end.Statement.{statement}
 use Rattle.event.proofs.end.Tie as tie
 
--- the place was found
-module _ (c : tie.After-near) where
+-- the segment was read
+module _ (c : tie.After-segment) where
+  abbrev x : tie.Start
+  x = c .before .before .before .before
+
+  asked : T (inRange (c .segment .result .right)) × Readable (x .args .s .now) (x .args .status .now) (x .args .n)
+  asked = (
+    right-in-range (c .segment .result) (in-range-at (entry-readable (x .args .s .now) (x .args .scene) (x .pre .0 .scene) (x .pre .0 .event)) (c .segment .ensures)),
+    held-readable (x .pre .0 .held) (x .pre .0 .scene),
+  )
+
+-- the place was found, by one search or the other
+module _ (c : tie.Joined1) where
   abbrev z : tie.Start
-  z = c .before .before .before .before .before .before
+  z = x (c .before)
 
   abbrev s : List ℕ
   s = z .args .s .now
@@ -35,24 +49,26 @@ module _ (c : tie.After-near) where
   old = take (z .args .n) status
 
   abbrev top : ℕ
-  top = c .near .result
+  top = c .if1 .top
 
   size : length old ≡ z .args .n
   size = first-length status (z .args .n) (z .pre .0 .held .room)
 
-  below-all : top ≤ z .args .n
-  below-all = omega (arith, c .near .ensures .within, size)
-
   at-place : Place s old (segmentAt s (z .args .at) .right) top
-  at-place = subst (λ (t : Segment). Place s old (t .right) top) (c .before .before .segment .ensures) (c .near .ensures)
+  at-place =
+      subst (λ (t : Segment). Place s old (t .right) top) (c .before .segment .ensures)
+      (⊎-elim (λ w. subst (Place s old (c .before .segment .result .right)) (sym (w .3)) (w .2 .ensures)) (λ w. subst (Place s old (c .before .segment .result .right)) (sym (w .3)) (w .2 .ensures)) (c .if1 .came))
+
+  below-all : top ≤ z .args .n
+  below-all = omega (arith, at-place .within, size)
 
   -- where it ends at each place, it does here
   ends-here : CanEnd s (z .args .scene) (z .args .first) (z .args .at) old → EndsAt s (z .args .scene) (z .args .first) (z .args .at) old top
   ends-here can = can top at-place
 
 -- its own entry was found
-module _ (c : tie.Else1) where
-  abbrev place : tie.After-near
+module _ (c : tie.Else2) where
+  abbrev place : tie.Joined1
   place = c .before .before .before
 
   abbrev y : tie.Start
@@ -62,7 +78,7 @@ module _ (c : tie.Else1) where
   k = c .before .own-below .result
 
   own-at : OwnAt (s place) (y .args .scene) (y .args .first) (y .args .at) (status place) (top place) k
-  own-at = let r = c .before .own-below .ensures in r .1 (omega (arith, r .0, c .if1 .left))
+  own-at = let r = c .before .own-below .ensures in r .1 (omega (arith, r .0, c .if2 .left))
 
   in-use : k < y .args .n
   in-use = omega (arith, own-at .below, below-all place)
@@ -78,10 +94,10 @@ module _ (c : tie.After-remove) where
   abbrev told : tie.After-note-at
   told = c .before .before
 
-  abbrev meet : tie.Else2
+  abbrev meet : tie.Else3
   meet = told .before .before .before
 
-  abbrev found : tie.Else1
+  abbrev found : tie.Else2
   found = meet .before .before .before
 
   abbrev a : tie.Start
@@ -94,7 +110,7 @@ module _ (c : tie.After-remove) where
         top = top (place found);
         at-place = at-place (place found);
         found = own-first found;
-        meeting = accepted (meet .before .can-meet .ensures) (meet .if2 .left);
+        meeting = accepted (meet .before .can-meet .ensures) (meet .if3 .left);
         new-is = c .remove .ensures .1;
         noted = λ i is. told .note-at .ensures (s (place found)) i (told .before .wide .ensures ∙ sym (getD-take (a .args .n) (status (place found)) (k found) 0 (in-use found)) ∙ is);
       }
@@ -102,13 +118,11 @@ module _ (c : tie.After-remove) where
 segment-requires : tie.Need-segment-requires
 segment-requires c κs = let z = c .before .before .before in entry-readable (z .args .s .now) (z .args .scene) (z .pre .0 .scene) (z .pre .0 .event) .there
 
+first-over-requires : tie.Need-first-over-requires
+first-over-requires c κs = asked (c .before .before)
+
 near-requires : tie.Need-near-requires
-near-requires c κs =
-    let t = c .before in
-    let z = t .before .before .before .before in (
-      right-in-range (t .segment .result) (in-range-at (entry-readable (z .args .s .now) (z .args .scene) (z .pre .0 .scene) (z .pre .0 .event)) (t .segment .ensures)),
-      held-readable (z .pre .0 .held) (z .pre .0 .scene),
-    )
+near-requires c κs = asked (c .before .before)
 
 own-below-requires : tie.Need-own-below-requires
 own-below-requires c κs =
@@ -126,7 +140,7 @@ returns c =
       refl,
       stops (λ can.
           let w = ends-here d can in
-          omega (arith, f .own-below .ensures .2 (w .position) (from-own (status d) (z d .args .n) (z d .pre .0 .held .room) (below-all d) (w .found)), c .if1 .taken)),
+          omega (arith, f .own-below .ensures .2 (w .position) (from-own (status d) (z d .args .n) (z d .pre .0 .held .room) (below-all d) (w .found)), c .if2 .taken)),
     )
 
 can-meet-requires : tie.Need-can-meet-requires
@@ -138,7 +152,7 @@ same-length-2 c = search needs
 returns-2 : tie.Need-returns-2
 returns-2 c =
     let f = c .before .before .before in
-    (refl, stops (λ can. refused (c .before .can-meet .result) (c .if2 .taken) (c .before .can-meet .ensures .complete (ends-here (place f) can .meeting (k f) (own-first f)))))
+    (refl, stops (λ can. refused (c .before .can-meet .result) (c .if3 .taken) (c .before .can-meet .ensures .complete (ends-here (place f) can .meeting (k f) (own-first f)))))
 
 mul-wide : tie.Need-mul-wide
 mul-wide c = let f = c .before .before .before in omega (arith, in-use f, y f .pre .0 .held .room, y f .good)
@@ -159,8 +173,8 @@ remove-requires c κs =
     let f = c .before .before .before .before .before .before .before in
     (in-use f, y f .pre .0 .held .room)
 
-sub-t22 : tie.Need-sub-t22
-sub-t22 c = omega (arith, in-use (found (c .before .before)))
+sub-t25 : tie.Need-sub-t25
+sub-t25 c = omega (arith, in-use (found (c .before .before)))
 
 same-length-3 : tie.Need-same-length-3
 same-length-3 c = search needs
@@ -177,6 +191,7 @@ end-spec =
     tie.close
     (tie.spec
     segment-requires
+    first-over-requires
     near-requires
     own-below-requires
     same-length
@@ -189,6 +204,6 @@ end-spec =
     wide-requires
     note-at-requires
     remove-requires
-    sub-t22
+    sub-t25
     same-length-3
     returns-3)
