@@ -12,10 +12,10 @@ ghost use lib.Dec.{ltb};
 ghost use lib.ListN.{length, take};
 ghost use Rattle.whole.specs.Count.{bit, odd, count};
 ghost use Rattle.whole.specs.Decides.{Decides};
-ghost use Rattle.scene.specs.Read.{IsScene};
+ghost use Rattle.scene.specs.Read.{segmentAt, IsScene};
 ghost use Rattle.scene.specs.Conditions.{isRegion};
 ghost use Rattle.strands.specs.Swept.{objectOf, strandOf, isFirst, strandAt, Entry};
-ghost use Rattle.strands.specs.Event.{RightIa, Began, CanBegin, OwnAt, Ended, CanEnd};
+ghost use Rattle.strands.specs.Event.{Place, RightIa, FitsAt, Began, OwnAt, EndsAt, Ended};
 ghost use Rattle.strands.specs.Ready.{Ready};
 ghost use Rattle.event.specs.Steps.{Steps};
 
@@ -24,10 +24,6 @@ pub enum Step {
     On(usize, u8, usize),
     Stop,
 }
-
-// With fewer entries than these, a search costs no more than a look at two places. Which it is, is asked where it is done: a function for it would be
-// called, and not compiled into its place.
-const FEW: usize = 32;
 
 // ---- a segment begins
 
@@ -86,7 +82,7 @@ fn other_note(k: usize, own: bool) -> u8
     (own != (k % 2 == 1)) as u8
 }
 
-// The left halfsegment at an offset. It begins where there is room, and it fits at the place that is found.
+// The left halfsegment at an offset, and a place for its left end. It begins where there is room, and it fits there.
 pub fn begin(
     s: &[u8],
     scene: Scene,
@@ -94,20 +90,14 @@ pub fn begin(
     at: usize,
     status: &mut [u16],
     n: usize,
-    hint: usize,
+    k: usize,
 ) -> Step
-    requires { ⌜ Ready (now s) scene first at (now status) n ⌝ }
-    ensures { λ r. ⌜ (length (now (status .exit)) ≡ length (now (status .entry))) × Steps (λ m v. (m ≤ length (now (status .exit))) × Began (now (s .entry)) scene first at (take n (now (status .entry))) (take m (now (status .exit))) v) ((n < length (now (status .entry))) × CanBegin (now (s .entry)) scene first at (take n (now (status .entry)))) r ⌝ }
+    requires { ⌜ Ready (now s) scene first at (now status) n × Place (now s) (take n (now status)) (segmentAt (now s) at .left) k ⌝ }
+    ensures { λ r. ⌜ (length (now (status .exit)) ≡ length (now (status .entry))) × Steps (λ m v. (m ≤ length (now (status .exit))) × Began (now (s .entry)) scene first at (take n (now (status .entry))) (take m (now (status .exit))) v) ((n < length (now (status .entry))) × FitsAt (now (s .entry)) scene first at (take n (now (status .entry))) k) r ⌝ }
 {
     if n == status.len() {
         return Step::Stop;
     }
-    let t = bytes::segment(s, at);
-    let k = if n < FEW {
-        place::first_over(s, t.left, status, n)
-    } else {
-        place::near(s, t.left, status, n, hint)
-    };
     if !place::fits_over(s, scene, first, at, status, k) {
         return Step::Stop;
     }
@@ -164,7 +154,8 @@ fn own_below(s: &[u8], scene: Scene, first: bool, at: usize, status: &[u16], top
     top
 }
 
-// The right halfsegment at an offset. It ends where its entry is found and the neighbours of that can meet. Its note is that of the left one.
+// The right halfsegment at an offset, and a place for its right end. It ends where its entry is found and the neighbours of that can meet. Its note is
+// that of the left one.
 pub fn end(
     s: &[u8],
     scene: Scene,
@@ -172,18 +163,12 @@ pub fn end(
     at: usize,
     status: &mut [u16],
     n: usize,
-    hint: usize,
+    top: usize,
     notes: &[u8],
 ) -> Step
-    requires { ⌜ Ready (now s) scene first at (now status) n × (2048 ≤ length (now notes)) ⌝ }
-    ensures { λ r. ⌜ (length (now (status .exit)) ≡ length (now (status .entry))) × Steps (λ m v. (m ≤ length (now (status .exit))) × Ended (now (s .entry)) scene first at (take n (now (status .entry))) (now (notes .entry)) (take m (now (status .exit))) v) (CanEnd (now (s .entry)) scene first at (take n (now (status .entry)))) r ⌝ }
+    requires { ⌜ Ready (now s) scene first at (now status) n × Place (now s) (take n (now status)) (segmentAt (now s) at .right) top × (2048 ≤ length (now notes)) ⌝ }
+    ensures { λ r. ⌜ (length (now (status .exit)) ≡ length (now (status .entry))) × Steps (λ m v. (m ≤ length (now (status .exit))) × Ended (now (s .entry)) scene first at (take n (now (status .entry))) (now (notes .entry)) (take m (now (status .exit))) v) (EndsAt (now (s .entry)) scene first at (take n (now (status .entry))) top) r ⌝ }
 {
-    let t = bytes::segment(s, at);
-    let top = if n < FEW {
-        place::first_over(s, t.right, status, n)
-    } else {
-        place::near(s, t.right, status, n, hint)
-    };
     let k = own_below(s, scene, first, at, status, top);
     if k == top {
         return Step::Stop;

@@ -122,7 +122,7 @@ fn is_place(s: &[u8], p: Point, status: &[u16], n: usize, k: usize) -> bool
 
 // A place for p, looked for first at a hint, the place of the event before, and just above it: where several halfsegments meet at a point, the next one
 // is there.
-pub fn near(s: &[u8], p: Point, status: &[u16], n: usize, hint: usize) -> usize
+fn near(s: &[u8], p: Point, status: &[u16], n: usize, hint: usize) -> usize
     requires { ⌜ T (inRange p) × Readable (now s) (now status) n ⌝ }
     ensures { λ r. ⌜ Place (now (s .entry)) (take n (now (status .entry))) p r ⌝ }
 {
@@ -135,6 +135,21 @@ pub fn near(s: &[u8], p: Point, status: &[u16], n: usize, hint: usize) -> usize
         }
     }
     first_over(s, p, status, n)
+}
+
+// With fewer entries than these, a search costs no more than a look at two places.
+const FEW: usize = 32;
+
+// A place for p, by the quicker way.
+pub fn find(s: &[u8], p: Point, status: &[u16], n: usize, hint: usize) -> usize
+    requires { ⌜ T (inRange p) × Readable (now s) (now status) n ⌝ }
+    ensures { λ r. ⌜ Place (now (s .entry)) (take n (now (status .entry))) p r ⌝ }
+{
+    if n < FEW {
+        first_over(s, p, status, n)
+    } else {
+        near(s, p, status, n, hint)
+    }
 }
 
 // Does the entry just below place k belong under the segment that begins, and is it the lower of the two at the right?

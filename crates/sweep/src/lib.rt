@@ -6,6 +6,7 @@ use scene::Scene;
 use scene::bytes;
 use scene::records;
 use status::note;
+use status::place;
 ghost use mathlib.Core.Path.{_≡_};
 ghost use mathlib.Core.Bool.{true, false, not, _&&_, cond};
 ghost use Prim.Native.Nat.{_<_, _≤_};
@@ -75,7 +76,7 @@ fn next_of(first: bool, i: usize, j: usize) -> usize
     if first { i } else { j }
 }
 
-// The element k of F, or of G.
+// The element k of F, or of G, at a place for its point.
 fn take_event(
     s: &[u8],
     scene: Scene,
@@ -91,10 +92,12 @@ fn take_event(
 {
     let l = if first { scene.f } else { scene.g };
     let at = records::place(l, k);
-    if s[at + 17] == 1 {
-        event::begin(s, scene, first, at, status, n, hint)
+    let h = bytes::halfsegment(s, at);
+    let p = place::find(s, geometry::dominating_point(h), status, n, hint);
+    if h.is_left {
+        event::begin(s, scene, first, at, status, n, p)
     } else {
-        event::end(s, scene, first, at, status, n, hint, notes)
+        event::end(s, scene, first, at, status, n, p, notes)
     }
 }
 
