@@ -10,15 +10,13 @@ use Rattle.whole.proofs.Logic.{none-of}
 use Rattle.plane.specs.declared.Segment.{Segment}
 use Rattle.plane.specs.Plane.{touch}
 use Rattle.plane.proofs.Accepted.{Across, across-from-touch}
-use Rattle.scene.specs.declared.Layout.{Layout}
 use Rattle.scene.specs.declared.Scene.{Scene}
 use Rattle.scene.specs.declared.Fault.the-variants.{Nothing}
-use Rattle.scene.specs.declared.CheckedObject.{CheckedObject}
 use Rattle.scene.specs.declared.CheckedScene.{CheckedScene}
 use Rattle.scene.specs.Read.{shapeNumber, unless}
-use Rattle.scene.specs.Conditions.{half, segments, outOfOrder, unpaired, isTouching, touching, touchingItself, oddEnd, wrongIa, Rule, rule, objectRules, overBoth, touchingAcross, sceneRules, checkSceneBy, checkObject}
+use Rattle.scene.specs.Conditions.{half, segments, outOfOrder, unpaired, isTouching, touching, touchingItself, oddEnd, wrongIa, Rule, rule, objectRules, overBoth, touchingAcross, sceneRules, checkSceneBy}
 use Rattle.scene.proofs.Taken.{TakenScene}
-use Rattle.scene.proofs.Given.{NoFault, neither, checked-scene, checked-object}
+use Rattle.scene.proofs.Given.{NoFault, neither, checked-scene}
 use Rattle.segments.proofs.Indices.{not-nothing, none-wrong}
 pub use Rattle.strands.proofs.SoundObject.{SoundObject, in-strict-order, no-half-twice, no-point-twice, left-in, in-left, segments-in-range, all-ordered, segments-sorted, no-touch, split, partner-of, segment-in, half-of, regular, ia-is, point-in-range, points-sorted}
 
@@ -50,12 +48,6 @@ holds false p e = absurd (not-nothing e)
 no-fault-after : {A : Type 0} (s : List ℕ) (a : A) (rules more : List (Rule A)) → NoFault s a (rules ++ more) → NoFault s a more
 no-fault-after s a [] more n = n
 no-fault-after s a (r ∷ rules) more n = no-fault-after s a rules more (n .1)
-
-pub sound-object : (s : List ℕ) (l : Layout) → checkObject s ≡ CheckedObject.Taken l → SoundObject s l
-sound-object s l e =
-    let c = checked-object s l e in
-    let n = c .1 in
-    record { read = c .0 .read; order = n .0; paired = n .1 .0; apart = n .1 .1 .0; even = n .1 .1 .1 .0; right-ia = n .1 .1 .1 .1 .0 }
 
 -- whatever conditions of its own a question has
 pub sound-scene : (nine later : List (Rule Scene)) (s : List ℕ) (sc : Scene) → checkSceneBy (sceneRules nine later) s ≡ CheckedScene.Taken sc → SoundScene s sc

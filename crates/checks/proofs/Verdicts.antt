@@ -14,8 +14,7 @@ use Rattle.scene.specs.declared.CheckedScene.{CheckedScene}
 use Rattle.scene.specs.Read.{Condition, condition, decide, judge, readScene, readAlone, IsObject, IsScene}
 use Rattle.scene.specs.Conditions.{outOfOrder, unpaired, touchingItself, oddEnd, wrongIa, orElse, touchingAcross, typesDescend, Rule, conditions, sceneRules, checkedScene, checkSceneBy, checkedObject, checkObject, objectRules}
 use native.Mathlib.Omega.{arith}
-use Rattle.strands.specs.Swept.{objectOf, Passes}
-use Rattle.strands.specs.Complete.{Clear}
+use Rattle.strands.specs.Swept.{objectOf, InOrder, Passes}
 use Rattle.checks.specs.declared.Verdict.{Verdict}
 use Rattle.checks.specs.declared.Verdict.the-variants.{Sound, Refused}
 use Rattle.conditions.specs.Faults.{faultUnder}
@@ -72,11 +71,11 @@ geometry-numbered s sc is-f is-g =
     decide-alike 14 (orElse (wrongIa s (sc .f)) (wrongIa s (sc .g))) (sceneFaultUnder s sc 14) _ _ (ap₂ orElse (sym (fault-14 s (sc .f) is-f (o .0) (p .0))) (sym (fault-14 s (sc .g) is-g (o .1) (p .1)))) (λ _.
     decide-alike 15 (touchingAcross s sc) (sceneFaultUnder s sc 15) _ _ (sym (fault-15 s (sc .g) is-g (o .1) (sc .f) is-f)) (λ _. refl))))))
 
--- ---- by the sweep
+-- ---- 10 to 15 refuse no scene in which they find no fault
 
-pub swept : (s : List ℕ) (sc : Scene) → ((first : Bool) → outOfOrder s (objectOf s sc first) ≡ Nothing) → Passes s sc → geometryVerdict s sc ≡ Sound
+pub passes-sound : (s : List ℕ) (sc : Scene) → InOrder s sc → Passes s sc → geometryVerdict s sc ≡ Sound
 unfolding geometryVerdict
-swept s sc order p =
+passes-sound s sc order p =
     rw (
       order true,
       order false,
@@ -91,7 +90,7 @@ swept s sc order p =
       p .across,
     )
 
--- and where none of them refuses, they find no fault
+-- and in one that they do not refuse they find none
 refuses-not : {r : Refusal} → Refused r ≡ Sound → ⊥
 refuses-not e = let z : _≡_ {A = ℕ} 0 1 = cc in omega arith
 
@@ -99,28 +98,23 @@ sound-first : (n : ℕ) (f : Fault) (rest : Verdict) → decide Refused n f rest
 sound-first n (At p) rest e = absurd (refuses-not e)
 sound-first n Nothing rest e = (refl, e)
 
-pub record AllClear (s : List ℕ) (sc : Scene) : Type 0 where
-  pub order : (first : Bool) → outOfOrder s (objectOf s sc first) ≡ Nothing
-  pub clear : Clear s sc
-
-pub clear-of : (s : List ℕ) (sc : Scene) → geometryVerdict s sc ≡ Sound → AllClear s sc
+pub sound-passes : (s : List ℕ) (sc : Scene) → geometryVerdict s sc ≡ Sound → InOrder s sc × Passes s sc
 unfolding geometryVerdict
-clear-of s sc e =
+sound-passes s sc e =
     let a = sound-first 10 (orElse (outOfOrder s (sc .f)) (outOfOrder s (sc .g))) _ e in
     let b = sound-first 11 (orElse (unpaired s (sc .f)) (unpaired s (sc .g))) _ (a .1) in
     let c = sound-first 12 (orElse (touchingItself s (sc .f)) (touchingItself s (sc .g))) _ (b .1) in
     let d = sound-first 13 (orElse (oddEnd s (sc .f)) (oddEnd s (sc .g))) _ (c .1) in
-    let i = sound-first 14 (orElse (wrongIa s (sc .f)) (wrongIa s (sc .g))) _ (d .1) in
-    record {
-      order = of-both outOfOrder (a .0);
-      clear = record {
+    let i = sound-first 14 (orElse (wrongIa s (sc .f)) (wrongIa s (sc .g))) _ (d .1) in (
+      of-both outOfOrder (a .0),
+      record {
         paired = of-both unpaired (b .0);
         apart = of-both touchingItself (c .0);
         even = of-both oddEnd (d .0);
         right-ia = of-both wrongIa (i .0);
         across = sound-first 15 (touchingAcross s sc) Sound (i .1) .0;
-      };
-    }
+      },
+    )
   where
     of-both : (f : List ℕ → Layout → Fault) → orElse (f s (sc .f)) (f s (sc .g)) ≡ Nothing → (first : Bool) → f s (objectOf s sc first) ≡ Nothing
     of-both f q true = neither (f s (sc .f)) (f s (sc .g)) q .0

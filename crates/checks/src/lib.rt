@@ -13,6 +13,7 @@ ghost use mathlib.Core.List.{List};
 ghost use Prim.Native.Nat.{ℕ, _≤_};
 ghost use lib.Dec.{T};
 ghost use lib.ListN.{length};
+ghost use Rattle.whole.specs.Decides.{Decides};
 ghost use Rattle.scene.specs.Read.{IsObject, IsScene};
 ghost use Rattle.scene.specs.Conditions.{typesDescend, checkScene, checkObject};
 ghost use Rattle.strands.specs.Noted.{Noted};
@@ -92,10 +93,10 @@ fn plain_verdict(s: &[u8], scene: Scene) -> Verdict
     Verdict::Sound
 }
 
-// Is a scene in order, and does the sweep accept it? It does so of each sound scene, and of no other.
+// Is a scene sound, by its order and by the sweep, which is fast? If so, each element is noted.
 fn is_swept(s: &[u8], scene: Scene, notes: &mut [u8]) -> bool
     requires { ⌜ IsScene (now s) scene × (2048 ≤ length (now notes)) ⌝ }
-    ensures { λ r. ⌜ (length (now (notes .exit)) ≡ length (now (notes .entry))) × (T r → (geometryVerdict (now (s .entry)) scene ≡ Verdict.Sound) × Noted (now (s .entry)) scene (now (notes .exit))) × (geometryVerdict (now (s .entry)) scene ≡ Verdict.Sound → T r) ⌝ }
+    ensures { λ r. ⌜ (length (now (notes .exit)) ≡ length (now (notes .entry))) × Decides (geometryVerdict (now (s .entry)) scene ≡ Verdict.Sound) r × (T r → Noted (now (s .entry)) scene (now (notes .exit))) ⌝ }
 {
     let f = scene.f;
     let g = scene.g;
@@ -108,7 +109,7 @@ fn is_swept(s: &[u8], scene: Scene, notes: &mut [u8]) -> bool
     sweep::accepts(s, scene, notes)
 }
 
-// The same: by the sweep, which is fast, and leaves its notes of a sound scene; else condition by condition, which says where the fault lies.
+// The first refusal under 10 to 15 of a scene: none, by the sweep, which leaves its notes; else condition by condition, which says where the fault lies.
 pub fn noted_verdict(s: &[u8], scene: Scene, notes: &mut [u8]) -> Verdict
     requires { ⌜ IsScene (now s) scene × (2048 ≤ length (now notes)) ⌝ }
     ensures { λ r. ⌜ (length (now (notes .exit)) ≡ length (now (notes .entry))) × (r ≡ geometryVerdict (now (s .entry)) scene) × (r ≡ Verdict.Sound → Noted (now (s .entry)) scene (now (notes .exit))) ⌝ }

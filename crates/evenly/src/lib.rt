@@ -1,5 +1,5 @@
-// Whether each point is the dominating point of an even number of an object's halfsegments. In order, the halfsegments of one point stand together,
-// so they are compared two by two. Only a yes says something: no order is asked for.
+// Whether each point is the dominating point of an even number of an object's halfsegments: condition 13, where 11 finds no fault. In order, the
+// halfsegments of one point stand together, so they are compared two by two.
 use scene::Layout;
 use scene::Scene;
 use scene::bytes;
@@ -8,10 +8,13 @@ ghost use mathlib.Core.Path.{_≡_};
 ghost use Prim.Native.Nat.{_+_, _≤_};
 ghost use lib.ListN.{length};
 ghost use lib.Dec.{T};
+ghost use Rattle.whole.specs.Decides.{Decides};
 ghost use Rattle.plane.specs.Plane.{samePoint, dominating};
+ghost use Rattle.scene.specs.declared.Fault.the-variants.{Nothing};
 ghost use Rattle.scene.specs.Read.{halfsegmentAt, IsObject, IsScene};
-ghost use Rattle.scene.specs.Conditions.{hasSegments, isRegion};
-ghost use Rattle.strands.specs.Evenly.{EndsEvenly, Pairable, RegionsEndEvenly, RegionsPairable};
+ghost use Rattle.scene.specs.Conditions.{hasSegments, isRegion, outOfOrder};
+ghost use Rattle.strands.specs.Swept.{InOrder};
+ghost use Rattle.strands.specs.Evenly.{EndsEvenly, RegionsEndEvenly};
 
 // Do the halfsegments at two offsets have one dominating point?
 fn share_point(s: &[u8], at: usize, next: usize) -> bool
@@ -23,9 +26,10 @@ fn share_point(s: &[u8], at: usize, next: usize) -> bool
     plane::is_same_point(p, q)
 }
 
+// Does an object with segments end evenly?
 fn ends_evenly(s: &[u8], l: Layout) -> bool
-    requires { ⌜ IsObject (now s) l × T (hasSegments (l .shape)) ⌝ }
-    ensures { λ r. ⌜ (T r → EndsEvenly (now (s .entry)) l) × (Pairable (now (s .entry)) l → T r) ⌝ }
+    requires { ⌜ IsObject (now s) l × T (hasSegments (l .shape)) × (outOfOrder (now s) l ≡ Nothing) ⌝ }
+    ensures { λ r. ⌜ Decides (EndsEvenly (now (s .entry)) l) r ⌝ }
 {
     if l.count % 2 != 0 {
         return false;
@@ -44,9 +48,10 @@ fn ends_evenly(s: &[u8], l: Layout) -> bool
     true
 }
 
+// Does an object, if it is a region?
 fn is_even(s: &[u8], l: Layout) -> bool
-    requires { ⌜ IsObject (now s) l ⌝ }
-    ensures { λ r. ⌜ (T r → T (isRegion (l .shape)) → EndsEvenly (now (s .entry)) l) × ((T (isRegion (l .shape)) → Pairable (now (s .entry)) l) → T r) ⌝ }
+    requires { ⌜ IsObject (now s) l × (outOfOrder (now s) l ≡ Nothing) ⌝ }
+    ensures { λ r. ⌜ Decides (T (isRegion (l .shape)) → EndsEvenly (now (s .entry)) l) r ⌝ }
 {
     let k = l.shape;
     if !segments::is_region(k) {
@@ -55,10 +60,10 @@ fn is_even(s: &[u8], l: Layout) -> bool
     ends_evenly(s, l)
 }
 
-// Do the regions of a scene end evenly?
+// Does each region of a scene?
 pub fn regions_end_evenly(s: &[u8], scene: Scene) -> bool
-    requires { ⌜ IsScene (now s) scene ⌝ }
-    ensures { λ r. ⌜ (T r → RegionsEndEvenly (now (s .entry)) scene) × (RegionsPairable (now (s .entry)) scene → T r) ⌝ }
+    requires { ⌜ IsScene (now s) scene × InOrder (now s) scene ⌝ }
+    ensures { λ r. ⌜ Decides (RegionsEndEvenly (now (s .entry)) scene) r ⌝ }
 {
     let f = scene.f;
     let g = scene.g;

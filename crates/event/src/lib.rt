@@ -1,30 +1,29 @@
 // One event of the sweep: a segment that begins goes into the status between those under its left end and those over it; one that ends goes out.
-// Where an entry stands in neither place, or an ia is wrong, the sweep stops.
+// Where a neighbour does not let it in, where it is not found, or where an ia is wrong, the sweep stops, and then a condition finds a fault.
 use scene::Scene;
 use scene::bytes;
 use status::note;
 use status::place;
 ghost use mathlib.Core.Path.{_≡_};
-ghost use mathlib.Core.Bool.{not, Bool·beq};
+ghost use mathlib.Core.Bool.{Bool·beq};
 ghost use mathlib.Core.List.{List};
 ghost use Prim.Native.Nat.{ℕ, _+_, _<_, _≤_};
-ghost use lib.Dec.{T, ltb};
-ghost use lib.ListN.{length, getD, take};
+ghost use lib.Dec.{ltb};
+ghost use lib.ListN.{length, take};
 ghost use Rattle.whole.specs.Count.{bit, odd, count};
-ghost use Rattle.scene.specs.Read.{segmentAt, iaAt, IsScene};
+ghost use Rattle.whole.specs.Decides.{Decides};
+ghost use Rattle.scene.specs.Read.{segmentAt, IsScene};
 ghost use Rattle.scene.specs.Conditions.{isRegion};
-ghost use Rattle.strands.specs.Swept.{objectOf, strandOf, isFirst, strandAt, Began, Ended, Entry};
+ghost use Rattle.strands.specs.Swept.{objectOf, strandOf, isFirst, strandAt, Entry};
+ghost use Rattle.strands.specs.Event.{Place, RightIa, FitsAt, Began, OwnAt, EndsAt, Ended};
 ghost use Rattle.strands.specs.Ready.{Ready};
-ghost use Rattle.strands.specs.Complete.{CanBegin, CanEnd};
+ghost use Rattle.event.specs.Steps.{Steps};
 
-// The number of entries that are now in use, the note of the element, and a place where the next event may well be; or the sweep gives up.
+// The number of entries that are now in use, the note of the element, and a place where the next event may well be; or the event could not be taken.
 pub enum Step {
     On(usize, u8, usize),
     Stop,
 }
-
-// With fewer entries than these, a search costs no more than a look at two places.
-const FEW: usize = 32;
 
 // ---- a segment begins
 
@@ -68,7 +67,7 @@ fn has_region(scene: Scene, first: bool) -> bool
 // A region's interior is above a segment where an even number of its own pass under it.
 fn has_right_ia(s: &[u8], scene: Scene, first: bool, at: usize, own: bool) -> bool
     requires { ⌜ IsScene (now s) scene × Entry (now s) scene at × (isFirst (now s) scene at ≡ first) ⌝ }
-    ensures { λ r. ⌜ (T r → T (isRegion (objectOf (now (s .entry)) scene first .shape)) → own ≡ not (iaAt (now (s .entry)) at)) × ((T (isRegion (objectOf (now (s .entry)) scene first .shape)) → own ≡ not (iaAt (now (s .entry)) at)) → T r) ⌝ }
+    ensures { λ r. ⌜ Decides (RightIa (now (s .entry)) scene first at own) r ⌝ }
 {
     if !has_region(scene, first) {
         return true;
@@ -83,7 +82,7 @@ fn other_note(k: usize, own: bool) -> u8
     (own != (k % 2 == 1)) as u8
 }
 
-// The left halfsegment at an offset.
+// The left halfsegment at an offset, and a place for its left end. It begins where there is room, and it fits there.
 pub fn begin(
     s: &[u8],
     scene: Scene,
@@ -91,20 +90,14 @@ pub fn begin(
     at: usize,
     status: &mut [u16],
     n: usize,
-    hint: usize,
+    k: usize,
 ) -> Step
-    requires { ⌜ Ready (now s) scene first at (now status) n ⌝ }
-    ensures { λ r. ⌜ (length (now (status .exit)) ≡ length (now (status .entry))) × ((m v h : ℕ) → r ≡ Step.On m v h → (m ≡ n + 1) × (m ≤ length (now (status .exit))) × Began (now (s .entry)) scene first at (take n (now (status .entry))) (take m (now (status .exit))) v) × (n < length (now (status .entry)) → CanBegin (now (s .entry)) scene first at (take n (now (status .entry))) → r ≡ Step.Stop → ⊥) ⌝ }
+    requires { ⌜ Ready (now s) scene first at (now status) n × Place (now s) (take n (now status)) (segmentAt (now s) at .left) k ⌝ }
+    ensures { λ r. ⌜ (length (now (status .exit)) ≡ length (now (status .entry))) × Steps (λ m v. (m ≤ length (now (status .exit))) × Began (now (s .entry)) scene first at (take n (now (status .entry))) (take m (now (status .exit))) v) ((n < length (now (status .entry))) × FitsAt (now (s .entry)) scene first at (take n (now (status .entry))) k) r ⌝ }
 {
     if n == status.len() {
         return Step::Stop;
     }
-    let t = bytes::segment(s, at);
-    let k = if n < FEW {
-        place::first_over(s, t.left, status, n)
-    } else {
-        place::near(s, t.left, status, n, hint)
-    };
     if !place::fits_over(s, scene, first, at, status, k) {
         return Step::Stop;
     }
@@ -125,7 +118,7 @@ pub fn begin(
 // Is the entry e the strand of the record at an offset: the same segment of the same object, with its ia?
 fn is_own(s: &[u8], scene: Scene, first: bool, at: usize, e: usize) -> bool
     requires { ⌜ IsScene (now s) scene × Entry (now s) scene at × (isFirst (now s) scene at ≡ first) × Entry (now s) scene e ⌝ }
-    ensures { λ r. ⌜ (T r → strandAt (now (s .entry)) scene e ≡ strandOf (now (s .entry)) scene first at) × (strandAt (now (s .entry)) scene e ≡ strandOf (now (s .entry)) scene first at → T r) ⌝ }
+    ensures { λ r. ⌜ Decides (strandAt (now (s .entry)) scene e ≡ strandOf (now (s .entry)) scene first at) r ⌝ }
 {
     let g = scene.g;
     if first != (e < g.start) {
@@ -144,7 +137,7 @@ fn is_own(s: &[u8], scene: Scene, first: bool, at: usize, e: usize) -> bool
 // The place of the entry that the right halfsegment at an offset ends: just below the place top, or below entries of the same segment; else top.
 fn own_below(s: &[u8], scene: Scene, first: bool, at: usize, status: &[u16], top: usize) -> usize
     requires { ⌜ Ready (now s) scene first at (now status) top ⌝ }
-    ensures { λ r. ⌜ (r ≤ top) × (r < top → (strandAt (now (s .entry)) scene (getD (now (status .entry)) r 0) ≡ strandOf (now (s .entry)) scene first at) × ((i : ℕ) → r < i → i < top → segmentAt (now (s .entry)) (getD (now (status .entry)) i 0) ≡ segmentAt (now (s .entry)) at)) × ((k : ℕ) → k < top → strandAt (now (s .entry)) scene (getD (now (status .entry)) k 0) ≡ strandOf (now (s .entry)) scene first at → ((i : ℕ) → k < i → i < top → segmentAt (now (s .entry)) (getD (now (status .entry)) i 0) ≡ segmentAt (now (s .entry)) at) → r < top) ⌝ }
+    ensures { λ r. ⌜ (r ≤ top) × (r < top → OwnAt (now (s .entry)) scene first at (now (status .entry)) top r) × ((k : ℕ) → OwnAt (now (s .entry)) scene first at (now (status .entry)) top k → r < top) ⌝ }
 {
     let t = bytes::segment(s, at);
     let mut k = top;
@@ -161,7 +154,8 @@ fn own_below(s: &[u8], scene: Scene, first: bool, at: usize, status: &[u16], top
     top
 }
 
-// The right halfsegment at an offset. Its note is that of the left one.
+// The right halfsegment at an offset, and a place for its right end. It ends where its entry is found and the neighbours of that can meet. Its note is
+// that of the left one.
 pub fn end(
     s: &[u8],
     scene: Scene,
@@ -169,18 +163,12 @@ pub fn end(
     at: usize,
     status: &mut [u16],
     n: usize,
-    hint: usize,
+    top: usize,
     notes: &[u8],
 ) -> Step
-    requires { ⌜ Ready (now s) scene first at (now status) n × (2048 ≤ length (now notes)) ⌝ }
-    ensures { λ r. ⌜ (length (now (status .exit)) ≡ length (now (status .entry))) × ((m v h : ℕ) → r ≡ Step.On m v h → (m + 1 ≡ n) × Ended (now (s .entry)) scene first at (now (notes .entry)) (take n (now (status .entry))) (take m (now (status .exit))) v) × (CanEnd (now (s .entry)) scene first at (take n (now (status .entry))) → r ≡ Step.Stop → ⊥) ⌝ }
+    requires { ⌜ Ready (now s) scene first at (now status) n × Place (now s) (take n (now status)) (segmentAt (now s) at .right) top × (2048 ≤ length (now notes)) ⌝ }
+    ensures { λ r. ⌜ (length (now (status .exit)) ≡ length (now (status .entry))) × Steps (λ m v. (m ≤ length (now (status .exit))) × Ended (now (s .entry)) scene first at (take n (now (status .entry))) (now (notes .entry)) (take m (now (status .exit))) v) (EndsAt (now (s .entry)) scene first at (take n (now (status .entry))) top) r ⌝ }
 {
-    let t = bytes::segment(s, at);
-    let top = if n < FEW {
-        place::first_over(s, t.right, status, n)
-    } else {
-        place::near(s, t.right, status, n, hint)
-    };
     let k = own_below(s, scene, first, at, status, top);
     if k == top {
         return Step::Stop;

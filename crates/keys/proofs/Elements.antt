@@ -33,7 +33,7 @@ point-of-half s l has i = go (l .shape) has
     go Line e = refl
     go Region e = refl
 
-dominating-in-range : (h : Halfsegment) → T (segmentInRange (h .segment)) → T (inRange (dominating h))
+pub dominating-in-range : (h : Halfsegment) → T (segmentInRange (h .segment)) → T (inRange (dominating h))
 unfolding dominating
 dominating-in-range h t = go (h .«is_left»)
   where

@@ -5,6 +5,7 @@ use scene::Shape;
 use scene::bytes;
 ghost use mathlib.Core.Path.{_≡_};
 ghost use lib.Dec.{T};
+ghost use Rattle.whole.specs.Decides.{Decides};
 ghost use Rattle.scene.specs.declared.Fault.the-variants.{Nothing};
 ghost use Rattle.scene.specs.declared.Shape.the-variants.{Points};
 ghost use Rattle.scene.specs.Read.{size, IsObject};
@@ -12,7 +13,7 @@ ghost use Rattle.scene.specs.Conditions.{hasSegments, outOfOrder};
 
 fn points_ascend(s: &[u8], l: Layout) -> bool
     requires { ⌜ IsObject (now s) l × (l .shape ≡ Points) ⌝ }
-    ensures { λ r. ⌜ (T r → outOfOrder (now (s .entry)) l ≡ Nothing) × (outOfOrder (now (s .entry)) l ≡ Nothing → T r) ⌝ }
+    ensures { λ r. ⌜ Decides (outOfOrder (now (s .entry)) l ≡ Nothing) r ⌝ }
 {
     let mut at = l.start + 2;
     let mut i: usize = 1;
@@ -31,7 +32,7 @@ fn points_ascend(s: &[u8], l: Layout) -> bool
 // A record takes `step` bytes: a literal at each call, so that the loop is compiled for each type.
 fn halfsegments_ascend(s: &[u8], l: Layout, step: usize) -> bool
     requires { ⌜ IsObject (now s) l × T (hasSegments (l .shape)) × (step ≡ size (l .shape)) ⌝ }
-    ensures { λ r. ⌜ (T r → outOfOrder (now (s .entry)) l ≡ Nothing) × (outOfOrder (now (s .entry)) l ≡ Nothing → T r) ⌝ }
+    ensures { λ r. ⌜ Decides (outOfOrder (now (s .entry)) l ≡ Nothing) r ⌝ }
 {
     let mut at = l.start + 2;
     let mut i: usize = 1;
@@ -49,7 +50,7 @@ fn halfsegments_ascend(s: &[u8], l: Layout, step: usize) -> bool
 
 pub fn is_ordered(s: &[u8], l: Layout) -> bool
     requires { ⌜ IsObject (now s) l ⌝ }
-    ensures { λ r. ⌜ (T r → outOfOrder (now (s .entry)) l ≡ Nothing) × (outOfOrder (now (s .entry)) l ≡ Nothing → T r) ⌝ }
+    ensures { λ r. ⌜ Decides (outOfOrder (now (s .entry)) l ≡ Nothing) r ⌝ }
 {
     let k = l.shape;
     match k {

@@ -56,15 +56,6 @@ byte-small false = omega arith
 -- ---- a search, a count and the earliest fault, from the number i on
 
 module _ (f : ℕ → Bool) (i n : ℕ) where
-  pub some-found : i < n → f i ≡ true → some f (between i n) ≡ true
-  some-found h e = rw (between-next i n h, e)
-
-  pub some-passed : i < n → f i ≡ false → some f (between i n) ≡ some f (between (i + 1) n)
-  some-passed h e = rw (between-next i n h, e)
-
-  pub some-none : n ≤ i → some f (between i n) ≡ false
-  some-none h = rw (between-none i n h)
-
   pub count-next : i < n → count f (between i n) ≡ bit (f i) + count f (between (i + 1) n)
   count-next h = rw (between-next i n h)
 

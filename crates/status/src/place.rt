@@ -1,19 +1,21 @@
 // Where an event stands in the status, and whether its neighbours there let it in. Each function looks at a few entries only: that the others stand
-// in order follows, since every two neighbours were tested when they became neighbours.
+// in order follows, since every two neighbours were tested when they became neighbours. The entries are the first n of the array.
 use plane::Point;
 use plane::Segment;
 use scene::Scene;
 use scene::bytes;
 ghost use mathlib.Core.Path.{_≡_};
-ghost use mathlib.Core.Bool.{false, not, _&&_, _||_};
-ghost use Prim.Native.Nat.{ℕ, suc, _<_, _≤_};
+ghost use mathlib.Core.Bool.{not, _&&_, _||_};
+ghost use Prim.Native.Nat.{_<_};
 ghost use lib.Dec.{T};
-ghost use lib.ListN.{length, getD};
+ghost use lib.ListN.{length, getD, take};
+ghost use Rattle.whole.specs.Decides.{Decides};
 ghost use Rattle.plane.specs.Plane.{inRange, segmentInRange, samePoint, sameSegment};
 ghost use Rattle.scene.specs.Read.{segmentAt};
 ghost use Rattle.scene.proofs.Given.{GoodHalfsegment};
 ghost use Rattle.strands.specs.Lower.{passesUnder, passesOver, lowerAtRight};
-ghost use Rattle.strands.specs.Swept.{underBeginning, strandOf, strandAt};
+ghost use Rattle.strands.specs.Status.{AtPlace, BelowPlace};
+ghost use Rattle.strands.specs.Event.{Place, LowerNext, FitsOver, CanMeet};
 ghost use Rattle.strands.specs.Ready.{Readable};
 
 pub fn wide(e: u16) -> usize
@@ -71,7 +73,7 @@ fn is_lower(u: Segment, t: Segment) -> bool
     is_over(t, u.right) || plane::is_same_point(u.right, t.right)
 }
 
-// ---- a place
+// ---- a place for a point: the entry just below it does not pass over the point, and the one there does
 
 // The segment of the entry i.
 fn segment_of(s: &[u8], status: &[u16], i: usize) -> Segment
@@ -81,10 +83,10 @@ fn segment_of(s: &[u8], status: &[u16], i: usize) -> Segment
     bytes::segment(s, wide(status[i]))
 }
 
-// The first entry that passes over p, by halving, where those below it do not; without that order, one that passes over p.
+// A place for p, by halving. Where those that pass over p stand above all others, it is the first of them.
 pub fn first_over(s: &[u8], p: Point, status: &[u16], n: usize) -> usize
     requires { ⌜ T (inRange p) × Readable (now s) (now status) n ⌝ }
-    ensures { λ r. ⌜ (r ≤ n) × (r < n → T (passesOver (segmentAt (now (s .entry)) (getD (now (status .entry)) r 0)) p)) × ((i : ℕ) → suc i ≡ r → passesOver (segmentAt (now (s .entry)) (getD (now (status .entry)) i 0)) p ≡ false) ⌝ }
+    ensures { λ r. ⌜ Place (now (s .entry)) (take n (now (status .entry))) p r ⌝ }
 {
     let mut low: usize = 0;
     let mut high = n;
@@ -99,10 +101,10 @@ pub fn first_over(s: &[u8], p: Point, status: &[u16], n: usize) -> usize
     high
 }
 
-// Is k a place for p: the entry just below it does not pass over p, and the one there does?
+// Is k a place for p?
 fn is_place(s: &[u8], p: Point, status: &[u16], n: usize, k: usize) -> bool
     requires { ⌜ T (inRange p) × Readable (now s) (now status) n ⌝ }
-    ensures { λ r. ⌜ (T r → (k ≤ n) × (k < n → T (passesOver (segmentAt (now (s .entry)) (getD (now (status .entry)) k 0)) p)) × ((i : ℕ) → suc i ≡ k → passesOver (segmentAt (now (s .entry)) (getD (now (status .entry)) i 0)) p ≡ false)) ⌝ }
+    ensures { λ r. ⌜ Decides (Place (now (s .entry)) (take n (now (status .entry))) p k) r ⌝ }
 {
     if n < k {
         return false;
@@ -118,11 +120,11 @@ fn is_place(s: &[u8], p: Point, status: &[u16], n: usize, k: usize) -> bool
     is_over(segment_of(s, status, k), p)
 }
 
-// The same as `first_over`, looked for first at a hint, the place of the event before, and just above it: where several halfsegments meet at a point,
-// the next one is there.
-pub fn near(s: &[u8], p: Point, status: &[u16], n: usize, hint: usize) -> usize
+// A place for p, looked for first at a hint, the place of the event before, and just above it: where several halfsegments meet at a point, the next one
+// is there.
+fn near(s: &[u8], p: Point, status: &[u16], n: usize, hint: usize) -> usize
     requires { ⌜ T (inRange p) × Readable (now s) (now status) n ⌝ }
-    ensures { λ r. ⌜ (r ≤ n) × (r < n → T (passesOver (segmentAt (now (s .entry)) (getD (now (status .entry)) r 0)) p)) × ((i : ℕ) → suc i ≡ r → passesOver (segmentAt (now (s .entry)) (getD (now (status .entry)) i 0)) p ≡ false) ⌝ }
+    ensures { λ r. ⌜ Place (now (s .entry)) (take n (now (status .entry))) p r ⌝ }
 {
     if is_place(s, p, status, n, hint) {
         return hint;
@@ -135,10 +137,25 @@ pub fn near(s: &[u8], p: Point, status: &[u16], n: usize, hint: usize) -> usize
     first_over(s, p, status, n)
 }
 
+// With fewer entries than these, a search costs no more than a look at two places.
+const FEW: usize = 32;
+
+// A place for p, by the quicker way.
+pub fn find(s: &[u8], p: Point, status: &[u16], n: usize, hint: usize) -> usize
+    requires { ⌜ T (inRange p) × Readable (now s) (now status) n ⌝ }
+    ensures { λ r. ⌜ Place (now (s .entry)) (take n (now (status .entry))) p r ⌝ }
+{
+    if n < FEW {
+        first_over(s, p, status, n)
+    } else {
+        near(s, p, status, n, hint)
+    }
+}
+
 // Does the entry just below place k belong under the segment that begins, and is it the lower of the two at the right?
 pub fn fits_over(s: &[u8], scene: Scene, first: bool, at: usize, status: &[u16], k: usize) -> bool
     requires { ⌜ GoodHalfsegment (now s) at × Readable (now s) (now status) k ⌝ }
-    ensures { λ r. ⌜ (T r → (i : ℕ) → suc i ≡ k → T (underBeginning (strandOf (now (s .entry)) scene first at) (strandAt (now (s .entry)) scene (getD (now (status .entry)) i 0))) × T (lowerAtRight (segmentAt (now (s .entry)) (getD (now (status .entry)) i 0)) (segmentAt (now (s .entry)) at))) × (((i : ℕ) → suc i ≡ k → T (underBeginning (strandOf (now (s .entry)) scene first at) (strandAt (now (s .entry)) scene (getD (now (status .entry)) i 0))) × T (lowerAtRight (segmentAt (now (s .entry)) (getD (now (status .entry)) i 0)) (segmentAt (now (s .entry)) at))) → T r) ⌝ }
+    ensures { λ r. ⌜ Decides (BelowPlace (now (status .entry)) k (FitsOver (now (s .entry)) scene first at)) r ⌝ }
 {
     if k == 0 {
         return true;
@@ -153,7 +170,7 @@ pub fn fits_over(s: &[u8], scene: Scene, first: bool, at: usize, status: &[u16],
 // Is the segment that begins the lower of itself and the entry at place k at the right?
 pub fn fits_under(s: &[u8], at: usize, status: &[u16], k: usize, n: usize) -> bool
     requires { ⌜ GoodHalfsegment (now s) at × Readable (now s) (now status) n ⌝ }
-    ensures { λ r. ⌜ (T r → k < n → T (lowerAtRight (segmentAt (now (s .entry)) at) (segmentAt (now (s .entry)) (getD (now (status .entry)) k 0)))) × ((k < n → T (lowerAtRight (segmentAt (now (s .entry)) at) (segmentAt (now (s .entry)) (getD (now (status .entry)) k 0)))) → T r) ⌝ }
+    ensures { λ r. ⌜ Decides (AtPlace (take n (now (status .entry))) k (LowerNext (now (s .entry)) at)) r ⌝ }
 {
     if n <= k {
         return true;
@@ -165,7 +182,7 @@ pub fn fits_under(s: &[u8], at: usize, status: &[u16], k: usize, n: usize) -> bo
 // Where the entry at place k goes, is the one below it the lower of itself and the one above it at the right?
 pub fn can_meet(s: &[u8], status: &[u16], k: usize, n: usize) -> bool
     requires { ⌜ (k < n) × Readable (now s) (now status) n ⌝ }
-    ensures { λ r. ⌜ (T r → (i : ℕ) → suc i ≡ k → suc k < n → T (lowerAtRight (segmentAt (now (s .entry)) (getD (now (status .entry)) i 0)) (segmentAt (now (s .entry)) (getD (now (status .entry)) (suc k) 0)))) × (((i : ℕ) → suc i ≡ k → suc k < n → T (lowerAtRight (segmentAt (now (s .entry)) (getD (now (status .entry)) i 0)) (segmentAt (now (s .entry)) (getD (now (status .entry)) (suc k) 0)))) → T r) ⌝ }
+    ensures { λ r. ⌜ Decides (CanMeet (now (s .entry)) (take n (now (status .entry))) k) r ⌝ }
 {
     if k == 0 {
         return true;

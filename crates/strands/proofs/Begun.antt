@@ -6,9 +6,8 @@ use native.Mathlib.Omega.{arith}
 use mathlib.Core.Path.{_≡_, refl, sym, ap, _∙_, subst}
 use mathlib.Core.Logic.{_⊎_, inl, inr, ⊎-elim}
 use mathlib.Core.Bool.{Bool, true, false, not, cond, Bool·beq}
-use mathlib.Core.List.{List, [], _∷_, _++_}
-use lib.Dec.{T}
-use Rattle.whole.specs.Count.{_∈_, here, there, bit, odd, count}
+use mathlib.Core.List.{List, _∷_, _++_}
+use Rattle.whole.specs.Count.{_∈_, here, there, odd, count}
 use Rattle.whole.proofs.Logic.{beq-same, beq-refl, in-nil, in-cons, in-append, in-left, in-right}
 use Rattle.scene.specs.declared.Scene.{Scene}
 use Rattle.scene.specs.Read.{place}

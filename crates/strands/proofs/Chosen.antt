@@ -1,5 +1,5 @@
 -- The event that the sweep takes next: there is one, and no later event's dominating point comes before its own.
-use Prim.Native.Nat.{ℕ, zero, suc, _+_, _<_, _≤_}
+use Prim.Native.Nat.{ℕ, suc, _+_, _<_, _≤_}
 use native.Mathlib.Nat.{eq-or-lt-of-le, add-zero}
 use native.Mathlib.Numerals.{add-one}
 use native.Mathlib.Omega.{arith}
@@ -17,8 +17,7 @@ use Rattle.whole.proofs.Solver.{var, _:+_, _:-_, opp, solve}
 use Rattle.whole.proofs.Sign.{Pos, NonNeg, nonneg-add, nonneg-both, nonneg-clash, neg-of-pos, ltZ-pos, eqZ-zero, sub-zero-eq}
 use Rattle.whole.proofs.Logic.{or-cases, and-left, and-right, is-true, true-is}
 use Rattle.plane.specs.declared.Point.{Point}
-use Rattle.plane.specs.declared.Halfsegment.{Halfsegment}
-use Rattle.plane.specs.Plane.{before, dominating, comesBefore}
+use Rattle.plane.specs.Plane.{before, comesBefore}
 use Rattle.plane.proofs.Order.{before-irreflexive}
 use Rattle.scene.specs.declared.Scene.{Scene}
 use Rattle.scene.specs.Read.{place, halfsegmentAt, IsScene}

@@ -5,36 +5,32 @@ use native.Mathlib.Nat.{le-refl}
 use native.Mathlib.Omega.{arith}
 use mathlib.Core.Path.{_≡_, refl, sym, ap, _∙_, subst, subst₂}
 use mathlib.Core.Logic.{_⊎_, inl, inr, ⊎-elim}
-use mathlib.Core.Bool.{Bool, true, false, not, _&&_, _||_, Bool·beq}
-use mathlib.Core.List.{List, [], _∷_, _++_, map}
-use lib.Dec.{T, T-not, not-T, ltb}
-use borrow.Author.Tests.{ltb-true, ltb-false}
-use lib.IntN.{ℤ, pos, negℤ}
+use mathlib.Core.Bool.{Bool, true, false, not, _||_, Bool·beq}
+use mathlib.Core.List.{List, _∷_, _++_, map}
+use lib.Dec.{T, T-not}
 use lib.ListN.{length, getD, take, drop, take-append-drop, length-drop, length-take}
 use lib.Seq.{split-at, getD-drop, getD-take}
 use Rattle.whole.specs.Count.{_∈_, bit, odd, count}
-use Rattle.whole.proofs.Sign.{Pos, NonNeg, Neg, Sign, minus, nought, plus, sign, Half, at-least, under, half, pos-nonneg, zero-nonneg, neg-pos, zero-pos, zero-neg, ltZ0-pos, ltZ0-neg, pos-ltZ0, neg-ltZ0}
-use Rattle.whole.proofs.Logic.{Sorted, and-left, and-right, or-cases, or-left, or-right, decide, refute, true-is, in-map, map-in, in-at, in-index, in-right}
-use Rattle.plane.specs.declared.Point.{Point}
+use Rattle.whole.proofs.Sign.{Pos, NonNeg, Half, at-least, under, half, pos-nonneg, neg-pos, zero-pos, zero-neg, ltZ0-pos, ltZ0-neg, neg-ltZ0}
+use Rattle.whole.proofs.Logic.{less-or-not, Sorted, or-left, or-right, decide, refute, true-is, in-map, map-in, in-at, in-index}
 use Rattle.plane.specs.declared.Segment.{Segment}
 use Rattle.plane.specs.declared.Halfsegment.{Halfsegment}
-use Rattle.plane.specs.Plane.{side, before, ordered, samePoint, sameSegment, comesBefore, dominating, touch}
+use Rattle.plane.specs.Plane.{side, before, ordered, samePoint, comesBefore, touch}
 use Rattle.plane.proofs.OnSegment.{Ordered, ordered-read}
 use Rattle.plane.proofs.Equal.{samePoint-read, samePoint-refl}
 use Rattle.plane.proofs.Order.{ends-differ, halfOf, comes-irreflexive}
 use Rattle.scene.specs.declared.Scene.{Scene}
 use Rattle.scene.specs.Read.{segmentAt, iaAt, place}
-use Rattle.scene.specs.Conditions.{isRegion, segments}
-use Rattle.whole.proofs.Counted.{count-none}
-use Rattle.strands.specs.Lower.{passesUnder, passesOver, lowerAtLeft, lowerAtRight}
+use Rattle.scene.specs.Conditions.{segments}
+use Rattle.strands.specs.Lower.{passesUnder, passesOver, lowerAtRight}
 use Rattle.strands.specs.Lower
 use Rattle.strands.specs.Kept.{Strand, isOf, sameObject, underOf, Lower, Kept}
-use Rattle.strands.specs.Swept.{objectOf, strandOf, isFirst, strandAt, isBeginning, strandsBy, total}
-use Rattle.strands.specs.Complete.{Place, FitsAt, CanBegin, OwnAt, EndsAt, CanEnd, CanTake}
-use Rattle.strands.proofs.Under.{NotBefore, side-left, side-right, side-turned, under-itself, under-later}
+use Rattle.strands.specs.Swept.{objectOf, isFirst, strandAt, isBeginning, strandsBy, total}
+use Rattle.strands.specs.Event.{Place, FitsAt, CanBegin, OwnAt, CanMeet, CanEnd}
+use Rattle.strands.proofs.Under.{NotBefore, side-right, side-turned, under-itself, under-later}
 use Rattle.strands.proofs.Between.{Spans, sideOf, strictly-under}
 use Rattle.strands.proofs.Events.{Reached, UnderBeginning, UnderEnd, passing-end, ending, OverEnd, passing-over, equal-over, Beginning, now-under, new-segment, no-and, sorted-after}
-use Rattle.strands.proofs.Linked.{Linked, upwards}
+use Rattle.strands.proofs.Linked.{upwards}
 use Rattle.strands.proofs.Neighbours.{Below, over-up, spans, linked, all-over, all-under-beginning, all-under-end, all-over-end}
 use Rattle.strands.proofs.Begun.{strandBy, reached, strands, Of, find-of, make-of}
 use Rattle.strands.proofs.Run.{pointOf, Orderly, isRegionOf, EndsLater, AllEndLater, Run, placeOf, ownOf, left-point, right-point, reaching, new-own, map-append, count-map}
@@ -42,15 +38,8 @@ use Rattle.strands.proofs.Counts.{count-own, count-first, count-segment
 use Rattle.strands.proofs.Objects.{has}
 use Rattle.strands.proofs.Ordered.{comes-by-point}
 use Rattle.strands.proofs.Crossing.{lower-at-right}
-use Rattle.strands.proofs.Strict.{halfBy, as-half, Rises, After, Earliest, right-left, left-left, right-right}
+use Rattle.strands.proofs.EventOrder.{halfBy, as-half, Rises, After, Earliest, right-left, left-left, right-right}
 use Rattle.strands.proofs.Fits.{under-beginning-make, under-it, under-right, over-right, higher-first}
-
-pub less-or-not : (m n : ℕ) → (m < n) ⊎ (n ≤ m)
-less-or-not m n = go (ltb m n) refl
-  where
-    go : (b : Bool) → ltb m n ≡ b → (m < n) ⊎ (n ≤ m)
-    go true e = inl (ltb-true m n e)
-    go false e = inr (ltb-false m n e)
 
 -- ---- what the conditions give
 
@@ -209,9 +198,11 @@ module _ (s : List ℕ) (sc : Scene) (o : Orderly s sc) (fair : Fair s sc) {i j 
       fits : FitsAt s sc first (placeOf s sc i j first) entries k
       fits =
           record {
-            under-it = λ i q. under-beginning-make a (strandAt s sc (getD entries i 0)) (neighbour i q);
-            lower-next = λ i q. under-right a (strandAt s sc (getD entries i 0)) own-order (spans-left (entry-below i q)) (own-clear (entry-below i q)) (neighbour i q);
-            upper-next = λ h. let m = in-at entries 0 k h in over-right a (strandAt s sc (getD entries k 0)) own-order (spans-left m) (clear-own m) (found .over-it h);
+            over = λ i q. (
+              under-beginning-make a (strandAt s sc (getD entries i 0)) (neighbour i q),
+              under-right a (strandAt s sc (getD entries i 0)) own-order (spans-left (entry-below i q)) (own-clear (entry-below i q)) (neighbour i q),
+            );
+            under = λ h. let m = in-at entries 0 k h in over-right a (strandAt s sc (getD entries k 0)) own-order (spans-left m) (clear-own m) (found .over-it h);
             right-ia = λ r. ap odd (sym count-under) ∙ fair .interior first next more r;
           }
 
@@ -373,8 +364,7 @@ module _ (s : List ℕ) (sc : Scene) (o : Orderly s sc) (fair : Fair s sc) {i j 
           equal i h l (inr t) = absurd (below-not-over i l t)
 
       -- where it goes, its neighbours are in order
-      meeting : (k : ℕ) → OwnAt s sc first (placeOf s sc i j first) entries top k → (i : ℕ) → suc i ≡ k → suc k < length entries
-          → T (lowerAtRight (segmentAt s (getD entries i 0)) (segmentAt s (getD entries (suc k) 0)))
+      meeting : (k : ℕ) → OwnAt s sc first (placeOf s sc i j first) entries top k → CanMeet s entries k
       meeting k at i q h = go under-it over-it
         where
           lower-in : getD entries i 0 ∈ entries

@@ -1,25 +1,22 @@
 -- How often a test holds of the strands of an object, counted over its elements, and of its segments.
 use Prim.Native.Nat.{ℕ, zero, suc, _+_, _<_, _≤_}
-use native.Mathlib.Nat.{add-zero, suc-add, add-suc, le-of-suc-le-suc, eq-or-lt-of-le}
+use native.Mathlib.Nat.{add-zero, le-of-suc-le-suc, eq-or-lt-of-le}
 use native.Mathlib.Omega.{arith}
 use mathlib.Core.Path.{_≡_, refl, sym, ap, ap₂, _∙_, subst}
-use mathlib.Core.Logic.{_⊎_, inl, inr, ⊎-elim}
-use mathlib.Core.Bool.{Bool, true, false, not, _&&_, cond, Bool·beq}
-use mathlib.Core.List.{List, [], _∷_, _++_, map}
-use lib.Dec.{T}
-use Rattle.whole.specs.Count.{_∈_, here, there, bit, count}
-use Rattle.whole.proofs.Logic.{refute, true-is, beq-same, in-map}
+use mathlib.Core.Logic.{_⊎_, ⊎-elim}
+use mathlib.Core.Bool.{Bool, true, false, _&&_, cond, Bool·beq}
+use mathlib.Core.List.{List, [], _∷_, map}
+use Rattle.whole.specs.Count.{_∈_, bit, count}
+use Rattle.whole.proofs.Logic.{beq-same, in-map}
 use Rattle.plane.specs.declared.Segment.{Segment}
-use Rattle.scene.specs.declared.Layout.{Layout}
 use Rattle.scene.specs.declared.Scene.{Scene}
-use Rattle.scene.specs.Read.{place, segmentAt, halfsegmentAt}
 use Rattle.scene.specs.Conditions.{indices, elements, keep, hasSegments, isLeft, half, segments}
 use Rattle.strands.specs.Kept.{Strand}
-use Rattle.strands.specs.Swept.{objectOf, strandOf, isBeginning, strandsBy, total}
+use Rattle.strands.specs.Swept.{objectOf, isBeginning, strandsBy, total}
 use Rattle.whole.proofs.Counted.{count-append, count-none, count-same}
 use Rattle.segments.proofs.Indices.{element-in, in-keep}
 use Rattle.strands.proofs.Objects.{has}
-use Rattle.strands.proofs.Begun.{strandBy, By, find-by, reached, strands}
+use Rattle.strands.proofs.Begun.{strandBy, find-by, reached, strands}
 
 -- the last index
 indices-last : (f : ℕ → Bool) (n i : ℕ) → count f (indices (suc n) i) ≡ count f (indices n i) + bit (f (i + n))

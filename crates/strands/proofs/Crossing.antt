@@ -1,18 +1,16 @@
 -- Two segments that do not touch, at a point between the ends of both that the one does not pass over and the other does not pass under: the one is
 -- the lower of the two at the right, unless both pass through the point. So where the sweep finds a place by one test, the other test holds, too.
-use mathlib.Core.Path.{_≡_, refl, sym, ap, _∙_, subst}
+use mathlib.Core.Path.{_≡_, sym, ap, _∙_, subst}
 use mathlib.Core.Logic.{_⊎_, inl, inr, ⊎-elim}
-use mathlib.Core.Bool.{Bool, true, false, not, _&&_, _||_}
-use mathlib.Core.List.{[], _∷_}
+use mathlib.Core.Bool.{false, not, _&&_, _||_}
 use lib.Dec.{T, T-not, not-T}
-use lib.IntN.{ℤ, pos, negℤ, _-ℤ_}
+use lib.IntN.{ℤ, pos, negℤ}
 use lib.Signed.{ltZ}
-use Rattle.whole.proofs.Solver.{var, con, opp, _:+_, _:-_, solve}
-use Rattle.whole.proofs.Sign.{Pos, NonNeg, Neg, Sign, minus, nought, plus, sign, Weak, weak-zero, weak-plus, weak, Half, at-least, under, half, pos-nonneg, zero-nonneg, neg-pos, pos-neg, neg-of-pos, pos-of-neg, neg-zero, zero-of-neg, pos-clash, nonneg-clash, nonneg-add, pos-add-nonneg, nonneg-add-pos, pos-ltZ0, neg-ltZ0}
+use Rattle.whole.proofs.Sign.{Pos, NonNeg, Neg, Sign, minus, nought, plus, sign, Weak, weak-zero, weak-plus, weak, Half, at-least, under, half, pos-nonneg, zero-nonneg, neg-pos, pos-neg, neg-of-pos, pos-of-neg, neg-zero, zero-of-neg, nonneg-clash, nonneg-add, pos-add-nonneg, nonneg-add-pos, pos-ltZ0, neg-ltZ0}
 use Rattle.whole.proofs.Logic.{and-make, or-cases, or-left, or-right, decide}
 use Rattle.plane.specs.declared.Point.{Point}
 use Rattle.plane.specs.declared.Segment.{Segment}
-use Rattle.plane.specs.Plane.{side, turn, turnOf, before, ordered, samePoint, sameSegment, grid, on, isEnd, opposite, cross, endWithin, touch}
+use Rattle.plane.specs.Plane.{turn, turnOf, before, ordered, samePoint, sameSegment, grid, on, isEnd, opposite, cross, endWithin, touch}
 use Rattle.plane.proofs.Machine.{isStraight}
 use Rattle.plane.proofs.OnSegment.{Ordered, ordered-read}
 use Rattle.plane.proofs.Equal.{samePoint-read, sameSegment-read, samePoint-refl}
@@ -54,9 +52,6 @@ within-make t e z l r n m =
         ⊎-elim (λ k. n (samePoint-read (t .left) e k)) (λ k. m (samePoint-read (t .right) e k)) (or-cases (samePoint (t .left) e) (samePoint (t .right) e) h)
 
 module _ (s t : Segment) (differ : s ≡ t → ⊥) where
-  abbrev within : Bool
-  within = endWithin s (t .left) || endWithin s (t .right)
-
   not-same : T (not (sameSegment s t))
   not-same = not-T (sameSegment s t) (λ h. differ (sameSegment-read s t h))
 

@@ -7,11 +7,13 @@ use mathlib.Core.Path.{_≡_, refl, sym, ap, ap₂, subst, _∙_}
 use mathlib.Core.Bool.{Bool, true, false, not, _&&_, Bool·beq}
 use mathlib.Core.List.{List, [], _∷_}
 use lib.Dec.{T}
-use lib.ListN.{length, getD, take, drop, take-append-drop, length-drop}
-use lib.Seq.{length-take-le, take-suc, take-take, getD-take, getD-drop}
+use lib.ListN.{length, getD, take, drop, take-append-drop}
+use lib.Seq.{length-take-le, take-suc, take-take, getD-take}
 use native.Mathlib.Numerals.{add-one}
 use Rattle.whole.specs.Count.{_∈_, bit, count}
-use Rattle.whole.proofs.Logic.{in-at, in-index, in-left}
+use Rattle.whole.specs.Decides.{Decides}
+use Rattle.whole.proofs.Logic.{in-at, in-left}
+use Rattle.whole.proofs.Deciding.{by-test, same-as}
 use Rattle.whole.proofs.Parity.{_⊻_, xor-false, parity, parity-nil, parity-cons, parity-append}
 use Rattle.plane.specs.declared.Point.{Point}
 use Rattle.plane.specs.declared.Segment.{Segment}
@@ -22,9 +24,10 @@ use Rattle.scene.specs.Conditions.{hasSegments, isRegion}
 use Rattle.scene.proofs.Taken.{TakenScene, taken-scene, scene-short}
 use Rattle.scene.proofs.Given.{GoodHalfsegment, good-halfsegment, ia-there}
 use Rattle.strands.specs.Lower.{passesOver}
-use Rattle.strands.specs.Complete.{Place}
+use Rattle.strands.specs.Status.{AtPlace, BelowPlace}
 use Rattle.strands.specs.Swept.{objectOf, isFirst, strandOf, strandAt, Entry}
-use Rattle.strands.specs.Ready.{Placed, Readable, Ready}
+use Rattle.strands.specs.Event.{Place, OwnAt}
+use Rattle.strands.specs.Ready.{Placed, Readable, Held}
 use Rattle.strands.proofs.Objects.{few-elements}
 
 -- ---- an entry's record
@@ -75,13 +78,9 @@ same-strand s sc first at e q p r = ap (λ (b : Bool). strandOf s sc b e) q ∙ 
 pub in-range-at : {s : List ℕ} {at : ℕ} {t : Segment} → GoodHalfsegment s at → t ≡ segmentAt s at → T (segmentInRange t)
 in-range-at r e = subst (λ (t : Segment). T (segmentInRange t)) (sym e) (r .in-range)
 
--- a test of two segments that was passed
-pub passed : (f : Segment → Segment → Bool) {u t x y : Segment} {r : Bool} → r ≡ f u t → u ≡ x → t ≡ y → T r → T (f x y)
-passed f k p q h = subst T (k ∙ ap₂ f p q) h
-
--- and one that is passed
-pub passing : (f : Segment → Segment → Bool) {u t x y : Segment} {r : Bool} → r ≡ f u t → u ≡ x → t ≡ y → T (f x y) → T r
-passing f k p q h = subst T (sym (k ∙ ap₂ f p q)) h
+-- a test of two segments, as it was made of them
+pub tested : (f : Segment → Segment → Bool) {u t x y : Segment} {r : Bool} → r ≡ f u t → u ≡ x → t ≡ y → Decides (T (f x y)) r
+tested f k p q = by-test (k ∙ ap₂ f p q)
 
 -- ---- the status
 
@@ -89,30 +88,25 @@ pub member : (l : List ℕ) (n i : ℕ) → n ≤ length l → i < n → getD l 
 member l n i h k =
     subst (λ (e : ℕ). e ∈ take n l) (getD-take n l i 0 k) (in-at (take n l) 0 i (subst (λ (m : ℕ). i < m) (sym (length-take-le n l h)) k))
 
-module _ {s : List ℕ} {sc : Scene} {first : Bool} {at : ℕ} {status : List ℕ} {n : ℕ} (r : Ready s sc first at status n) where
-  pub ready-entry : (i : ℕ) → i < n → Entry s sc (getD status i 0)
-  ready-entry i h = r .entries (getD status i 0) (member status n i (r .room) h)
+module _ {s : List ℕ} {sc : Scene} {status : List ℕ} {n : ℕ} (h : Held s sc status n) where
+  pub held-entry : (i : ℕ) → i < n → Entry s sc (getD status i 0)
+  held-entry i b = h .entries (getD status i 0) (member status n i (h .room) b)
 
-  pub ready-readable : Readable s status n
-  ready-readable = record {
-    room = r .room;
-    entries = λ i h. entry-readable s sc (r .scene) (ready-entry i h);
+  pub held-readable : IsScene s sc → Readable s status n
+  held-readable is = record {
+    room = h .room;
+    entries = λ i b. entry-readable s sc is (held-entry i b);
   }
 
   -- of fewer entries
-  module _ (m : ℕ) (h : m ≤ n) where
-    pub ready-fewer : Ready s sc first at status m
-    ready-fewer = record {
-      scene = r .scene;
-      event = r .event;
-      object = r .object;
-      room = omega (arith, r .room);
-      entries = λ e k. r .entries e (subst (λ (l : List ℕ). e ∈ l) (take-append-drop m (take n status)) (in-left (drop m (take n status)) (subst (λ (l : List ℕ). e ∈ l) (sym (take-take m n status h)) k)));
-    }
+  pub held-fewer : (m : ℕ) → m ≤ n → Held s sc status m
+  held-fewer m b = record {
+    room = omega (arith, h .room);
+    entries = λ e k. h .entries e (subst (λ (l : List ℕ). e ∈ l) (take-append-drop m (take n status)) (in-left (drop m (take n status)) (subst (λ (l : List ℕ). e ∈ l) (sym (take-take m n status b)) k)));
+  }
 
--- ---- from places to members
+-- ---- what holds of each place, from one end of a row or from the other
 
--- one place more
 pub one-more : {P : ℕ → Type 0} (k : ℕ) → ((i : ℕ) → i < k → P i) → P k → (i : ℕ) → i < k + 1 → P i
 one-more {P} k old new i h = go (ℕ-discrete k i)
   where
@@ -120,14 +114,6 @@ one-more {P} k old new i h = go (ℕ-discrete k i)
     go (yes e) = subst P e new
     go (no e) = old i (omega arith)
 
-module _ (P : ℕ → Type 0) (l : List ℕ) (n k : ℕ) (room : n ≤ length l) where
-  pub of-rest : ((i : ℕ) → k ≤ i → i < n → P (getD l i 0)) → (e : ℕ) → e ∈ drop k (take n l) → P e
-  of-rest p e m =
-      let w = in-index 0 m in
-      let b : k + w .0 < n = omega (arith, w .1, length-drop k (take n l), length-take-le n l room) in
-      subst P (sym (getD-take n l (k + w .0) 0 b) ∙ sym (getD-drop k (take n l) (w .0) 0) ∙ w .2) (p (k + w .0) (omega arith) b)
-
--- one place more, from the top
 pub one-lower : {P : ℕ → Type 0} (k n : ℕ) → ((i : ℕ) → k ≤ i → i < n → P i) → P (k - 1) → (i : ℕ) → k - 1 ≤ i → i < n → P i
 one-lower {P} k n old new i h l = go (ℕ-discrete (k - 1) i)
   where
@@ -167,21 +153,68 @@ parity-one f l i h {odd} e =
     ∙ sym (parity-append f (take i l) (getD l i 0 ∷ []))
     ∙ ap (parity f) (sym (take-suc l i 0 h) ∙ ap (λ (m : ℕ). take m l) (sym (add-one i)))
 
--- ---- a place in the first n entries
+-- ---- the entries beside a place
 
-module _ (s status : List ℕ) (n : ℕ) (room : n ≤ length status) where
-  pub first-entries : (P : ℕ → Type 0) (i : ℕ) → i < n → P (getD (take n status) i 0) → P (getD status i 0)
-  first-entries P i h p = subst P (getD-take n status i 0 h) p
+module _ (l : List ℕ) (k : ℕ) (P : ℕ → Type 0) where
+  pub none-below : k ≡ 0 → BelowPlace l k P
+  none-below e i q = absurd (omega arith)
 
-  pub place-of : (p : Point) (k : ℕ)
-      → (k ≤ n) × (k < n → T (passesOver (segmentAt s (getD status k 0)) p)) × ((i : ℕ) → suc i ≡ k → passesOver (segmentAt s (getD status i 0)) p ≡ false)
-      → Place s (take n status) p k
-  place-of p k w =
-      record {
-        within = omega (arith, size, w .0);
-        over-it = λ h. let b : k < n = omega (arith, size) in subst (λ (e : ℕ). T (passesOver (segmentAt s e) p)) (sym (getD-take n status k 0 b)) (w .1 b);
-        not-below = λ i e. let b : i < n = omega (arith, w .0) in subst (λ (m : ℕ). passesOver (segmentAt s m) p ≡ false) (sym (getD-take n status i 0 b)) (w .2 i e);
-      }
-    where
-      size : length (take n status) ≡ n
-      size = length-take-le n status room
+  pub by-below : {r : Bool} (i : ℕ) → suc i ≡ k → Decides (P (getD l i 0)) r → Decides (BelowPlace l k P) r
+  by-below i e = same-as (λ p j q. subst (λ (m : ℕ). P (getD l m 0)) (omega arith) p) (λ p. p i e)
+
+  pub none-at : length l ≤ k → AtPlace l k P
+  none-at e h = absurd (omega arith)
+
+  pub by-at : {r : Bool} → k < length l → Decides (P (getD l k 0)) r → Decides (AtPlace l k P) r
+  by-at h = same-as (λ p g. p) (λ p. p h)
+
+-- those among the first n entries are those in the status
+module _ (l : List ℕ) (n : ℕ) (room : n ≤ length l) where
+  pub first-length : length (take n l) ≡ n
+  first-length = length-take-le n l room
+
+  -- the entry at a place among them
+  module _ (P : ℕ → Type 0) (i : ℕ) (h : i < n) where
+    pub to-first : P (getD l i 0) → P (getD (take n l) i 0)
+    to-first = subst P (sym (getD-take n l i 0 h))
+
+    pub from-first : P (getD (take n l) i 0) → P (getD l i 0)
+    from-first = subst P (getD-take n l i 0 h)
+
+  module _ (P : ℕ → Type 0) (k : ℕ) where
+    pub to-at : (k < n → P (getD l k 0)) → AtPlace (take n l) k P
+    to-at p h = let b : k < n = omega (arith, first-length) in to-first P k b (p b)
+
+    pub from-at : AtPlace (take n l) k P → k < n → P (getD l k 0)
+    from-at p h = from-first P k h (p (omega (arith, first-length)))
+
+    module _ (within : k ≤ n) where
+      pub to-below : BelowPlace l k P → BelowPlace (take n l) k P
+      to-below p i e = to-first P i (omega arith) (p i e)
+
+      pub from-below : BelowPlace (take n l) k P → BelowPlace l k P
+      from-below p i e = from-first P i (omega arith) (p i e)
+
+  pub place-made : {s : List ℕ} {p : Point} {k : ℕ} → k ≤ n → (k < n → T (passesOver (segmentAt s (getD l k 0)) p)) → BelowPlace l k (λ e. passesOver (segmentAt s e) p ≡ false)
+      → Place s (take n l) p k
+  place-made {s} {p} {k} h over below = record {
+    within = omega (arith, first-length);
+    over-it = to-at (λ e. T (passesOver (segmentAt s e) p)) k over;
+    not-below = to-below (λ e. passesOver (segmentAt s e) p ≡ false) k h below;
+  }
+
+  -- the entry that an ending looks for
+  module _ {s : List ℕ} {sc : Scene} {first : Bool} {at top k : ℕ} (within : top ≤ n) where
+    pub to-own : OwnAt s sc first at l top k → OwnAt s sc first at (take n l) top k
+    to-own w = record {
+      below = w .below;
+      own = to-first (λ e. strandAt s sc e ≡ strandOf s sc first at) k (omega (arith, w .below)) (w .own);
+      equals = λ i h b. to-first (λ e. segmentAt s e ≡ segmentAt s at) i (omega arith) (w .equals i h b);
+    }
+
+    pub from-own : OwnAt s sc first at (take n l) top k → OwnAt s sc first at l top k
+    from-own w = record {
+      below = w .below;
+      own = from-first (λ e. strandAt s sc e ≡ strandOf s sc first at) k (omega (arith, w .below)) (w .own);
+      equals = λ i h b. from-first (λ e. segmentAt s e ≡ segmentAt s at) i (omega arith) (w .equals i h b);
+    }

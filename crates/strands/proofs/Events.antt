@@ -1,25 +1,24 @@
 -- The two kinds of event keep what the sweep keeps: a strand that begins between those under its left end and those over it, and a strand that ends
 -- between those under its right end and those over it.
-use Prim.Native.Nat.{ℕ, _+_}
+use Prim.Native.Nat.{_+_}
 use native.Mathlib.Omega.{arith}
-use mathlib.Core.Path.{_≡_, refl, sym, ap, ap₂, _∙_, subst}
+use mathlib.Core.Path.{_≡_, refl, sym, ap, _∙_, subst}
 use mathlib.Core.Logic.{_⊎_, inl, inr, ⊎-elim}
 use mathlib.Core.Bool.{Bool, true, false, not, _&&_, _||_, Bool·beq, true≢false}
 use mathlib.Core.List.{List, [], _∷_, _++_}
-use lib.Dec.{T, T-not, not-T}
-use lib.IntN.{ℤ, pos}
-use lib.Signed.{ltZ}
+use lib.Dec.{T, T-not}
+use lib.IntN.{pos}
 use Rattle.whole.specs.Count.{_∈_, here, there, bit, odd, count}
-use Rattle.whole.proofs.Sign.{Pos, Neg, pos-neg, neg-of-pos, pos-clash, zero-pos, zero-neg, ltZ0-pos, ltZ0-neg}
-use Rattle.whole.proofs.Logic.{Sorted, sorted-nil, sorted-cons, in-cons, in-append, in-left, in-right, or-left, or-right, and-make, and-right, and-left, and-follows, true-is, refute, is-true}
+use Rattle.whole.proofs.Sign.{Pos, neg-of-pos, pos-clash, zero-pos, zero-neg, ltZ0-pos, ltZ0-neg}
+use Rattle.whole.proofs.Logic.{Sorted, sorted-cons, in-cons, in-append, in-left, in-right, or-left, or-right, and-make, and-right, and-left, and-follows, true-is, refute}
 use Rattle.plane.specs.declared.Point.{Point}
 use Rattle.plane.specs.declared.Segment.{Segment}
 use Rattle.plane.specs.Plane.{before, ordered, samePoint, sameSegment, side, countsBelow, grid, touch}
 use Rattle.plane.proofs.OnSegment.{Ordered, ordered-read}
 use Rattle.plane.proofs.Equal.{samePoint-refl, sameSegment-refl, sameSegment-read}
-use Rattle.strands.specs.Lower.{passesUnder, passesOver, lowerAtLeft, lowerAtRight, under}
+use Rattle.strands.specs.Lower.{passesUnder, passesOver, lowerAtRight, under}
 use Rattle.strands.specs.Kept.{Strand, isOf, sameObject, underOf, NoneEqual, ownEqual, Lower, Kept}
-use Rattle.strands.proofs.Pair.{ordered-clear, after-clear}
+use Rattle.strands.proofs.NoTouch.{ordered-clear, after-clear}
 use Rattle.whole.proofs.Counted.{count-append, count-between, count-none, count-same, in-between, at-between, or-between}
 use Rattle.strands.proofs.Under.{NotBefore, side-left, side-right, side-turned, under-lower, under-over, under-ended, under-later, under-itself}
 

@@ -2,43 +2,32 @@
 -- many of a region's own pass under the beginning.
 use Prim.Native.Nat.{ℕ, _<_}
 use mathlib.Core.Path.{_≡_, refl, sym, ap, _∙_, subst}
-use mathlib.Core.Logic.{⊎-elim}
-use mathlib.Core.Bool.{Bool, true, false, not, _&&_, cond}
+use mathlib.Core.Bool.{Bool, true, false, not, _&&_}
 use mathlib.Core.List.{List}
 use lib.Dec.{T}
 use Rattle.whole.specs.Count.{_∈_, odd, count}
-use Rattle.whole.proofs.Logic.{refute, true-is, is-true, none-of}
+use Rattle.whole.proofs.Logic.{refute, true-is, none-of}
 use Rattle.whole.proofs.Parity.{odd-count}
 use Rattle.plane.specs.declared.Segment.{Segment}
-use Rattle.plane.specs.Plane.{ordered, interiorAbove, touch}
+use Rattle.plane.specs.Plane.{touch}
 use Rattle.plane.proofs.OnSegment.{ordered-read}
 use Rattle.plane.proofs.Accepted.{Regular}
-use Rattle.scene.specs.declared.Shape.{Shape}
-use Rattle.scene.specs.declared.Shape.the-variants.{Points, Line, Region}
 use Rattle.scene.specs.declared.Scene.{Scene}
-use Rattle.scene.specs.declared.Fault.the-variants.{Nothing}
-use Rattle.scene.specs.Read.{place, segmentAt, iaAt, IsScene}
-use Rattle.scene.specs.Conditions.{hasSegments, isRegion, half, segments, isTouching, touching, touchingItself, outOfOrder, wrongIa}
+use Rattle.scene.specs.Read.{place, iaAt, IsScene}
+use Rattle.scene.specs.Conditions.{isRegion, half, segments, isTouching, touching}
 use Rattle.segments.proofs.Indices.{none-wrong}
-use Rattle.segments.proofs.Partners.{Partner}
 use Rattle.segments.proofs.Parted.{touch-swap}
 use Rattle.strands.specs.Lower.{under}
-use Rattle.strands.specs.Swept.{objectOf, isBeginning, total}
-use Rattle.strands.specs.Complete.{Clear}
+use Rattle.strands.specs.Swept.{objectOf, total, InOrder, Passes}
 use Rattle.strands.proofs.Begun.{strandBy}
 use Rattle.strands.proofs.Objects.{has, read}
 use Rattle.strands.proofs.Start.{start-interior}
 use Rattle.strands.proofs.SoundObject.{SoundObject, partner-of, segment-in, all-ordered, no-touch, split, regular, ia-is, in-left}
 use Rattle.strands.proofs.Complete.{Other, Fair}
 
-pub region-segments : (k : Shape) → T (isRegion k) → hasSegments k ≡ true
-region-segments Points t = absurd t
-region-segments Line t = absurd t
-region-segments Region t = refl
-
-module _ (s : List ℕ) (sc : Scene) (is : IsScene s sc) (order : (first : Bool) → outOfOrder s (objectOf s sc first) ≡ Nothing) (clear : Clear s sc) where
+module _ (s : List ℕ) (sc : Scene) (is : IsScene s sc) (order : InOrder s sc) (passes : Passes s sc) where
   pub sound : (first : Bool) → SoundObject s (objectOf s sc first)
-  sound first = record { read = read s sc is first; order = order first; paired = clear .paired first; apart = clear .apart first; even = clear .even first; right-ia = clear .right-ia first }
+  sound first = record { read = read s sc is first; order = order first; paired = passes .paired first; apart = passes .apart first; even = passes .even first; right-ia = passes .right-ia first }
 
   whole : (first : Bool) (k : ℕ) → k < total s sc first → total s sc first ≡ objectOf s sc first .count
   whole first k h = rw (has s sc first k h .0)
@@ -62,7 +51,7 @@ module _ (s : List ℕ) (sc : Scene) (is : IsScene s sc) (order : (first : Bool)
   across k m h l =
       let w = in-left (sound true) (listed true k h) in
       subst (λ (t : Segment). touch t (strandBy s sc false m .segment) ≡ false) (w .3)
-      (none-of (touch (half s (sc .f) (w .0) .segment)) (rw (w .2) at (none-wrong (sc .f) (isTouching s (sc .f) (segments s (sc .g))) (clear .across) (w .0) (w .1))) (listed false m l))
+      (none-of (touch (half s (sc .f) (w .0) .segment)) (rw (w .2) at (none-wrong (sc .f) (isTouching s (sc .f) (segments s (sc .g))) (passes .across) (w .0) (w .1))) (listed false m l))
 
   untouched : (first other : Bool) (k m : ℕ) → k < total s sc first → m < total s sc other → touch (strandBy s sc first k .segment) (strandBy s sc other m .segment) ≡ false
   untouched true true k m h l = no-touch (sound true) (strandBy s sc true k .segment) (strandBy s sc true m .segment) (listed true k h) (listed true m l)

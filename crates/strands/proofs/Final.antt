@@ -1,17 +1,17 @@
 -- A run that has taken all elements and has no active segment: the conditions 11 to 15 find no fault.
-use Prim.Native.Nat.{ℕ, _+_, _<_}
+use Prim.Native.Nat.{ℕ, _<_}
 use native.Mathlib.Omega.{arith}
 use mathlib.Core.Path.{_≡_, refl, sym, ap, ap₂, _∙_, subst}
-use mathlib.Core.Logic.{_⊎_, inl, inr, ⊎-elim}
+use mathlib.Core.Logic.{_⊎_, ⊎-elim}
 use mathlib.Core.Bool.{Bool, true, false, not, _&&_, cond, Bool·beq, true≢false}
-use mathlib.Core.List.{List, [], _∷_, map}
+use mathlib.Core.List.{List, []}
 use lib.Dec.{T}
 use Rattle.whole.specs.Count.{_∈_, bit, odd, some, count}
 use Rattle.whole.proofs.Logic.{in-nil, map-in, some-find, some-make, none-of, refute, true-is, is-true, and-make, beq-refl, beq-same}
 use Rattle.whole.proofs.Parity.{_⊻_, parity, parity-same, parity-xor, xor-false, odd-count}
 use Rattle.plane.specs.declared.Point.{Point}
 use Rattle.plane.specs.declared.Segment.{Segment}
-use Rattle.plane.specs.Plane.{samePoint, sameSegment, dominating, choose, isEnd, endsAt, grid, interiorAbove, touch, ordered}
+use Rattle.plane.specs.Plane.{samePoint, sameSegment, dominating, choose, isEnd, endsAt, grid, interiorAbove, touch}
 use Rattle.plane.proofs.OnSegment.{Ordered, ordered-read}
 use Rattle.plane.proofs.Equal.{sameSegment-refl}
 use Rattle.plane.proofs.Path.{Even}
@@ -20,14 +20,13 @@ use Rattle.scene.specs.declared.Shape.{Shape}
 use Rattle.scene.specs.declared.Shape.the-variants.{Points, Line, Region}
 use Rattle.scene.specs.declared.Scene.{Scene}
 use Rattle.scene.specs.declared.Fault.the-variants.{Nothing}
-use Rattle.scene.specs.Read.{place, segmentAt, iaAt}
-use Rattle.scene.specs.Conditions.{elements, keep, hasSegments, isRegion, half, ia, isLeft, segments, partner, isUnpaired, unpaired, isTouching, touching, touchingItself, endsOddly, oddEnd, hasWrongIa, wrongIa, touchingAcross}
-use Rattle.whole.proofs.Counted.{count-none, count-same}
+use Rattle.scene.specs.Conditions.{elements, keep, hasSegments, isRegion, half, ia, isLeft, segments, partner, isUnpaired, unpaired, isTouching, touching, touchingItself, endsOddly, oddEnd, hasWrongIa, wrongIa}
+use Rattle.whole.proofs.Counted.{count-none}
 use Rattle.segments.proofs.Indices.{element-in, in-element, keep-in, no-fault}
 use Rattle.strands.specs.Lower.{under}
 use Rattle.strands.specs.Evenly.{EndsEvenly, dominatedBy}
 use Rattle.strands.specs.Kept.{Strand, NoneEqual, Kept}
-use Rattle.strands.specs.Swept.{objectOf, strandOf, isBeginning, strandsBy, total, Passes}
+use Rattle.strands.specs.Swept.{objectOf, isBeginning, strandsBy, total, Passes}
 use Rattle.strands.specs.Noted.{SegmentsNoted}
 use Rattle.strands.proofs.Start.{start-interior}
 use Rattle.strands.proofs.Begun.{strandBy, reached, strands, Of, find-of, make-of}
@@ -254,17 +253,11 @@ module _ (s : List ℕ) (sc : Scene) (o : Orderly s sc) (run : Run s sc (total s
         even = λ first. no-fault (objectOf s sc first) (endsOddly s (objectOf s sc first)) (unless-region first (λ k. odd (endsAt (segments s (objectOf s sc first)) (grid (dominating (half s (objectOf s sc first) k))))) (λ r k h. even-at first r (dominating (half s (objectOf s sc first) k))));
         right-ia = λ first. no-fault (objectOf s sc first) (hasWrongIa s (objectOf s sc first)) (unless-region first (λ k. not (Bool·beq (ia s (objectOf s sc first) k) (interiorAbove (segments s (objectOf s sc first)) (half s (objectOf s sc first) k .segment)))) (λ r k h. agrees (ia s (objectOf s sc first) k) (interiorAbove (segments s (objectOf s sc first)) (half s (objectOf s sc first) k .segment)) (interior-at first r k h)));
         across = no-touch true false;
-        matched = λ first h f. count-elements first (true-is (hasSegments (objectOf s sc first .shape)) h) f false
-            ∙ count-same (λ i. Bool·beq (isBeginning s sc first i) false && f (strandBy s sc first i .segment)) (λ i. not (isBeginning s sc first i) && f (strandBy s sc first i .segment)) (elements (objectOf s sc first)) (λ i m. ap (λ b. b && f (strandBy s sc first i .segment)) (beq-false (isBeginning s sc first i)));
       }
     where
       unless : (b c : Bool) → (T b → T c) → b && not c ≡ false
       unless true c f = ap not (true-is c (f tt))
       unless false c f = refl
-
-      beq-false : (b : Bool) → Bool·beq b false ≡ not b
-      beq-false true = refl
-      beq-false false = refl
 
       agrees : (a b : Bool) → b ≡ a → not (Bool·beq a b) ≡ false
       agrees true b e = ap (λ x. not (Bool·beq true x)) e

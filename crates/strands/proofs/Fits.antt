@@ -1,27 +1,27 @@
 -- A strand begins among active ones that it does not touch: one that does not pass over its left end is under it, and neighbours are in order at the
 -- right, too.
-use mathlib.Core.Path.{_≡_, refl, sym, ap, _∙_, subst}
-use mathlib.Core.Logic.{_⊎_, inl, inr, ⊎-elim}
-use mathlib.Core.Bool.{Bool, true, false, not, _&&_, _||_}
+use mathlib.Core.Path.{_≡_, sym, ap, _∙_, subst}
+use mathlib.Core.Logic.{_⊎_, ⊎-elim}
+use mathlib.Core.Bool.{false, not, _&&_, _||_}
 use mathlib.Core.List.{[], _∷_}
 use lib.Dec.{T, T-not, not-T}
-use lib.IntN.{ℤ, pos, negℤ}
+use lib.IntN.{pos, negℤ}
 use Rattle.whole.proofs.Solver.{var, opp, _:-_, _:*_, solve}
-use Rattle.whole.proofs.Sign.{Pos, NonNeg, Neg, Sign, minus, nought, plus, sign, Weak, weak-zero, weak-plus, weak, pos-nonneg, zero-nonneg, neg-pos, neg-zero, zero-pos, zero-neg, ltZ0-pos, ltZ0-neg, pos-ltZ0, neg-ltZ0}
-use Rattle.whole.proofs.Logic.{and-make, and-right, or-cases, or-left, or-right, decide, is-false, refute}
+use Rattle.whole.proofs.Sign.{Pos, NonNeg, Sign, minus, nought, plus, sign, Weak, weak-zero, weak-plus, weak, pos-nonneg, zero-nonneg, neg-pos, neg-zero, zero-pos, zero-neg, ltZ0-pos, ltZ0-neg, pos-ltZ0, neg-ltZ0}
+use Rattle.whole.proofs.Logic.{and-make, and-right, or-cases, or-left, or-right, decide, is-false}
 use Rattle.plane.specs.declared.Point.{Point}
 use Rattle.plane.specs.declared.Segment.{Segment}
-use Rattle.plane.specs.Plane.{side, before, ordered, samePoint, sameSegment, touch}
+use Rattle.plane.specs.Plane.{side, before, samePoint, sameSegment, touch}
 use Rattle.plane.proofs.OnSegment.{Ordered}
 use Rattle.plane.proofs.Equal.{samePoint-read, samePoint-refl, sameSegment-refl, segment-eq}
 use Rattle.plane.proofs.Order.{ends-differ, before-irreflexive}
 use Rattle.strands.specs.Lower.{passesUnder, passesOver, lowerAtLeft, lowerAtRight}
 use Rattle.strands.specs.Kept.{Strand, sameObject}
-use Rattle.strands.specs.Swept.{underBeginning}
+use Rattle.strands.specs.Event.{underBeginning}
 use Rattle.strands.proofs.Under.{NotBefore, side-left, side-right, side-turned}
-use Rattle.strands.proofs.Between.{sideOf, way, not-before, Spans}
+use Rattle.strands.proofs.Between.{sideOf, Spans}
 use Rattle.strands.proofs.Events.{UnderBeginning, passing, turning, equal}
-use Rattle.strands.proofs.Crossing.{before-way, way-before, not-back, within-make, touch-right, touch-other-right, touch-left, lower-at-right}
+use Rattle.strands.proofs.Crossing.{before-way, not-back, within-make, touch-right, touch-other-right, touch-left, lower-at-right}
 
 side-round : (a b c : Point) → side a b c ≡ side b c a
 unfolding side

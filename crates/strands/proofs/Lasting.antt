@@ -1,32 +1,30 @@
 -- In a scene where the conditions 11 to 15 find no fault, each active segment ends at an event to come; so none is active when all have been taken.
-use Prim.Native.Nat.{ℕ, zero, suc, _+_, _<_, _≤_}
+use Prim.Native.Nat.{ℕ, suc, _+_, _<_, _≤_}
 use native.Mathlib.Omega.{arith}
 use mathlib.Core.Path.{_≡_, refl, sym, ap, _∙_, subst, subst₂}
 use mathlib.Core.Logic.{_⊎_, inl, inr, ⊎-elim}
 use mathlib.Core.Bool.{Bool, true, false, not, true≢false}
 use mathlib.Core.List.{List, [], _∷_, _++_, map}
-use lib.Dec.{T, ltb}
+use lib.Dec.{T}
 use lib.ListN.{length, getD, take, drop}
-use lib.Seq.{split-at}
+use lib.Seq.{split-at, length-take-le}
 use borrow.Author.Tests.{ltb-true}
 use Rattle.whole.specs.Count.{_∈_, here, bit, some, count}
-use Rattle.whole.proofs.Logic.{in-map, some-make, true-is, and-make, is-true, beq-refl}
+use Rattle.whole.proofs.Logic.{less-or-not, in-map, some-make, true-is, and-make, is-true, beq-refl}
 use Rattle.whole.proofs.Counted.{count-between, some-count, at-between}
-use Rattle.plane.specs.declared.Segment.{Segment}
 use Rattle.plane.specs.Plane.{before, ordered, sameSegment, comesBefore}
 use Rattle.plane.proofs.Equal.{sameSegment-refl}
 use Rattle.scene.specs.declared.Scene.{Scene}
-use Rattle.scene.specs.Read.{place}
 use Rattle.strands.specs.Kept.{Strand, sameObject, ownEqual, Kept}
-use Rattle.strands.specs.Swept.{objectOf, isFirst, strandOf, strandAt, isBeginning, Began, Ended, Taken, it-began, it-ended, total}
-use Rattle.strands.specs.Complete.{CanTake}
+use Rattle.strands.specs.Swept.{isFirst, strandOf, strandAt, isBeginning, total}
+use Rattle.strands.specs.Event.{Began, Ended, Taken, it-began, it-ended, CanTake}
 use Rattle.strands.proofs.Under.{NotBefore}
 use Rattle.strands.proofs.Begun.{strandBy, reached, strands, Next}
 use Rattle.strands.proofs.Shifted.{in-inserted, in-removed}
 use Rattle.strands.proofs.Ordered.{comes-by-point}
-use Rattle.strands.proofs.Run.{pointOf, Orderly, isRegionOf, EndsLater, AllEndLater, Run, placeOf, ownOf, left-point, right-point, map-append}
-use Rattle.strands.proofs.Strict.{halfBy, Rises, After, Earliest, not-earlier}
-use Rattle.strands.proofs.Complete.{less-or-not, Other, Fair, can-begin, can-end}
+use Rattle.strands.proofs.Run.{pointOf, Orderly, isRegionOf, EndsLater, AllEndLater, Run, placeOf, ownOf, left-point, right-point, own-there, map-append}
+use Rattle.strands.proofs.EventOrder.{halfBy, Rises, After, Earliest, not-earlier}
+use Rattle.strands.proofs.Complete.{Other, Fair, can-begin, can-end}
 
 counted : {A : Type 0} (f : A → Bool) {l : List A} {a : A} → a ∈ l → T (f a) → 0 < count f l
 counted f {l} m t = ltb-true 0 (count f l) (sym (some-count f l) ∙ true-is (some f l) (some-make f m t))
@@ -92,8 +90,8 @@ module _ (s : List ℕ) (sc : Scene) (o : Orderly s sc) (rise : Rises s sc) (fai
         (in-inserted (b .position) entries (subst (λ r. e ∈ r) (b .new-is) m))
 
     -- only its own entry ends at an ending
-    ended-later : isBeginning s sc first next ≡ false → {notes new : List ℕ} {note : ℕ} → Ended s sc first (placeOf s sc i j first) notes entries new note → AllEndLater s sc i′ j′ new
-    ended-later ends b e m = let l = later e (in-removed 0 (b .position) entries (b .there) n) in still l (λ f g. twice (sym (l .is) ∙ ap (λ (b : Bool). strandBy s sc b (l .index)) f ∙ ap (strandBy s sc first) g))
+    ended-later : isBeginning s sc first next ≡ false → {notes new : List ℕ} {note : ℕ} → Ended s sc first (placeOf s sc i j first) entries notes new note → AllEndLater s sc i′ j′ new
+    ended-later ends b e m = let l = later e (in-removed 0 (b .position) entries (own-there s sc b) n) in still l (λ f g. twice (sym (l .is) ∙ ap (λ (b : Bool). strandBy s sc b (l .index)) f ∙ ap (strandBy s sc first) g))
       where
         n : e ∈ (take (b .position) entries ++ drop (suc (b .position)) entries)
         n = subst (λ r. e ∈ r) (b .new-is) m
@@ -107,7 +105,7 @@ module _ (s : List ℕ) (sc : Scene) (o : Orderly s sc) (rise : Rises s sc) (fai
         k : Kept (isRegionOf s sc) (strands s sc true i j) (strands s sc false i j) (low ++ (a ∷ high))
         k =
             subst (Kept (isRegionOf s sc) (strands s sc true i j) (strands s sc false i j))
-            (ap (map (strandAt s sc)) (split-at entries (b .position) 0 (b .there)) ∙ map-append (strandAt s sc) (take (b .position) entries) (getD entries (b .position) 0 ∷ drop (suc (b .position)) entries) ∙ ap (λ (c : Strand). low ++ (c ∷ high)) (b .own))
+            (ap (map (strandAt s sc)) (split-at entries (b .position) 0 (own-there s sc b)) ∙ map-append (strandAt s sc) (take (b .position) entries) (getD entries (b .position) 0 ∷ drop (suc (b .position)) entries) ∙ ap (λ (c : Strand). low ++ (c ∷ high)) (b .found .own))
             (run .kept later)
 
         own : T (ownEqual a a)
@@ -138,14 +136,25 @@ module _ (s : List ℕ) (sc : Scene) (o : Orderly s sc) (rise : Rises s sc) (fai
         can-end = can-end s sc o fair run later after within first more least earliest rise;
       }
 
--- at the end none is active
-pub none-active : (s : List ℕ) (sc : Scene) (entries : List ℕ) → AllEndLater s sc (total s sc true) (total s sc false) entries → length entries ≡ 0
-none-active s sc [] later = refl
-none-active s sc (e ∷ l) later = absurd (over (isFirst s sc e) (w .to-come) (w .within))
-  where
-    w : EndsLater s sc (total s sc true) (total s sc false) e
-    w = later e here
+-- when all have been taken, none is active
+module _ (s : List ℕ) (sc : Scene) where
+  none-active : (entries : List ℕ) → AllEndLater s sc (total s sc true) (total s sc false) entries → length entries ≡ 0
+  none-active [] later = refl
+  none-active (e ∷ l) later = absurd (over (isFirst s sc e) (w .to-come) (w .within))
+    where
+      w : EndsLater s sc (total s sc true) (total s sc false) e
+      w = later e here
 
-    over : (b : Bool) → reached s sc (total s sc true) (total s sc false) b ≤ w .index → w .index < total s sc b → ⊥
-    over true h l = omega arith
-    over false h l = omega arith
+      over : (b : Bool) → reached s sc (total s sc true) (total s sc false) b ≤ w .index → w .index < total s sc b → ⊥
+      over true h l = omega arith
+      over false h l = omega arith
+
+  module _ (status : List ℕ) {i j n : ℕ} (of-f : i ≡ total s sc true) (of-g : j ≡ total s sc false) where
+    pub none-left : n ≤ length status → AllEndLater s sc i j (take n status) → n ≡ 0
+    none-left room later =
+        sym (length-take-le n status room)
+        ∙ none-active (take n status) (subst₂ (λ (i j : ℕ). AllEndLater s sc i j (take n status)) of-f of-g later)
+
+    -- what holds then of the elements and entries
+    pub at-end : (P : ℕ → ℕ → List ℕ → Type 0) → n ≡ 0 → P i j (take n status) → P (total s sc true) (total s sc false) []
+    at-end P e p = subst₂ (λ (i j : ℕ). P i j []) of-f of-g (subst (λ (n : ℕ). P i j (take n status)) e p)

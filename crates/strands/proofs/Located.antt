@@ -8,20 +8,19 @@ use mathlib.Core.Logic.{⊎-elim}
 use mathlib.Core.Bool.{Bool, true, false, not, _&&_, _||_, cond, true≢false}
 use mathlib.Core.List.{List, [], _∷_, map}
 use lib.Dec.{T, ltb}
-use lib.IntN.{ℤ, pos, _-ℤ_}
+use lib.IntN.{ℤ, pos}
 use lib.Signed.{ltZ}
 use lib.ListN.{length, getD, take, drop, take-append-drop}
-use lib.Seq.{length-take-le, getD-take}
+use lib.Seq.{length-take-le}
 use Rattle.whole.specs.Count.{_∈_, here, there, bit, odd, some, count}
-use Rattle.whole.proofs.Solver.{var, _:-_, opp, solve}
-use Rattle.whole.proofs.Sign.{NonNeg, nonneg-both, sub-zero-eq, zero-pos, zero-neg, pos-clash, ltZ0-pos, pos-ltZ0, ltZ0-neg, neg-ltZ0, Half, at-least, under, half, Weak, weak-zero, weak-plus, weak}
+use Rattle.whole.proofs.Sign.{zero-pos, zero-neg, pos-clash, ltZ0-pos, pos-ltZ0, ltZ0-neg, neg-ltZ0, Half, at-least, under, half, Weak, weak-zero, weak-plus, weak}
 use Rattle.whole.proofs.Logic.{and-left, and-right, or-left, or-right, refute, same-test, and-follows, true-is, in-map, in-at, in-append, some-find, some-make, none-of}
 use Rattle.whole.proofs.Counted.{count-append, count-none, count-same, some-count}
 use Rattle.plane.specs.declared.Point.{Point}
 use Rattle.plane.specs.declared.Segment.{Segment}
 use Rattle.plane.specs.Plane.{side, turn, samePoint, before, grid, on, isEnd, endsAt, onSome, countsBelow}
 use Rattle.plane.proofs.OnSegment.{Ordered, ordered-read}
-use Rattle.plane.proofs.Equal.{point-eq, samePoint-refl}
+use Rattle.plane.proofs.Equal.{samePoint-refl}
 use Rattle.plane.proofs.Machine.{isStraight, straight-is, eqZ-no}
 use Rattle.plane.proofs.Grid.{on-grid, end-grid}
 use Rattle.scene.specs.declared.Scene.{Scene}
@@ -32,7 +31,7 @@ use Rattle.strands.specs.Kept.{Strand, Kept}
 use Rattle.strands.specs.Noted.{pointNote}
 use Rattle.strands.specs.Located.{onLine, NearNote, on-entry, between}
 use Rattle.strands.specs.Swept.{objectOf, strandAt, isBeginning, strandsBy, total}
-use Rattle.strands.proofs.Under.{NotBefore, after-x, after-y, counts-under, counts-make, counts-ended, counts-later}
+use Rattle.strands.proofs.Under.{NotBefore, not-before-both, counts-under, counts-make, counts-ended, counts-later}
 use Rattle.strands.proofs.Between.{Spans, under-next}
 use Rattle.strands.proofs.Linked.{Linked, linked-sorted, downwards}
 use Rattle.strands.proofs.Neighbours.{all-over}
@@ -40,21 +39,6 @@ use Rattle.strands.proofs.Events.{Reached}
 use Rattle.strands.proofs.Begun.{strandBy, reached, strands, find-by}
 use Rattle.strands.proofs.Counts.{count-first, count-segments, in-segments}
 use Rattle.strands.proofs.Run.{count-map, isRegionOf, Orderly, Run, AllEndLater, pointOf, left-point, reaches}
-
--- ---- the note, by places
-
-module _ (s status : List ℕ) (n : ℕ) (v : Point) (room : n ≤ length status) where
-  whole-length : length (take n status) ≡ n
-  whole-length = length-take-le n status room
-
-  pub near-on : {note : ℕ} (k : ℕ) → k < n → T (onLine (segmentAt s (getD status k 0)) v) → note ≡ 2 → NearNote s (take n status) v note
-  near-on k h t e = on-entry k (omega (arith, whole-length)) (subst (λ (m : ℕ). T (onLine (segmentAt s m) v)) (sym (getD-take n status k 0 h)) t) e
-
-  pub near-between : {note : ℕ} (k : ℕ) → k ≤ n → ((i : ℕ) → suc i ≡ k → T (passesUnder (segmentAt s (getD status i 0)) v))
-      → (k < n → T (passesOver (segmentAt s (getD status k 0)) v)) → note ≡ bit (odd k) → NearNote s (take n status) v note
-  near-between k h below above e =
-      between k (omega (arith, whole-length)) (λ i q. subst (λ (m : ℕ). T (passesUnder (segmentAt s m) v)) (sym (getD-take n status i 0 (omega arith))) (below i q))
-      (λ l. let g : k < n = omega (arith, whole-length) in subst (λ (m : ℕ). T (passesOver (segmentAt s m) v)) (sym (getD-take n status k 0 g)) (above g)) e
 
 -- ---- the line of a segment passes under a point, over it or through it
 
@@ -68,33 +52,23 @@ module _ (t : Segment) (v : Point) where
   over-not-under : T (passesOver t v) → passesUnder t v ≡ false
   over-not-under u = refute (passesUnder t v) (λ w. pos-clash (ltZ0-pos (side (t .left) (t .right) v) w) (ltZ0-neg (side (t .left) (t .right) v) u))
 
--- a value that is neither zero nor positive
-pub over-else : (x : ℤ) → (x ≡ pos 0 → ⊥) → ltZ (pos 0) x ≡ false → T (ltZ x (pos 0))
-over-else x off none = go (half x)
+-- or under it, where it passes neither over it nor through it
+pub under-else : (x : ℤ) → (x ≡ pos 0 → ⊥) → ltZ x (pos 0) ≡ false → T (ltZ (pos 0) x)
+under-else x off none = go (half x)
   where
-    go : Half x → T (ltZ x (pos 0))
-    go (under k) = neg-ltZ0 x k
+    go : Half x → T (ltZ (pos 0) x)
+    go (under k) = absurd (true≢false (sym (true-is (ltZ x (pos 0)) (neg-ltZ0 x k)) ∙ none))
     go (at-least k) = by-weak (weak k)
       where
-        by-weak : Weak x → T (ltZ x (pos 0))
+        by-weak : Weak x → T (ltZ (pos 0) x)
         by-weak (weak-zero e) = absurd (off e)
-        by-weak (weak-plus w) = absurd (true≢false (sym (true-is (ltZ (pos 0) x) (pos-ltZ0 x w)) ∙ none))
+        by-weak (weak-plus w) = pos-ltZ0 x w
 
 count-all : {A : Type 0} (f : A → Bool) (l : List A) → ((a : A) → a ∈ l → T (f a)) → count f l ≡ length l
 count-all f [] h = refl
 count-all f (a ∷ l) h = omega (arith, ap bit (true-is (f a) (h a here)), count-all f l (λ b m. h b (there m)))
 
 -- ---- one segment beside a point that is no end of it
-
--- points neither of which comes before the other are one
-pub not-before-both : (p q : Point) → NotBefore p q → NotBefore q p → p ≡ q
-not-before-both p q h k = point-eq same-x (both (p .y) (q .y) (after-y p q h same-x) (after-y q p k (sym same-x)))
-  where
-    both : (a b : ℤ) → NonNeg (a -ℤ b) → NonNeg (b -ℤ a) → a ≡ b
-    both a b m n = sub-zero-eq a b (nonneg-both n (subst NonNeg (solve (a ∷ b ∷ []) (var 0 :- var 1) (opp (var 1 :- var 0)) tt) m))
-
-    same-x : p .x ≡ q .x
-    same-x = both (p .x) (q .x) (after-x p q h) (after-x q p k)
 
 module _ (t : Segment) (v : Point) where
   abbrev straight : Bool

@@ -9,11 +9,12 @@ use mathlib.Core.Bool.{Bool, true, false, not}
 use mathlib.Core.List.{List, [], _∷_}
 use lib.ListN.{length, getD, set}
 use lib.Seq.{getD-set-same, getD-set-other}
-use Rattle.whole.specs.Count.{_∈_, here, there, bit, odd, count}
+use Rattle.whole.specs.Count.{_∈_, there, bit, odd, count}
 use Rattle.scene.specs.declared.Scene.{Scene}
 use Rattle.scene.specs.Read.{place}
 use Rattle.strands.specs.Kept.{Strand, underOf, NoneEqual}
-use Rattle.strands.specs.Swept.{slot, objectOf, isFirst, strandOf, strandAt, isBeginning, total, Began, Ended, Taken, it-began, it-ended}
+use Rattle.strands.specs.Swept.{slot, objectOf, isFirst, strandOf, isBeginning, total}
+use Rattle.strands.specs.Event.{Began, Ended, Taken, it-began, it-ended}
 use Rattle.strands.proofs.Under.{NotBefore}
 use Rattle.strands.proofs.Events.{Beginning, now-under, still-under}
 use Rattle.strands.proofs.Begun.{Same, strandBy, reached, strands, make-of, Next}
@@ -99,7 +100,7 @@ module _ (s : List ℕ) (sc : Scene) where
         g : Beginning (isRegionOf s sc) (strands s sc true i j) (strands s sc false i j) (ownOf s sc i j first) (below s sc b) (above s sc b)
         g = beginning s sc o run first more least b e later
 
-    ended-noted : {new : List ℕ} {note : ℕ} → AllNoted i j entries notes → isBeginning s sc first own ≡ false → Ended s sc first (placeOf s sc i j first) notes entries new note
+    ended-noted : {new : List ℕ} {note : ℕ} → AllNoted i j entries notes → isBeginning s sc first own ≡ false → Ended s sc first (placeOf s sc i j first) entries notes new note
         → AllNoted i′ j′ new (set notes (slot first own) note)
     ended-noted {note = note} noted e b later′ =
         written note
@@ -131,7 +132,7 @@ module _ (s : List ℕ) (sc : Scene) where
         earlier = subst (λ (c : Bool). t .index < reached s sc i j c) of-first (t .earlier)
 
         is : strandBy s sc first (t .index) ≡ ownOf s sc i j first
-        is = ap (strandOf s sc first) (sym at) ∙ ap (λ (c : Bool). strandOf s sc c entry) (sym of-first) ∙ b .own
+        is = ap (strandOf s sc first) (sym at) ∙ ap (λ (c : Bool). strandOf s sc c entry) (sym of-first) ∙ b .found .own
 
     pub noted-next : {new : List ℕ} {note : ℕ} → AllNoted i j entries notes → Taken s sc first own notes entries new note → AllNoted i′ j′ new (set notes (slot first own) note)
     noted-next noted (it-began e b) = begun-noted noted e b

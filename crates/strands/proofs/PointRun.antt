@@ -11,7 +11,7 @@ use lib.Dec.{T, not-T, ltb}
 use lib.ListN.{length, getD, set, length-set}
 use lib.Seq.{getD-set-same, getD-set-other}
 use borrow.Author.Tests.{ltb-true, not-false}
-use Rattle.whole.proofs.Logic.{and-left, is-true, true-is, in-nil}
+use Rattle.whole.proofs.Logic.{less-or-not, and-left, is-true, true-is, in-nil}
 use Rattle.plane.specs.Plane.{before, comesBefore, grid, endsAt}
 use Rattle.plane.proofs.Order.{before-irreflexive, before-trans}
 use Rattle.scene.specs.declared.Shape.the-variants.{Points}
@@ -125,15 +125,8 @@ module _ (s : List ℕ) (sc : Scene) where
       passed-points =
           record {
             in-time = λ p k a b h. passed .in-time p k (omega (arith, taken .onward)) b h;
-            noted = λ later p h away. ⊎-elim (λ l. taken .others p (inl l) ∙ passed .noted later p l away) (λ l. near-is s sc start no-segments (true-is (hasSegments (sc .g .shape)) has) run within later (pointBy s sc p) (λ k g. passed .in-time p k l (omega arith) g) (before-next p j (taken .next p l h)) away (taken .notes p l h)) (below-or p i);
+            noted = λ later p h away. ⊎-elim (λ l. taken .others p (inl l) ∙ passed .noted later p l away) (λ l. near-is s sc start no-segments (true-is (hasSegments (sc .g .shape)) has) run within later (pointBy s sc p) (λ k g. passed .in-time p k l (omega arith) g) (before-next p j (taken .next p l h)) away (taken .notes p l h)) (less-or-not p i);
           }
-        where
-          below-or : (p i : ℕ) → (p < i) ⊎ (i ≤ p)
-          below-or p i = go (decLt p i)
-            where
-              go : Dec (p < i) → (p < i) ⊎ (i ≤ p)
-              go (yes h) = inl h
-              go (no h) = inr (omega arith)
 
     -- and after it
     pub passed-event : {i j : ℕ} {entries new notes notes′ : List ℕ} → Passed i j entries notes → isPointNext s sc i j ≡ false → j < total s sc false

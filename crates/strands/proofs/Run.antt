@@ -8,20 +8,21 @@ use mathlib.Core.Logic.{⊎-elim}
 use mathlib.Core.Bool.{Bool, true, false, not, _&&_, _||_, Bool·beq}
 use mathlib.Core.List.{List, [], _∷_, _++_, map}
 use lib.Dec.{T}
-use lib.ListN.{getD, take, drop, take-append-drop}
+use lib.ListN.{length, getD, take, drop, take-append-drop}
 use lib.Seq.{split-at}
-use Rattle.whole.specs.Count.{_∈_, there, odd, count}
+use Rattle.whole.specs.Count.{_∈_, odd, count}
 use Rattle.whole.proofs.Logic.{sorted-nil, in-nil, in-at, map-in, or-cases, and-left, and-right, false-is, true-is, beq-same}
 use Rattle.plane.specs.declared.Point.{Point}
-use Rattle.plane.specs.Plane.{before, ordered, samePoint, sameSegment, dominating, choose}
+use Rattle.plane.specs.Plane.{ordered, samePoint, sameSegment, dominating, choose}
 use Rattle.plane.proofs.OnSegment.{ordered-read}
 use Rattle.plane.proofs.Equal.{samePoint-read, sameSegment-read}
 use Rattle.scene.specs.declared.Scene.{Scene}
 use Rattle.scene.specs.Read.{segmentAt, halfsegmentAt, iaAt, place}
 use Rattle.scene.specs.Conditions.{isRegion}
-use Rattle.strands.specs.Lower.{passesUnder, passesOver, lowerAtRight}
+use Rattle.strands.specs.Lower.{passesUnder, passesOver}
 use Rattle.strands.specs.Kept.{Strand, isOf, sameObject, Kept}
-use Rattle.strands.specs.Swept.{underBeginning, objectOf, strandOf, isFirst, strandAt, isBeginning, Began, Ended, Taken, it-began, it-ended, total}
+use Rattle.strands.specs.Swept.{objectOf, strandOf, isFirst, strandAt, isBeginning, total}
+use Rattle.strands.specs.Event.{LowerNext, underBeginning, Began, Ended, Taken, it-began, it-ended}
 use Rattle.strands.proofs.Under.{NotBefore}
 use Rattle.strands.proofs.Events.{Reached, UnderBeginning, passing, turning, equal, UnderEnd, OverEnd, Beginning, begins, ends}
 use Rattle.strands.proofs.Linked.{Linked, linked-nil, linked-inserted, linked-removed}
@@ -84,16 +85,13 @@ module _ (s : List ℕ) (sc : Scene) where
     pub earlier : index < reached s sc i j (isFirst s sc e)
     pub is-place : e ≡ place (objectOf s sc (isFirst s sc e)) index
 
-  -- neighbours were tested when they became neighbours
-  abbrev pub LowerNext : ℕ → ℕ → Type 0
-  LowerNext e f = T (lowerAtRight (segmentAt s e) (segmentAt s f))
-
   -- i elements of F and j of G have been taken
   pub record Run (i j : ℕ) (entries : List ℕ) : Type 0 where
     pub in-time : (first other : Bool) (k m : ℕ) → k < reached s sc i j first → reached s sc i j other ≤ m → m < total s sc other
         → NotBefore (pointOf other m) (pointOf first k)
     pub taken : (e : ℕ) → e ∈ entries → TakenBefore i j e
-    pub linked : Linked LowerNext entries
+    -- neighbours were tested when they became neighbours
+    pub linked : Linked (LowerNext s) entries
     pub kept : AllEndLater i j entries → Kept isRegionOf (strands s sc true i j) (strands s sc false i j) (map (strandAt s sc) entries)
 
   -- the point of an element is the end of its segment that begins or ends there
@@ -128,15 +126,18 @@ module _ (s : List ℕ) (sc : Scene) where
     count-below object = count-map (strandAt s sc) (isOf object) (take (b .position) entries)
 
   -- the entry of a segment that ends
-  module _ {first : Bool} {at : ℕ} {notes entries new : List ℕ} {note : ℕ} (b : Ended s sc first at notes entries new note) where
+  module _ {first : Bool} {at : ℕ} {notes entries new : List ℕ} {note : ℕ} (b : Ended s sc first at entries notes new note) where
     abbrev pub own-entry : ℕ
     own-entry = getD entries (b .position) 0
 
+    pub own-there : b .position < length entries
+    own-there = omega (arith, b .found .below, b .at-place .within)
+
     pub own-in : own-entry ∈ entries
-    own-in = in-at entries 0 (b .position) (b .there)
+    own-in = in-at entries 0 (b .position) own-there
 
     pub own-first : isFirst s sc own-entry ≡ first
-    own-first = ap (λ (a : Strand). a .first) (b .own)
+    own-first = ap (λ (a : Strand). a .first) (b .found .own)
 
   -- the event that comes next, of F or of G
   abbrev pub placeOf : ℕ → ℕ → Bool → ℕ
@@ -169,8 +170,8 @@ module _ (s : List ℕ) (sc : Scene) where
             in-order = o .sound first (reached s sc i j first) more;
             kept = subst (Kept isRegionOf (strands s sc true i j) (strands s sc false i j)) old-active (run .kept later);
             reached = subst (Reached (ownOf i j first .segment .left) (strands s sc true i j) (strands s sc false i j)) old-active at-left;
-            under-it = λ a m. let w = map-in (strandAt s sc) (take (b .position) entries) m in subst (UnderBeginning (ownOf i j first)) (w .2) (all-under-beginning isRegionOf (strandAt s sc) 0 entries (run .kept later) (run .linked) (ownOf i j first) (ordered-read (ownOf i j first .segment) (o .sound first (reached s sc i j first) more)) (new-own e) at-left (b .position) (b .within) (λ k q. under-beginning-read (ownOf i j first) (strandAt s sc (getD entries k 0)) (b .under-it k q)) (w .0) (w .1));
-            over-it = λ a m. let w = map-in (strandAt s sc) (drop (b .position) entries) m in subst (λ (c : Strand). T (passesOver (c .segment) (ownOf i j first .segment .left))) (w .2) (all-over isRegionOf (strandAt s sc) 0 entries (run .kept later) (run .linked) at-left (b .position) (b .over-it) (w .0) (w .1));
+            under-it = λ a m. let w = map-in (strandAt s sc) (take (b .position) entries) m in subst (UnderBeginning (ownOf i j first)) (w .2) (all-under-beginning isRegionOf (strandAt s sc) 0 entries (run .kept later) (run .linked) (ownOf i j first) (ordered-read (ownOf i j first .segment) (o .sound first (reached s sc i j first) more)) (new-own e) at-left (b .position) (b .at-place .within) (λ k q. under-beginning-read (ownOf i j first) (strandAt s sc (getD entries k 0)) (b .fits .over k q .0)) (w .0) (w .1));
+            over-it = λ a m. let w = map-in (strandAt s sc) (drop (b .position) entries) m in subst (λ (c : Strand). T (passesOver (c .segment) (ownOf i j first .segment .left))) (w .2) (all-over isRegionOf (strandAt s sc) 0 entries (run .kept later) (run .linked) at-left (b .position) (b .at-place .over-it) (w .0) (w .1));
           }
         where
           at-left : Reached (ownOf i j first .segment .left) (strands s sc true i j) (strands s sc false i j) (map (strandAt s sc) entries)
@@ -183,7 +184,7 @@ module _ (s : List ℕ) (sc : Scene) where
           → Kept isRegionOf ((ownOf i j first) ∷ strands s sc true i j) (strands s sc false i j) (map (strandAt s sc) new)
       has-begun e later =
           subst (Kept isRegionOf ((ownOf i j first) ∷ strands s sc true i j) (strands s sc false i j)) (sym new-active)
-          (begins isRegionOf (beginning e later) (λ r. ap odd (count-below b first) ∙ b .right-ia r ∙ ap not (sym (own-ia r))))
+          (begins isRegionOf (beginning e later) (λ r. ap odd (count-below b first) ∙ b .fits .right-ia r ∙ ap not (sym (own-ia r))))
         where
           new-active : map (strandAt s sc) new ≡ below b ++ ((ownOf i j first) ∷ above b)
           new-active =
@@ -194,14 +195,14 @@ module _ (s : List ℕ) (sc : Scene) where
           own-ia : T (isRegionOf first) → isRegionOf first && iaAt s (placeOf i j first) ≡ iaAt s (placeOf i j first)
           own-ia r = rw (true-is (isRegionOf first) r)
 
-    module _ {notes new : List ℕ} {note : ℕ} (b : Ended s sc first (placeOf i j first) notes entries new note) where
+    module _ {notes new : List ℕ} {note : ℕ} (b : Ended s sc first (placeOf i j first) entries notes new note) where
       has-ended : isBeginning s sc first (reached s sc i j first) ≡ false → AllEndLater i j entries → Kept isRegionOf (strands s sc true i j) ((ownOf i j first) ∷ strands s sc false i j) (map (strandAt s sc) new)
       has-ended e later =
           subst (Kept isRegionOf (strands s sc true i j) ((ownOf i j first) ∷ strands s sc false i j)) (sym new-active)
           (ends isRegionOf (ownOf i j first) (o .sound first (reached s sc i j first) more) low high
           (subst (Kept isRegionOf (strands s sc true i j) (strands s sc false i j)) old-active (run .kept later))
-          (λ a m. let w = map-in (strandAt s sc) (take (b .position) entries) m in subst (UnderEnd (ownOf i j first)) (w .2) (all-under-end isRegionOf (strandAt s sc) 0 entries (run .kept later) (run .linked) (ownOf i j first) at-right (b .position) (b .there) (b .own) (w .0) (w .1)))
-          (λ a m. let w = map-in (strandAt s sc) (drop (suc (b .position)) entries) m in subst (OverEnd (ownOf i j first)) (w .2) (all-over-end isRegionOf (strandAt s sc) 0 entries (run .kept later) (run .linked) (ownOf i j first) at-right (b .position) (b .top) (b .equals) (b .over-it) (w .0) (w .1))))
+          (λ a m. let w = map-in (strandAt s sc) (take (b .position) entries) m in subst (UnderEnd (ownOf i j first)) (w .2) (all-under-end isRegionOf (strandAt s sc) 0 entries (run .kept later) (run .linked) (ownOf i j first) at-right (b .position) (own-there b) (b .found .own) (w .0) (w .1)))
+          (λ a m. let w = map-in (strandAt s sc) (drop (suc (b .position)) entries) m in subst (OverEnd (ownOf i j first)) (w .2) (all-over-end isRegionOf (strandAt s sc) 0 entries (run .kept later) (run .linked) (ownOf i j first) at-right (b .position) (b .top) (b .found .equals) (b .at-place .over-it) (w .0) (w .1))))
         where
           at-right : Reached (ownOf i j first .segment .right) (strands s sc true i j) (strands s sc false i j) (map (strandAt s sc) entries)
           at-right = subst (λ p. Reached p (strands s sc true i j) (strands s sc false i j) (map (strandAt s sc) entries)) (right-point first (reached s sc i j first) e) (reaching later)
@@ -214,9 +215,9 @@ module _ (s : List ℕ) (sc : Scene) where
 
           old-active : map (strandAt s sc) entries ≡ low ++ ((ownOf i j first) ∷ high)
           old-active =
-              ap (map (strandAt s sc)) (split-at entries (b .position) 0 (b .there))
+              ap (map (strandAt s sc)) (split-at entries (b .position) 0 (own-there b))
               ∙ map-append (strandAt s sc) (take (b .position) entries) (own-entry b ∷ drop (suc (b .position)) entries)
-              ∙ ap (λ c. low ++ (c ∷ high)) (b .own)
+              ∙ ap (λ c. low ++ (c ∷ high)) (b .found .own)
 
           new-active : map (strandAt s sc) new ≡ low ++ high
           new-active = ap (map (strandAt s sc)) (b .new-is) ∙ map-append (strandAt s sc) (take (b .position) entries) (drop (suc (b .position)) entries)
@@ -242,9 +243,9 @@ module _ (s : List ℕ) (sc : Scene) where
       pub later-begun : {new : List ℕ} {note : ℕ} → Began s sc first (placeOf i j first) entries new note → AllEndLater i′ j′ new → AllEndLater i j entries
       later-begun b later x m = weaken (later x (subst (λ l. x ∈ l) (sym (b .new-is)) (inserted-old (b .position) entries (placeOf i j first) m)))
 
-      pub later-ended : {notes new : List ℕ} {note : ℕ} → isBeginning s sc first (reached s sc i j first) ≡ false → Ended s sc first (placeOf i j first) notes entries new note
+      pub later-ended : {notes new : List ℕ} {note : ℕ} → isBeginning s sc first (reached s sc i j first) ≡ false → Ended s sc first (placeOf i j first) entries notes new note
           → AllEndLater i′ j′ new → AllEndLater i j entries
-      later-ended e b later x m = ⊎-elim (λ o. subst (EndsLater i j) (sym o) own-ends) (λ n. weaken (later x (subst (λ l. x ∈ l) (sym (b .new-is)) n))) (removed-rest 0 (b .position) entries (b .there) m)
+      later-ended e b later x m = ⊎-elim (λ o. subst (EndsLater i j) (sym o) own-ends) (λ n. weaken (later x (subst (λ l. x ∈ l) (sym (b .new-is)) n))) (removed-rest 0 (b .position) entries (own-there b) m)
         where
           own-ends : EndsLater i j (own-entry b)
           own-ends = record {
@@ -252,7 +253,7 @@ module _ (s : List ℕ) (sc : Scene) where
             to-come = subst (λ (c : Bool). reached s sc i j c ≤ reached s sc i j first) (sym (own-first b)) (le-refl (reached s sc i j first));
             within = subst (λ (c : Bool). reached s sc i j first < total s sc c) (sym (own-first b)) more;
             is-end = subst (λ (c : Bool). isBeginning s sc c (reached s sc i j first) ≡ false) (sym (own-first b)) e;
-            is = subst (λ (c : Bool). strandBy s sc c (reached s sc i j first) ≡ strandAt s sc (own-entry b)) (sym (own-first b)) (sym (b .own));
+            is = subst (λ (c : Bool). strandBy s sc c (reached s sc i j first) ≡ strandAt s sc (own-entry b)) (sym (own-first b)) (sym (b .found .own));
           }
 
       pub later-taken : {notes new : List ℕ} {note : ℕ} → Taken s sc first (reached s sc i j first) notes entries new note → AllEndLater i′ j′ new → AllEndLater i j entries
@@ -264,7 +265,7 @@ module _ (s : List ℕ) (sc : Scene) where
           record {
             in-time = in-time-on;
             taken = λ x m. ⊎-elim (λ q. subst (TakenBefore i′ j′) (sym q) own-taken) (λ n. taken-still (run .taken x n)) (in-inserted (b .position) entries (subst (λ l. x ∈ l) (b .new-is) m));
-            linked = subst (Linked LowerNext) (sym (b .new-is)) (linked-inserted 0 (b .position) (placeOf i j first) entries (b .within) (run .linked) (b .lower-next) (b .upper-next));
+            linked = subst (Linked (LowerNext s)) (sym (b .new-is)) (linked-inserted 0 (b .position) (placeOf i j first) entries (b .at-place .within) (run .linked) (λ k q. b .fits .over k q .1) (b .fits .under));
             kept = λ later. kept-same isRegionOf (next .more true e) (next .same true e) (has-begun b e (later-begun b later));
           }
         where
@@ -277,8 +278,8 @@ module _ (s : List ℕ) (sc : Scene) where
       advance {new = new} (it-ended e b) =
           record {
             in-time = in-time-on;
-            taken = λ x m. taken-still (run .taken x (in-removed 0 (b .position) entries (b .there) (subst (λ l. x ∈ l) (b .new-is) m)));
-            linked = subst (Linked LowerNext) (sym (b .new-is)) (linked-removed 0 (b .position) entries (b .there) (run .linked) (b .meeting));
+            taken = λ x m. taken-still (run .taken x (in-removed 0 (b .position) entries (own-there b) (subst (λ l. x ∈ l) (b .new-is) m)));
+            linked = subst (Linked (LowerNext s)) (sym (b .new-is)) (linked-removed 0 (b .position) entries (own-there b) (run .linked) (b .meeting));
             kept = λ later. kept-same isRegionOf (next .same false e) (next .more false e) (has-ended b e (later-ended e b later));
           }
 

@@ -8,7 +8,7 @@ use mathlib.Core.List.{List, [], _∷_, _++_, append-assoc}
 use lib.ListN.{length, take, drop, set, getD, length-append, length-drop, take-append-drop, List·getD-append}
 use lib.Seq.{length-take-le, take-suc, take-nil, take-take, take-at, drop-at, set-at, split-at, append-snoc, getD-take, getD-drop, getD-append-add}
 use lib.Seq.{paste, paste-zero, paste-suc, take-paste, length-paste-head, slice, slice-empty, slice-cons, length-slice}
-use Rattle.whole.specs.Count.{_∈_, here, there}
+use Rattle.whole.specs.Count.{_∈_, there}
 use Rattle.whole.proofs.Logic.{in-cons, in-left, in-right, in-append}
 use Rattle.strands.specs.Status.{inserted, removed}
 
@@ -164,12 +164,6 @@ module _ {A : Type 0} where
       size = length-take-le k l (omega arith)
 
   module _ (k : ℕ) (l : List A) where
-    pub length-inserted : (a : A) → length (inserted k a l) ≡ length l + 1
-    length-inserted a = omega (arith, length-append (take k l) (a ∷ drop k l), length-append (take k l) (drop k l), ap length (take-append-drop k l))
-
-    pub inserted-new : (a : A) → a ∈ inserted k a l
-    inserted-new a = in-right (take k l) here
-
     pub inserted-old : (a : A) {b : A} → b ∈ l → b ∈ inserted k a l
     inserted-old a {b} m =
         ⊎-elim (λ h. in-left (a ∷ drop k l) h) (λ h. in-right (take k l) (there h))

@@ -1,28 +1,25 @@
 -- What an object gives that 10 to 14 do not refuse, in the form that the plane's lemmas take.
-use Prim.Native.Nat.{ℕ, zero, suc, _+_, _-_, _<_, _≤_}
-use native.Mathlib.Nat.{eq-or-lt-of-le}
-use native.Mathlib.Omega.{arith}
+use Prim.Native.Nat.{ℕ, zero, suc, _-_, _<_}
 use mathlib.Core.Path.{_≡_, refl, sym, ap, subst, subst₂, _∙_}
-use mathlib.Core.Logic.{⊎-elim}
-use mathlib.Core.Bool.{Bool, true, false, not, cond, Bool·beq}
-use mathlib.Core.List.{List, [], _∷_, _++_, map}
-use lib.Dec.{T, leb, ltb, leb→le}
-use borrow.Author.Tests.{lt-ltb, not-false}
-use Rattle.whole.specs.Count.{odd, _∈_, here, there}
-use Rattle.whole.proofs.Logic.{beq-same, and-left, and-right, is-true, true-is, in-nil, in-cons, none-of, in-map, map-in, Sorted, sorted-nil, sorted-cons, sorted-map, rising}
+use mathlib.Core.Bool.{Bool, true, false, not, Bool·beq}
+use mathlib.Core.List.{List, map}
+use lib.Dec.{T}
+use borrow.Author.Tests.{not-false}
+use Rattle.whole.specs.Count.{odd, _∈_, there}
+use Rattle.whole.proofs.Logic.{beq-same, and-left, and-right, is-true, true-is, none-of, in-map, map-in, Sorted, sorted-nil, sorted-cons, sorted-map}
 use Rattle.plane.specs.declared.Point.{Point}
 use Rattle.plane.specs.declared.Segment.{Segment}
 use Rattle.plane.specs.declared.Halfsegment.{Halfsegment}
 use Rattle.plane.specs.Plane.{inRange, segmentInRange, before, ordered, dominating, comesBefore, grid, endsAt, interiorAbove, touch}
-use Rattle.plane.proofs.Order.{before-irreflexive, before-trans, comes-irreflexive, comes-trans, LeftBefore, halfOf}
-use Rattle.plane.proofs.Accepted.{Split, Regular, Across, AllOrdered, across-from-touch, split-from-order, even-from-ends}
+use Rattle.plane.proofs.Order.{before-irreflexive, comes-irreflexive, LeftBefore, halfOf}
+use Rattle.plane.proofs.Accepted.{Split, Regular, AllOrdered, split-from-order, even-from-ends}
 use Rattle.scene.specs.declared.Layout.{Layout}
-use Rattle.scene.specs.declared.Fault.the-variants.{At, Nothing}
-use Rattle.scene.specs.Read.{pointAt, shapeNumber, place, unless, IsObject}
-use Rattle.scene.specs.Conditions.{indices, elements, keep, hasSegments, isRegion, half, ia, isLeft, segments, earliest, inOrder, isMisplaced, outOfOrder, unpaired, isTouching, touching, touchingItself, endsOddly, oddEnd, hasWrongIa, wrongIa, Rule, rule, objectRules, orElse, overBoth, touchingAcross, sceneRules, checkSceneBy, checkObject}
+use Rattle.scene.specs.declared.Fault.the-variants.{Nothing}
+use Rattle.scene.specs.Read.{pointAt, place, IsObject}
+use Rattle.scene.specs.Conditions.{indices, elements, keep, hasSegments, isRegion, half, ia, isLeft, segments, inOrder, outOfOrder, unpaired, isTouching, touching, touchingItself, endsOddly, oddEnd, hasWrongIa, wrongIa}
 use Rattle.segments.proofs.Elements.{point-good, half-good, order-of-points, order-of-halves}
 use Rattle.segments.proofs.Partners.{Partner, partner-there}
-use Rattle.segments.proofs.Indices.{indices-in, element-in, in-element, keep-in, in-keep, kept-rise, not-nothing, none-wrong, halves-rise, points-rise}
+use Rattle.segments.proofs.Indices.{indices-in, element-in, in-element, keep-in, in-keep, kept-rise, none-wrong, halves-rise, points-rise}
 
 -- ---- an object that 10 to 14 do not refuse
 

@@ -1,21 +1,21 @@
 -- The test `under` where the sweep knows the answer: for a segment that passes strictly under or over the beginning, that has ended before it, or
 -- that begins after it.
-use mathlib.Core.Path.{_≡_, refl, sym, ap, ap₂, _∙_, subst}
+use mathlib.Core.Path.{_≡_, sym, ap, ap₂, _∙_, subst}
 use mathlib.Core.Logic.{⊎-elim}
 use mathlib.Core.Bool.{Bool, true, false, not, _&&_, _||_}
 use mathlib.Core.List.{[], _∷_}
 use lib.Dec.{T, T-not}
-use lib.IntN.{ℤ, pos, negℤ, one, _+ℤ_, _-ℤ_, _*ℤ_, *ℤ-one}
+use lib.IntN.{ℤ, pos, negℤ, one, _-ℤ_, _*ℤ_, *ℤ-one}
 use lib.Signed.{ltZ, leZ}
 use Rattle.whole.specs.Count.{eqZ}
-use Rattle.whole.proofs.Solver.{var, con, opp, _:+_, _:-_, _:*_, solve}
+use Rattle.whole.proofs.Solver.{var, con, opp, _:-_, _:*_, solve}
 use Rattle.whole.proofs.Sign.{Pos, NonNeg, zero-pos, zero-neg, nonneg-clash, nonneg-mul, nonneg-both, leZ-nonneg, nonneg-leZ, ltZ-leZ, ltZ0-pos, ltZ0-neg, neg-of-pos, pos-clash, zero-eqZ, sub-zero-eq}
-use Rattle.whole.proofs.Logic.{and-left, and-right, or-cases, or-left, or-right, and-make, refute, true-is, decide}
+use Rattle.whole.proofs.Logic.{and-left, and-right, or-cases, or-left, and-make, refute, decide}
 use Rattle.plane.specs.declared.Point.{Point}
 use Rattle.plane.specs.declared.Segment.{Segment}
 use Rattle.plane.specs.Plane.{side, sideAt, samePoint, before, ordered, countsBelow, grid}
-use Rattle.plane.proofs.OnSegment.{Ordered, ordered-read, width}
-use Rattle.plane.proofs.Equal.{samePoint-read}
+use Rattle.plane.proofs.OnSegment.{Ordered, width}
+use Rattle.plane.proofs.Equal.{point-eq, samePoint-read}
 use Rattle.plane.proofs.Grid.{side-grid}
 use Rattle.strands.specs.Lower.{passesUnder, passesOver, under}
 
@@ -49,6 +49,16 @@ after-y p q t e =
     rest : (a b : Bool) → T a → T (not (a && b)) → T (not b)
     rest true b h t = t
     rest false b h t = absurd h
+
+-- points neither of which comes before the other are one
+pub not-before-both : (p q : Point) → NotBefore p q → NotBefore q p → p ≡ q
+not-before-both p q h k = point-eq same-x (both (p .y) (q .y) (after-y p q h same-x) (after-y q p k (sym same-x)))
+  where
+    both : (a b : ℤ) → NonNeg (a -ℤ b) → NonNeg (b -ℤ a) → a ≡ b
+    both a b m n = sub-zero-eq a b (nonneg-both n (subst NonNeg (solve (a ∷ b ∷ []) (var 0 :- var 1) (opp (var 1 :- var 0)) tt) m))
+
+    same-x : p .x ≡ q .x
+    same-x = both (p .x) (q .x) (after-x p q h) (after-x q p k)
 
 -- ---- the side value at an end
 

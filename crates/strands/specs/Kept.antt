@@ -1,7 +1,7 @@
 -- What the sweep keeps from event to event. An event is a halfsegment: a left one begins its segment, a right one ends it. A strand is what an event
 -- is about: a segment of one of the two objects, with its ia. `begun` and `ended` are the strands of the left and of the right events so far, and
 -- `active` those begun and not yet ended, from low to high.
-use Prim.Native.Nat.{ℕ, _+_}
+use Prim.Native.Nat.{_+_}
 use mathlib.Core.Path.{_≡_}
 use mathlib.Core.Logic.{_⊎_}
 use mathlib.Core.Bool.{Bool, true, false, not, _&&_, Bool·beq}

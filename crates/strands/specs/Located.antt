@@ -1,5 +1,5 @@
 -- What the sweep notes of a point of F, by its neighbours among the entries that are active there, and which points it takes before the next halfsegment of G.
-use Prim.Native.Nat.{ℕ, suc, _<_, _≤_}
+use Prim.Native.Nat.{ℕ, _<_, _≤_}
 use mathlib.Core.Path.{_≡_}
 use mathlib.Core.Logic.{_⊎_}
 use mathlib.Core.Bool.{Bool, false, not, _&&_, _||_}
@@ -14,6 +14,7 @@ use Rattle.plane.specs.Plane.{side, before, dominating}
 use Rattle.scene.specs.declared.Scene.{Scene}
 use Rattle.scene.specs.Read.{pointAt, segmentAt, halfsegmentAt, place}
 use Rattle.strands.specs.Lower.{passesUnder, passesOver}
+use Rattle.strands.specs.Status.{AtPlace, BelowPlace}
 use Rattle.strands.specs.Swept.{total}
 
 -- the line of t passes through v: neither under it nor over it
@@ -23,8 +24,8 @@ onLine t v = eqZ (side (t .left) (t .right) v) (pos 0)
 -- what the sweep finds of v: an entry whose line passes through it, or a place where the entry just below passes under it and the one there over it
 pub data NearNote (s entries : List ℕ) (v : Point) (note : ℕ) : Type 0 where
   on-entry : (k : ℕ) → k < length entries → T (onLine (segmentAt s (getD entries k 0)) v) → note ≡ 2 → NearNote s entries v note
-  between : (k : ℕ) → k ≤ length entries → ((i : ℕ) → suc i ≡ k → T (passesUnder (segmentAt s (getD entries i 0)) v))
-      → (k < length entries → T (passesOver (segmentAt s (getD entries k 0)) v)) → note ≡ bit (odd k) → NearNote s entries v note
+  between : (k : ℕ) → k ≤ length entries → BelowPlace entries k (λ e. T (passesUnder (segmentAt s e) v)) → AtPlace entries k (λ e. T (passesOver (segmentAt s e) v))
+      → note ≡ bit (odd k) → NearNote s entries v note
 
 module _ (s : List ℕ) (sc : Scene) where
   abbrev pub pointBy : ℕ → Point

@@ -1,6 +1,6 @@
 -- The tests by which the sweep orders segments, from low to high, where they begin and where they end. All are signs of side values.
 use mathlib.Core.Bool.{Bool, _&&_, _||_}
-use lib.IntN.{ℤ, pos}
+use lib.IntN.{pos}
 use lib.Signed.{ltZ}
 use Rattle.plane.specs.declared.Point.{Point}
 use Rattle.plane.specs.declared.Segment.{Segment}

@@ -22,10 +22,14 @@ pub record Readable (s status : List ℕ) (n : ℕ) : Type 0 where
   pub room : n ≤ length status
   pub entries : (i : ℕ) → i < n → GoodHalfsegment s (getD status i 0)
 
--- they are records of a scene, and so is the event's, which is of F or not
+-- they are records of a scene
+pub record Held (s : List ℕ) (sc : Scene) (status : List ℕ) (n : ℕ) : Type 0 where
+  pub room : n ≤ length status
+  pub entries : (e : ℕ) → e ∈ take n status → Entry s sc e
+
+-- and so is the event's, which is of F or not
 pub record Ready (s : List ℕ) (sc : Scene) (first : Bool) (at : ℕ) (status : List ℕ) (n : ℕ) : Type 0 where
   pub scene : IsScene s sc
   pub event : Entry s sc at
   pub object : isFirst s sc at ≡ first
-  pub room : n ≤ length status
-  pub entries : (e : ℕ) → e ∈ take n status → Entry s sc e
+  pub held : Held s sc status n

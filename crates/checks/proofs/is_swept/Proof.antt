@@ -1,15 +1,11 @@
--- `checks::is_swept` meets its contract: 10 finds no fault in either object, and where the sweep accepts, 11 to 15 find none.
-use mathlib.Core.Path.{_≡_, refl}
-use mathlib.Core.Bool.{Bool, true, false}
+-- `checks::is_swept` meets its contract: a scene is sound exactly where 10 finds no fault in either object, and 11 to 15, which the sweep decides, none.
+use mathlib.Core.Path.{refl}
+use mathlib.Core.Bool.{true, false}
 use borrow.Author.Needs.{needs}
-use borrow.Author.Tests.{not-false}
-use lib.Dec.{T-not}
-use Rattle.whole.proofs.Logic.{is-true}
-use Rattle.scene.specs.declared.Fault.the-variants.{Nothing}
-use Rattle.scene.specs.Conditions.{outOfOrder}
-use Rattle.strands.specs.Swept.{objectOf}
+use Rattle.whole.proofs.Deciding.{no, same-as, accepted, refused}
+use Rattle.strands.specs.Swept.{InOrder}
 use Rattle.strands.proofs.Objects.{read}
-use Rattle.checks.proofs.Verdicts.{swept, clear-of}
+use Rattle.checks.proofs.Verdicts.{passes-sound, sound-passes}
 use Rattle.checks.proofs.is_swept.Statement.{statement}
 use Rattle.checks.proofs.is_swept.Tie as tie
 
@@ -21,9 +17,9 @@ module _ (c : tie.Else2) where
   abbrev z : tie.Start
   z = e .before .before .before .before .before .before
 
-  in-order : (first : Bool) → outOfOrder (z .args .s .now) (objectOf (z .args .s .now) (z .args .scene) first) ≡ Nothing
-  in-order true = let r = e .before .is-ordered in r .ensures .0 (is-true (r .result) (not-false (r .result) (e .if1 .left)))
-  in-order false = let r = c .before .is-ordered2 in r .ensures .0 (is-true (r .result) (not-false (r .result) (c .if2 .left)))
+  in-order : InOrder (z .args .s .now) (z .args .scene)
+  in-order true = accepted (e .before .is-ordered .ensures) (e .if1 .left)
+  in-order false = accepted (c .before .is-ordered2 .ensures) (c .if2 .left)
 
 is-ordered-requires : tie.Need-is-ordered-requires
 is-ordered-requires c κs = let z = c .before .before .before .before in read (z .args .s .now) (z .args .scene) (z .pre .0) true
@@ -33,8 +29,8 @@ returns c =
     let r = c .before .is-ordered in
     let z = c .before .before .before .before .before .before in (
       refl,
-      λ no. absurd no,
-      λ sound. absurd (T-not (r .result) (is-true _ (c .if1 .taken)) (r .ensures .1 (clear-of (z .args .s .now) (z .args .scene) sound .order true))),
+      no (λ sound. refused (r .result) (c .if1 .taken) (r .ensures .complete (sound-passes (z .args .s .now) (z .args .scene) sound .0 true))),
+      λ t. absurd t,
     )
 
 is-ordered-requires-2 : tie.Need-is-ordered-requires-2
@@ -45,8 +41,8 @@ returns-2 c =
     let r = c .before .is-ordered2 in
     let z = c .before .before .before .before .before .before .before .before in (
       refl,
-      λ no. absurd no,
-      λ sound. absurd (T-not (r .result) (is-true _ (c .if2 .taken)) (r .ensures .1 (clear-of (z .args .s .now) (z .args .scene) sound .order false))),
+      no (λ sound. refused (r .result) (c .if2 .taken) (r .ensures .complete (sound-passes (z .args .s .now) (z .args .scene) sound .0 false))),
+      λ t. absurd t,
     )
 
 accepts-requires : tie.Need-accepts-requires
@@ -60,8 +56,8 @@ returns-3 c =
     let r = c .before .before in
     let o = r .before .before in (
       r .accepts .ensures .0,
-      λ t. let w = r .accepts .ensures .1 t in (swept (z o .args .s .now) (z o .args .scene) (in-order o) (w .0), w .1),
-      λ sound. r .accepts .ensures .2 (clear-of (z o .args .s .now) (z o .args .scene) sound .clear),
+      same-as (passes-sound (z o .args .s .now) (z o .args .scene) (in-order o)) (λ sound. sound-passes (z o .args .s .now) (z o .args .scene) sound .1) (r .accepts .ensures .1),
+      r .accepts .ensures .2,
     )
 
 pub is-swept-spec : {M : Type 1} → statement M

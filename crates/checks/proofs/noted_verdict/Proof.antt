@@ -15,9 +15,9 @@ same-length c = search needs
 
 returns : tie.Need-returns
 returns c =
-    let r = c .before .before .before in
-    let w = r .is-swept .ensures .1 (is-true _ (c .if1 .taken)) in
-    (r .is-swept .ensures .0, sym (w .0), λ e. w .1)
+    let r = c .before .before .before .is-swept .ensures in
+    let t = is-true _ (c .if1 .taken) in
+    (r .0, sym (r .1 .sound t), λ e. r .2 t)
 
 plain-verdict-requires : tie.Need-plain-verdict-requires
 plain-verdict-requires c κs =
@@ -31,7 +31,7 @@ same-length-2 c = search needs
 returns-2 : tie.Need-returns-2
 returns-2 c =
     let r = c .before .before .before .before in
-    (r .is-swept .ensures .0, c .plain-verdict .ensures, λ e. absurd (subst T (c .before .if1 .left) (r .is-swept .ensures .2 (sym (c .plain-verdict .ensures) ∙ e))))
+    (r .is-swept .ensures .0, c .plain-verdict .ensures, λ e. absurd (subst T (c .before .if1 .left) (r .is-swept .ensures .1 .complete (sym (c .plain-verdict .ensures) ∙ e))))
 
 pub noted-verdict-spec : {M : Type 1} → statement M
 noted-verdict-spec =

@@ -11,10 +11,10 @@ use Rattle.scene.specs.Conditions.{elements}
 use Rattle.scene.proofs.Flags.{upheld, refuted}
 use Rattle.scene.proofs.Taken.{taken-object}
 use Rattle.whole.proofs.Logic.{is-true}
+use Rattle.whole.proofs.Deciding.{yes, no}
 use Rattle.whole.proofs.Parity.{parity}
 use Rattle.strands.specs.Evenly.{dominatedBy}
-use Rattle.strands.proofs.Pairs.{parityFrom, parity-all, parity-end, parity-pair, Pair, pair, shared}
-use Rattle.strands.proofs.Evened.{next-shares}
+use Rattle.strands.proofs.Evenly.{parityFrom, parity-all, parity-end, parity-pair, Pair, pair, shared, even-count, next-shares}
 use Rattle.evenly.proofs.ends_evenly.Statement.{statement}
 use Rattle.evenly.proofs.ends_evenly.Tie as tie
 
@@ -40,7 +40,7 @@ module _ (c : tie.Then2 Inv-loop μ-loop) where
   here = pair (z .pre .0) (z .pre .1) (d .loop .inv .0) (d .before .before .size .ensures) pair-left
 
 returns : tie.Need-returns Inv-loop μ-loop
-returns c = (λ no. absurd no, λ p. absurd (omega (arith, p .even-count, c .if1 .taken)))
+returns c = let z = c .before .before .before in no (λ evenly. omega (arith, even-count (z .args .s .now) (z .args .l) evenly, c .if1 .taken))
 
 size-requires : tie.Need-size-requires Inv-loop μ-loop
 size-requires c κs = search needs
@@ -62,12 +62,11 @@ share-point-requires c κs = (here c .first, here c .second)
 returns-2 : tie.Need-returns-2 Inv-loop μ-loop
 returns-2 c =
     let e = c .before .before in
-    let a = z e .args in (
-      λ no. absurd no,
-      λ p. absurd
-          (next-shares p (d e .loop .i) (pair-left e) (λ v. sym (d e .loop .inv .2 v) ∙ p .evenly v)
-          (ap₂ (λ (m n : ℕ). samePoint (dominating (halfsegmentAt (a .s .now) m)) (dominating (halfsegmentAt (a .s .now) n))) (sym (d e .loop .inv .0)) (sym (here e .next)) ∙ refuted (c .before .share-point .ensures) (c .if3 .taken))),
-    )
+    let a = z e .args in
+    let p = z e .pre in
+    no
+    (λ evenly. next-shares (a .s .now) (a .l) (p .0) (p .1) (p .2) (d e .loop .i) (pair-left e) (λ v. sym (d e .loop .inv .2 v) ∙ evenly v)
+    (ap₂ (λ (m n : ℕ). samePoint (dominating (halfsegmentAt (a .s .now) m)) (dominating (halfsegmentAt (a .s .now) n))) (sym (d e .loop .inv .0)) (sym (here e .next)) ∙ refuted (c .before .share-point .ensures) (c .if3 .taken)))
 
 mul-at : tie.Need-mul-at Inv-loop μ-loop
 mul-at c = omega (arith, here (c .before .before) .fits)
@@ -96,7 +95,7 @@ returns-3 : tie.Need-returns-3 Inv-loop μ-loop
 returns-3 c =
     let d = c .before .before in
     let a = d .before .before .before .before .before .before .args in
-    (λ yes v. d .loop .inv .2 v ∙ parity-end (dominatedBy (a .s .now) (a .l) v) (d .loop .i) (a .l .count) (c .if2 .left), λ p. tt)
+    yes (λ v. d .loop .inv .2 v ∙ parity-end (dominatedBy (a .s .now) (a .l) v) (d .loop .i) (a .l .count) (c .if2 .left))
 
 pub ends-evenly-spec : {M : Type 1} → statement M
 ends-evenly-spec =

@@ -2,7 +2,7 @@
 use mathlib.Core.Path.{subst}
 use mathlib.Core.Bool.{true, false}
 use lib.Dec.{T}
-use Rattle.whole.proofs.Logic.{is-true}
+use Rattle.whole.proofs.Deciding.{holds}
 use Rattle.strands.specs.Evenly.{RegionsEndEvenly}
 use Rattle.strands.proofs.Objects.{read}
 use Rattle.evenly.proofs.regions_end_evenly.Statement.{statement}
@@ -17,20 +17,20 @@ module _ (c : tie.After-is-even2) where
   z = d .before .before .before .before .before
 
   both : T (c .is-even2 .result) → RegionsEndEvenly (z .args .s .now) (z .args .scene)
-  both t true = d .before .is-even .ensures .0 (is-true _ (d .if1 .taken))
-  both t false = c .is-even2 .ensures .0 t
+  both t true = holds (d .before .is-even .ensures) (d .if1 .taken)
+  both t false = c .is-even2 .ensures .sound t
 
 is-even-requires : tie.Need-is-even-requires
-is-even-requires c κs = let z = c .before .before .before in read (z .args .s .now) (z .args .scene) (z .pre) true
+is-even-requires c κs = let z = c .before .before .before in (read (z .args .s .now) (z .args .scene) (z .pre .0) true, z .pre .1 true)
 
 is-even-requires-2 : tie.Need-is-even-requires-2
-is-even-requires-2 c κs = let z = c .before .before .before .before .before in read (z .args .s .now) (z .args .scene) (z .pre) false
+is-even-requires-2 c κs = let z = c .before .before .before .before .before in (read (z .args .s .now) (z .args .scene) (z .pre .0) false, z .pre .1 false)
 
 returns : tie.Need-returns
-returns c = (both c, λ p. c .is-even2 .ensures .1 (p false))
+returns c = record { sound = both c; complete = λ p. c .is-even2 .ensures .complete (p false) }
 
 returns-2 : tie.Need-returns-2
-returns-2 c = (λ yes. absurd (subst T (c .if1 .left) yes), λ p. c .before .is-even .ensures .1 (p true))
+returns-2 c = record { sound = λ t. absurd (subst T (c .if1 .left) t); complete = λ p. c .before .is-even .ensures .complete (p true) }
 
 pub regions-end-evenly-spec : {M : Type 1} → statement M
 regions-end-evenly-spec = tie.close (tie.spec is-even-requires is-even-requires-2 returns returns-2)

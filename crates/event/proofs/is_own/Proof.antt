@@ -5,6 +5,7 @@ use borrow.Author.Needs.{needs}
 use borrow.Author.Tests.{not-false}
 use lib.Dec.{T, T-not, ltb}
 use Rattle.whole.proofs.Logic.{is-true, true-is, beq-same, beq-refl}
+use Rattle.whole.proofs.Deciding.{yes, no}
 use Rattle.plane.proofs.Equal.{sameSegment-read, sameSegment-refl}
 use Rattle.plane.specs.declared.Segment.{Segment}
 use Rattle.plane.specs.Plane.{sameSegment}
@@ -44,10 +45,8 @@ region c = let a = z (d (c .before)) .args in is-true _ (upheld (c .before .has-
 returns : tie.Need-returns
 returns c =
     let z = c .before .before .before .before in
-    let first = z .args .first in (
-      λ no. absurd no,
-      λ w. absurd (T-not (Bool·beq first (ltb (z .args .e) (z .args .scene .g .start))) (is-true _ (c .if1 .taken)) (is-true _ (ap (Bool·beq first) (ap (λ (a : Strand). a .first) w) ∙ beq-refl first))),
-    )
+    let first = z .args .first in
+    no (λ w. T-not (Bool·beq first (ltb (z .args .e) (z .args .scene .g .start))) (is-true _ (c .if1 .taken)) (is-true _ (ap (Bool·beq first) (ap (λ (a : Strand). a .first) w) ∙ beq-refl first)))
 
 segment-requires : tie.Need-segment-requires
 segment-requires c κs = let a = z c .args in entry-readable (a .s .now) (a .scene) (z c .pre .0) (z c .pre .3) .there
@@ -62,10 +61,8 @@ is-same-segment-requires c κs = search needs
 
 returns-2 : tie.Need-returns-2
 returns-2 c =
-    let u = c .before .before in (
-      λ no. absurd no,
-      λ w. absurd (subst T (refuted (c .before .is-same-segment .ensures) (c .if2 .taken)) (subst (λ (t : Segment). T (sameSegment (u .before .segment .result) t)) (u .before .segment .ensures ∙ ap (λ (a : Strand). a .segment) w ∙ sym (u .segment2 .ensures)) (sameSegment-refl (u .before .segment .result)))),
-    )
+    let u = c .before .before in
+    no (λ w. subst T (refuted (c .before .is-same-segment .ensures) (c .if2 .taken)) (subst (λ (t : Segment). T (sameSegment (u .before .segment .result) t)) (u .before .segment .ensures ∙ ap (λ (a : Strand). a .segment) w ∙ sym (u .segment2 .ensures)) (sameSegment-refl (u .before .segment .result))))
 
 has-region-requires : tie.Need-has-region-requires
 has-region-requires c κs = search needs
@@ -73,11 +70,8 @@ has-region-requires c κs = search needs
 returns-3 : tie.Need-returns-3
 returns-3 c =
     let e = d (c .before) in
-    let a = z e .args in (
-      λ yes. same-strand (a .s .now) (a .scene) (a .first) (a .at) (a .e) (same-object e) (same-segment (c .before))
-          (and-none _ _ _ (refuted (c .before .has-region .ensures (a .s .now)) (c .if3 .taken))),
-      λ w. tt,
-    )
+    let a = z e .args in
+    yes (same-strand (a .s .now) (a .scene) (a .first) (a .at) (a .e) (same-object e) (same-segment (c .before)) (and-none _ _ _ (refuted (c .before .has-region .ensures (a .s .now)) (c .if3 .taken))))
 
 ia-requires : tie.Need-ia-requires
 ia-requires c κs =
@@ -106,12 +100,13 @@ returns-4 : tie.Need-returns-4
 returns-4 c =
     let r = c .before .before in
     let e = d (r .before) in
-    let a = z e .args in (
-      λ yes. same-strand (a .s .now) (a .scene) (a .first) (a .at) (a .e) (same-object e) (same-segment (r .before))
+    let a = z e .args in
+    record {
+      sound = λ t. same-strand (a .s .now) (a .scene) (a .first) (a .at) (a .e) (same-object e) (same-segment (r .before))
           (ap (λ (b : Bool). isRegion (objectOf (a .s .now) (a .scene) (a .first) .shape) && b)
-          (sym (c .before .ia .ensures) ∙ beq-same (c .before .ia .result) (c .ia2 .result) (true-is _ yes) ∙ c .ia2 .ensures)),
-      λ w. is-true _ (ap (Bool·beq (c .before .ia .result)) (sym (same-ia c w)) ∙ beq-refl (c .before .ia .result)),
-    )
+          (sym (c .before .ia .ensures) ∙ beq-same (c .before .ia .result) (c .ia2 .result) (true-is _ t) ∙ c .ia2 .ensures));
+      complete = λ w. is-true _ (ap (Bool·beq (c .before .ia .result)) (sym (same-ia c w)) ∙ beq-refl (c .before .ia .result));
+    }
 
 pub is-own-spec : {M : Type 1} → statement M
 is-own-spec =

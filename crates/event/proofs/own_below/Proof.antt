@@ -8,15 +8,14 @@ use mathlib.Core.Logic.{⊎-elim}
 use lib.Dec.{T}
 use borrow.Author.Needs.{needs}
 use lib.ListN.{getD}
-use Rattle.whole.proofs.Logic.{is-true}
+use Rattle.whole.proofs.Logic.{less-or-not, is-true}
 use Rattle.plane.proofs.Equal.{sameSegment-read, sameSegment-refl}
 use Rattle.plane.specs.declared.Segment.{Segment}
 use Rattle.plane.specs.Plane.{sameSegment}
 use Rattle.scene.specs.Read.{segmentAt}
 use Rattle.scene.proofs.Flags.{upheld, refuted}
 use Rattle.strands.specs.Swept.{strandOf, strandAt, Entry}
-use Rattle.strands.proofs.Entries.{entry-readable, ready-entry, one-lower}
-use Rattle.strands.proofs.Complete.{less-or-not}
+use Rattle.strands.proofs.Entries.{entry-readable, held-entry, one-lower}
 use Rattle.event.proofs.own_below.Statement.{statement}
 use Rattle.event.proofs.own_below.Tie as tie
 
@@ -39,7 +38,7 @@ module _ (c : tie.After-wide Inv-loop μ-loop) where
   here : Entry (z .args .s .now) (z .args .scene) (c .wide .result)
   here =
       subst (Entry (z .args .s .now) (z .args .scene)) (sym (c .wide .ensures))
-      (ready-entry (z .pre) (d .loop .k - 1) (omega (arith, c .before .before .loop-test .taken)))
+      (held-entry (z .pre .held) (d .loop .k - 1) (omega (arith, c .before .before .loop-test .taken)))
 
 before-it : (k n : ℕ) → k < n → k ≤ n - 1
 before-it k n h = omega arith
@@ -52,7 +51,7 @@ not-own : (c : tie.Else1 Inv-loop μ-loop)
 not-own c w =
     let e = c .before .before in
     let a = z e .args in
-    subst T (c .if1 .left) (c .before .is-own .ensures .1 (ap (strandAt (a .s .now) (a .scene)) (e .wide .ensures) ∙ w))
+    subst T (c .if1 .left) (c .before .is-own .ensures .complete (ap (strandAt (a .s .now) (a .scene)) (e .wide .ensures) ∙ w))
 
 segment-requires : tie.Need-segment-requires Inv-loop μ-loop
 segment-requires c κs = let z = c .before .before in entry-readable (z .args .s .now) (z .args .scene) (z .pre .scene) (z .pre .event) .there
@@ -80,11 +79,12 @@ returns c =
     let e = c .before .before in
     let a = z e .args in (
       omega (arith, d e .loop .inv .0),
-      λ h. (
-        ap (strandAt (a .s .now) (a .scene)) (sym (e .wide .ensures)) ∙ c .before .is-own .ensures .0 (is-true _ (c .if1 .taken)),
-        λ i l. d e .loop .inv .1 i (omega arith),
-      ),
-      λ k h own equals. omega (arith, d e .loop .inv .0, e .before .before .loop-test .taken),
+      λ h. record {
+        below = h;
+        own = ap (strandAt (a .s .now) (a .scene)) (sym (e .wide .ensures)) ∙ c .before .is-own .ensures .sound (is-true _ (c .if1 .taken));
+        equals = λ i l. d e .loop .inv .1 i (omega arith);
+      },
+      λ k w. omega (arith, d e .loop .inv .0, e .before .before .loop-test .taken),
     )
 
 segment-requires-2 : tie.Need-segment-requires-2 Inv-loop μ-loop
@@ -101,12 +101,12 @@ returns-2 c =
     let s = a .s .now in (
       omega arith,
       λ h. absurd (omega arith),
-      λ k h own equals. absurd
+      λ k w. absurd
           (⊎-elim
-          (λ l. ⊎-elim (λ q. not-own (u .before) (subst (λ (m : ℕ). strandAt s (a .scene) (getD (a .status .now) m 0) ≡ strandOf s (a .scene) (a .first) (a .at)) q own))
-          (λ q. subst T (refuted (c .before .is-same-segment .ensures) (c .if2 .taken)) (subst₂ (λ (t v : Segment). T (sameSegment t v)) (sym (u .segment2 .ensures ∙ ap (segmentAt s) (e .wide .ensures))) (sym (d e .before .segment .ensures)) (subst (λ (t : Segment). T (sameSegment t (segmentAt s (a .at)))) (sym (equals (d e .loop .k - 1) q (omega (arith, d e .loop .inv .0, e .before .before .loop-test .taken)))) (sameSegment-refl (segmentAt s (a .at))))))
+          (λ l. ⊎-elim (λ q. not-own (u .before) (subst (λ (m : ℕ). strandAt s (a .scene) (getD (a .status .now) m 0) ≡ strandOf s (a .scene) (a .first) (a .at)) q (w .own)))
+          (λ q. subst T (refuted (c .before .is-same-segment .ensures) (c .if2 .taken)) (subst₂ (λ (t v : Segment). T (sameSegment t v)) (sym (u .segment2 .ensures ∙ ap (segmentAt s) (e .wide .ensures))) (sym (d e .before .segment .ensures)) (subst (λ (t : Segment). T (sameSegment t (segmentAt s (a .at)))) (sym (w .equals (d e .loop .k - 1) q (omega (arith, d e .loop .inv .0, e .before .before .loop-test .taken)))) (sameSegment-refl (segmentAt s (a .at))))))
           (eq-or-lt-of-le (before-it k (d e .loop .k) l)))
-          (λ l. d e .loop .inv .2 k l h own)
+          (λ l. d e .loop .inv .2 k l (w .below) (w .own))
           (less-or-not k (d e .loop .k))),
     )
 
@@ -125,7 +125,7 @@ loop-again c =
     )
 
 returns-3 : tie.Need-returns-3 Inv-loop μ-loop
-returns-3 c = (omega arith, λ h. absurd (omega arith), λ k h own equals. absurd (c .before .loop .inv .2 k (omega arith) h own))
+returns-3 c = (omega arith, λ h. absurd (omega arith), λ k w. absurd (c .before .loop .inv .2 k (omega arith) (w .below) (w .own)))
 
 pub own-below-spec : {M : Type 1} → statement M
 own-below-spec =

@@ -4,6 +4,7 @@ use Prim.Native.Nat.{_-_}
 use native.Mathlib.Omega.{arith}
 use mathlib.Core.Path.{_≡_, sym, ap₂, _∙_}
 use mathlib.Core.Bool.{true}
+use Rattle.whole.proofs.Deciding.{yes, no}
 use Rattle.whole.proofs.Logic.{true-is}
 use Rattle.plane.specs.Plane.{comesBefore}
 use Rattle.scene.specs.Read.{place}
@@ -85,7 +86,7 @@ comes-before-requires c κs =
     (half-in-range (a .s .now) (a .l) (i - 1) (one c) (good-one (t c)), half-in-range (a .s .now) (a .l) i (two c) (good-two (t c)))
 
 returns : tie.Need-returns Inv-loop μ-loop
-returns c = (λ no. absurd no, here (t (c .before .before)) .off (refuted (in-order (c .before)) (c .if2 .taken)))
+returns c = no (here (t (c .before .before)) .off (refuted (in-order (c .before)) (c .if2 .taken)))
 
 add-at-2 : tie.Need-add-at-2 Inv-loop μ-loop
 add-at-2 c = omega (arith, here (t (c .before .before)) .fits)
@@ -103,7 +104,7 @@ returns-2 : tie.Need-returns-2 Inv-loop μ-loop
 returns-2 c =
     let d = c .before .before in
     let z = d .before .before .before in
-    (λ yes. done (z .args .s .now) (z .args .l) (d .loop .inv) (c .if1 .left), λ none. tt)
+    yes (done (z .args .s .now) (z .args .l) (d .loop .inv) (c .if1 .left))
 
 pub halfsegments-ascend-spec : {M : Type 1} → statement M
 halfsegments-ascend-spec =

@@ -3,6 +3,7 @@ use Prim.Native.Nat.{_-_}
 use native.Mathlib.Omega.{arith}
 use mathlib.Core.Path.{_≡_, sym, ap, ap₂, _∙_}
 use borrow.Author.Needs.{needs}
+use Rattle.whole.proofs.Deciding.{yes, no}
 use Rattle.plane.specs.Plane.{before}
 use Rattle.scene.specs.Read.{size, pointAt}
 use Rattle.scene.specs.Conditions.{hasSegments, inOrder}
@@ -60,7 +61,7 @@ is-before-requires : tie.Need-is-before-requires Inv-loop μ-loop
 is-before-requires c κs = search needs
 
 returns : tie.Need-returns Inv-loop μ-loop
-returns c = (λ no. absurd no, here (c .before .before .before .before) .off (refuted (in-order (c .before)) (c .if2 .taken)))
+returns c = no (here (c .before .before .before .before) .off (refuted (in-order (c .before)) (c .if2 .taken)))
 
 add-at-2 : tie.Need-add-at-2 Inv-loop μ-loop
 add-at-2 c = omega (arith, here (c .before .before .before .before) .fits)
@@ -78,7 +79,7 @@ returns-2 : tie.Need-returns-2 Inv-loop μ-loop
 returns-2 c =
     let d = c .before .before in
     let z = d .before .before .before in
-    (λ yes. done (z .args .s .now) (z .args .l) (d .loop .inv) (c .if1 .left), λ none. tt)
+    yes (done (z .args .s .now) (z .args .l) (d .loop .inv) (c .if1 .left))
 
 pub points-ascend-spec : {M : Type 1} → statement M
 points-ascend-spec =

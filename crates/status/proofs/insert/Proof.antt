@@ -1,12 +1,11 @@
 -- `status::insert` meets its contract. The loop's invariant: the entries from `i` to the block's end have moved up. The measure is the place `i`.
-use Prim.Native.Nat.{ℕ, suc, _+_, _-_, _<_, _≤_}
+use Prim.Native.Nat.{ℕ, _+_, _-_, _<_, _≤_}
 use native.Mathlib.Omega.{arith}
 use mathlib.Core.Path.{_≡_, refl, sym, ap, _∙_}
 use mathlib.Core.List.{List}
 use borrow.Author.Needs.{needs}
 use lib.ListN.{length, take, set, getD, length-set}
 use lib.Seq.{take-take}
-use Rattle.strands.specs.Status.{inserted}
 use Rattle.strands.proofs.Shifted.{raised, raised-none, raised-more, raised-inserted, inserted-fewer}
 use Rattle.status.proofs.insert.Statement.{statement}
 use Rattle.status.proofs.insert.Tie as tie

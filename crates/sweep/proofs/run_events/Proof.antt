@@ -7,20 +7,21 @@ use mir.Val.{boolByte}
 use mathlib.Core.Path.{_≡_, refl, sym, ap, subst, _∙_}
 use mathlib.Core.Bool.{Bool, true, false, not, cond, true≢false}
 use mathlib.Core.List.{List, []}
-use lib.Dec.{T, eqb, eqb→eq}
+use lib.Dec.{eqb→eq}
 use lib.ListN.{length, take, set, length-set}
 use borrow.Author.Needs.{needs}
 use Rattle.keys.specs.Keyed.{nextKey}
 use Rattle.scene.specs.Read.{IsObject}
-use Rattle.strands.specs.Swept.{slot, objectOf, isBeginning, total, Taken}
+use Rattle.strands.specs.Swept.{slot, objectOf, isBeginning, total, Passes}
 use Rattle.strands.proofs.Begun.{reached}
-use Rattle.strands.specs.Complete.{Clear, CanTake}
+use Rattle.strands.specs.Event.{Taken, CanTake}
 use Rattle.strands.proofs.Run.{Run, Orderly, AllEndLater, run-start, advance}
-use Rattle.strands.proofs.Strict.{After, Earliest, rises, earliest, after-start, after-next}
-use Rattle.strands.proofs.Lasting.{none-active}
-use Rattle.strands.proofs.Sure
-use Rattle.strands.proofs.Sure.{goes-on, all-later}
+use Rattle.strands.proofs.EventOrder.{After, Earliest, rises, earliest, after-start, after-next}
+use Rattle.strands.proofs.Lasting.{none-left, at-end}
+use Rattle.strands.proofs.GoesOn
+use Rattle.strands.proofs.GoesOn.{goes-on, all-later}
 use Rattle.whole.proofs.Logic.{in-nil}
+use Rattle.whole.proofs.Deciding.{by-equality, no, same-as}
 use lib.Seq.{length-take-le}
 use Rattle.strands.proofs.Notes.{AllNoted, noted-start, noted-next, slot-room}
 use Rattle.strands.proofs.Objects.{read, few-events}
@@ -35,7 +36,7 @@ abbrev Inv-loop : tie.InvT-loop
 Inv-loop s scene status₀ notes₀ f g all i₀ j₀ n₀ hint₀ key-f₀ key-g₀ status notes i j n hint key-f key-g =
     (length status ≡ length status₀) × (length notes ≡ length notes₀) × (i ≤ total s scene true) × (j ≤ total s scene false) × (n ≤ length status)
     × Run s scene i j (take n status) × AllNoted s scene i j (take n status) notes × (key-f ≡ nextKey s (scene .f) i) × (key-g ≡ nextKey s (scene .g) j)
-    × After s scene i j × (Clear s scene → AllEndLater s scene i j (take n status))
+    × After s scene i j × (Passes s scene → AllEndLater s scene i j (take n status))
 
 abbrev μ-loop : tie.MeasureT-loop
 μ-loop s scene status₀ notes₀ f g all i₀ j₀ n₀ hint₀ key-f₀ key-g₀ status notes i j n hint key-f key-g = total s scene true + total s scene false - (i + j)
@@ -55,7 +56,7 @@ module _ (d : tie.At-loop Inv-loop μ-loop) where
   reached-within = both-within (z .args .s .now) (z .args .scene) start (d .loop .i) (d .loop .j) (d .loop .inv .2) (d .loop .inv .3)
 
   room : 2048 ≤ length (d .loop .notes)
-  room = omega (arith, d .loop .inv .1, z .pre .2)
+  room = omega (arith, d .loop .inv .1, z .pre .4)
 
 -- an event is chosen
 module _ (c : tie.After-next-of Inv-loop μ-loop) where
@@ -86,19 +87,21 @@ module _ (c : tie.After-next-of Inv-loop μ-loop) where
       (sym (c .before .takes-first .ensures))
 
   -- where 11 to 15 find no fault, its tests hold, and there is room
-  module _ (clear : Clear (y .args .s .now) (y .args .scene)) where
+  module _ (pass : Passes (y .args .s .now) (y .args .scene)) where
     can : CanTake (y .args .s .now) (y .args .scene) (c .before .takes-first .result) (c .next-of .result) (take (d .loop .n) (d .loop .status))
     can =
         subst (λ (k : ℕ). CanTake (y .args .s .now) (y .args .scene) (c .before .takes-first .result) k (take (d .loop .n) (d .loop .status))) its-index
-        (goes-on (y .args .s .now) (y .args .scene) (y .pre .0) (y .pre .1) clear (d .loop .inv .5) (d .loop .inv .10 clear) (c .before .takes-first .result) it (d .loop .inv .9) (reached-within d) first-one)
+        (goes-on (y .args .s .now) (y .args .scene) (y .pre .0) (y .pre .1) pass (d .loop .inv .5) (d .loop .inv .10 pass) (c .before .takes-first .result) it (reached-within d) (d .loop .inv .9) first-one)
 
-    has-room : isBeginning (y .args .s .now) (y .args .scene) (c .before .takes-first .result) (c .next-of .result) ≡ true → d .loop .n < 1024
+    has-room : isBeginning (y .args .s .now) (y .args .scene) (c .before .takes-first .result) (c .next-of .result) ≡ true → d .loop .n < length (d .loop .status)
     has-room e =
         omega (
           arith,
-          Sure.room (y .args .s .now) (y .args .scene) (y .pre .0) (y .pre .1) clear (d .loop .inv .5) (d .loop .inv .10 clear) (c .before .takes-first .result) it (reached-within d)
+          GoesOn.room (y .args .s .now) (y .args .scene) (y .pre .0) (y .pre .1) pass (d .loop .inv .5) (d .loop .inv .10 pass) (c .before .takes-first .result) it (reached-within d)
               (subst (λ (k : ℕ). isBeginning (y .args .s .now) (y .args .scene) (c .before .takes-first .result) k ≡ true) (sym its-index) e),
           length-take-le (d .loop .n) (d .loop .status) (d .loop .inv .4),
+          d .loop .inv .0,
+          y .pre .3,
         )
 
   within : c .next-of .result < total (y .args .s .now) (y .args .scene) (c .before .takes-first .result)
@@ -123,7 +126,7 @@ module _ (c : tie.After-known-told Inv-loop μ-loop) where
 
   done : (m ≤ length new)
       × Taken (y e .args .s .now) (y e .args .scene) (e .before .takes-first .result) (e .next-of .result) (d e .loop .notes) (take (d e .loop .n) (d e .loop .status)) (take m new) v
-  done = c .before .before .before .before .before .take-event .ensures .1 m v (c .before .m .given .0 .1 .1 .0) (c .before .m .given .1)
+  done = c .before .before .before .before .before .take-event .ensures .1 .done m v (c .before .m .given .0 .1 .1 .0) (c .before .m .given .1)
 
   on : (d e .loop .i + boolByte (e .before .takes-first .result) ≤ total (y e .args .s .now) (y e .args .scene) true)
       × (d e .loop .j + boolByte (not (e .before .takes-first .result)) ≤ total (y e .args .s .now) (y e .args .scene) false)
@@ -167,10 +170,10 @@ module _ (c : tie.After-slot Inv-loop μ-loop) where
       after-next (y n .args .s .now) (y n .args .scene) (d n .loop .inv .9) (first-one n)
       (next-by (y n .args .s .now) (y n .args .scene) (start (d n)) (d n .loop .i) (d n .loop .j) (n .before .takes-first .result))
 
-  later-on : Clear (y n .args .s .now) (y n .args .scene)
+  later-on : Passes (y n .args .s .now) (y n .args .scene)
       → AllEndLater (y n .args .s .now) (y n .args .scene) (d n .loop .i + boolByte (n .before .takes-first .result)) (d n .loop .j + boolByte (not (n .before .takes-first .result))) (take (m (told c)) (new (told c)))
-  later-on clear =
-      all-later (y n .args .s .now) (y n .args .scene) (y n .pre .0) (y n .pre .1) clear (d n .loop .inv .5) (d n .loop .inv .10 clear) (n .before .takes-first .result) (it n)
+  later-on pass =
+      all-later (y n .args .s .now) (y n .args .scene) (y n .pre .0) (y n .pre .1) pass (d n .loop .inv .5) (d n .loop .inv .10 pass) (n .before .takes-first .result) (it n)
       (next-by (y n .args .s .now) (y n .args .scene) (start (d n)) (d n .loop .i) (d n .loop .j) (n .before .takes-first .result)) (event c)
 
 event-count-requires : tie.Need-event-count-requires Inv-loop μ-loop
@@ -198,7 +201,7 @@ key-after-requires-2 c κs =
 loop-holds : tie.Need-loop-holds Inv-loop μ-loop
 loop-holds c =
     let a = c .before .before .before .before .before .before .before .before .before .args in
-    (refl, refl, omega arith, omega arith, omega arith, run-start (a .s .now) (a .scene), noted-start (a .s .now) (a .scene) (a .notes .now), c .before .key-after .ensures, c .key-after2 .ensures, after-start (a .s .now) (a .scene), λ clear e m. absurd (in-nil m))
+    (refl, refl, omega arith, omega arith, omega arith, run-start (a .s .now) (a .scene), noted-start (a .s .now) (a .scene) (a .notes .now), c .before .key-after .ensures, c .key-after2 .ensures, after-start (a .s .now) (a .scene), λ pass e m. absurd (in-nil m))
 
 add-loop : tie.Need-add-loop Inv-loop μ-loop
 add-loop c = omega (arith, c .loop .inv .2, c .loop .inv .3, few c true, few c false)
@@ -214,8 +217,7 @@ take-event-requires c κs =
     let x = c .before .before in (
       y x .pre .0,
       within x,
-      d x .loop .inv .4,
-      entries-are (y x .args .s .now) (y x .args .scene) (start (d x)) (y x .pre .0) (d x .loop .inv .5) (reached-within (d x)),
+      record { room = d x .loop .inv .4; entries = entries-are (y x .args .s .now) (y x .args .scene) (start (d x)) (y x .pre .0) (d x .loop .inv .5) (reached-within (d x)) },
       room (d x),
     )
 
@@ -247,8 +249,8 @@ returns c =
     let e = t c .before .before .before in (
       still c,
       w c .loop .inv .1,
-      λ no. absurd no,
-      λ size clear. absurd (t c .take-event .ensures .2 (λ b. omega (arith, has-room e clear b, d e .loop .inv .0)) (can e clear) (c .enum-told .given .1)),
+      no (λ pass. t c .take-event .ensures .1 .goes-on (has-room e pass, can e pass) (c .enum-told .given .1)),
+      λ t. absurd t,
     )
 
 slot-requires : tie.Need-slot-requires Inv-loop μ-loop
@@ -337,26 +339,24 @@ module _ (c : tie.After-loop Inv-loop μ-loop) where
   of-g : b .loop .j ≡ all-of false
   of-g = omega (arith, b .loop .inv .2, b .loop .inv .3, b .before .before .before .before .event-count .ensures, b .before .before .before .event-count2 .ensures)
 
-  -- what holds of the elements and entries at the end
-  at-end : (P : ℕ → ℕ → List ℕ → Type 0) → b .loop .n ≡ 0 → P (b .loop .i) (b .loop .j) (take (b .loop .n) (b .loop .status)) → P (all-of true) (all-of false) []
-  at-end P e p =
-      subst (λ (i : ℕ). P i (all-of false) []) of-f
-      (subst (λ (j : ℕ). P (b .loop .i) j []) of-g (subst (λ (n : ℕ). P (b .loop .i) (b .loop .j) (take n (b .loop .status))) e p))
+  ends : (P : ℕ → ℕ → List ℕ → Type 0) → b .loop .n ≡ 0 → P (b .loop .i) (b .loop .j) (take (b .loop .n) (b .loop .status)) → P (all-of true) (all-of false) []
+  ends = at-end (z b .args .s .now) (z b .args .scene) (b .loop .status) of-f of-g
+
+  run-at-end : b .loop .n ≡ 0 → Run (z b .args .s .now) (z b .args .scene) (all-of true) (all-of false) []
+  run-at-end none = ends (Run (z b .args .s .now) (z b .args .scene)) none (b .loop .inv .5)
 
 returns-2 : tie.Need-returns-2 Inv-loop μ-loop
 returns-2 c =
     let b = c .before in
     let s = z b .args .s .now in
-    let sc = z b .args .scene in (
+    let sc = z b .args .scene in
+    let evenly = z b .pre .2 in (
       b .loop .inv .0,
       b .loop .inv .1,
-      λ t evenly.
-          let none = eqb→eq (b .loop .n) 0 t in
-          let run = at-end c (Run s sc) none (b .loop .inv .5) in
-          (passes s sc (start b) run evenly, notes-hold s sc (start b) run evenly (b .loop .notes) (at-end c (λ i j l. AllNoted s sc i j l (b .loop .notes)) none (b .loop .inv .6))),
-      λ size clear.
-          let none = none-active s sc (take (b .loop .n) (b .loop .status)) (subst (λ (i : ℕ). AllEndLater s sc i (all-of c false) (take (b .loop .n) (b .loop .status))) (of-f c) (subst (λ (j : ℕ). AllEndLater s sc (b .loop .i) j (take (b .loop .n) (b .loop .status))) (of-g c) (b .loop .inv .10 clear))) in
-          subst (λ (n : ℕ). T (eqb n 0)) (sym none ∙ length-take-le (b .loop .n) (b .loop .status) (b .loop .inv .4)) tt,
+      same-as (λ none. passes s sc (start b) (run-at-end c none) evenly) (λ pass. none-left s sc (b .loop .status) (of-f c) (of-g c) (b .loop .inv .4) (b .loop .inv .10 pass))
+          (by-equality (b .loop .n) 0),
+      λ t. let none = eqb→eq (b .loop .n) 0 t in
+          notes-hold s sc (start b) (run-at-end c none) evenly (b .loop .notes) (ends c (λ i j l. AllNoted s sc i j l (b .loop .notes)) none (b .loop .inv .6)),
     )
 
 pub run-events-spec : {M : Type 1} → statement M

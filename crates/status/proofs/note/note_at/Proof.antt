@@ -1,5 +1,5 @@
 -- `status::note::note_at` meets its contract: the index is that of the element.
-use Prim.Native.Nat.{ℕ, _+_, _<_, _≤_}
+use Prim.Native.Nat.{ℕ, _<_}
 use native.Mathlib.Omega.{arith}
 use mathlib.Core.Path.{_≡_, sym, ap, subst, _∙_}
 use mathlib.Core.Logic.{⊎-elim}

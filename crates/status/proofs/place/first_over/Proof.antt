@@ -1,6 +1,6 @@
--- `status::place::first_over` meets its contract. The loop's invariant: the entry at `high`, if there is one, passes over the point. The measure is
--- the number of entries in question.
-use Prim.Native.Nat.{ℕ, suc, _-_, _<_, _≤_}
+-- `status::place::first_over` meets its contract. The loop's invariant: the entry at `high`, if there is one, passes over the point, and the one just
+-- below `low` does not. The measure is the number of entries in question.
+use Prim.Native.Nat.{ℕ, _-_, _<_, _≤_}
 use native.Mathlib.Omega.{arith}
 use mathlib.Core.Bool.{false}
 use mathlib.Core.Path.{_≡_, sym, ap, _∙_}
@@ -10,11 +10,14 @@ use Rattle.whole.proofs.Logic.{is-true}
 use Rattle.plane.specs.declared.Segment.{Segment}
 use Rattle.scene.specs.Read.{segmentAt}
 use Rattle.strands.specs.Lower.{passesOver}
+use Rattle.strands.specs.Status.{BelowPlace}
+use Rattle.strands.proofs.Entries.{place-made}
 use Rattle.status.proofs.place.first_over.Statement.{statement}
 use Rattle.status.proofs.place.first_over.Tie as tie
 
 abbrev Inv-loop : tie.InvT-loop
-Inv-loop s p status n low₀ high₀ low high = (low ≤ high) × (high ≤ n) × (high < n → T (passesOver (segmentAt s (getD status high 0)) p)) × ((i : ℕ) → suc i ≡ low → passesOver (segmentAt s (getD status i 0)) p ≡ false)
+Inv-loop s p status n low₀ high₀ low high =
+    (low ≤ high) × (high ≤ n) × (high < n → T (passesOver (segmentAt s (getD status high 0)) p)) × BelowPlace status low (λ e. passesOver (segmentAt s e) p ≡ false)
 
 abbrev μ-loop : tie.MeasureT-loop
 μ-loop s p status n low₀ high₀ low high = high - low
@@ -65,7 +68,10 @@ loop-again-2 c =
     )
 
 returns : tie.Need-returns Inv-loop μ-loop
-returns c = let i = c .before .loop .inv in (i .1, i .2, λ k e. i .3 k (omega arith))
+returns c =
+    let z = c .before .before .before .before in
+    let i = c .before .loop .inv in
+    place-made (z .args .status .now) (z .args .n) (z .pre .1 .room) (i .1) (i .2) (λ k e. i .3 k (omega arith))
 
 pub first-over-spec : {M : Type 1} → statement M
 first-over-spec =

@@ -1,17 +1,19 @@
 -- `status::place::fits_over` meets its contract, by its two tests.
 use Prim.Native.Nat.{ℕ, suc, _-_}
 use native.Mathlib.Omega.{arith}
-use mathlib.Core.Path.{_≡_, subst, ap, _∙_}
+use mathlib.Core.Path.{_≡_, ap, _∙_}
 use mathlib.Core.Bool.{Bool, not, _&&_, _||_, Bool·beq}
 use borrow.Author.Needs.{needs}
 use lib.Dec.{T, ltb}
 use lib.ListN.{getD}
-use Rattle.whole.proofs.Logic.{is-true}
+use Rattle.whole.specs.Decides.{Decides}
+use Rattle.whole.proofs.Deciding.{yes, and-second, and-first}
 use Rattle.plane.specs.declared.Segment.{Segment}
 use Rattle.plane.specs.Plane.{segmentInRange, samePoint, sameSegment}
 use Rattle.scene.specs.Read.{segmentAt}
 use Rattle.strands.specs.Lower.{passesUnder, lowerAtRight}
-use Rattle.strands.proofs.Entries.{in-range-at, passed, passing}
+use Rattle.strands.specs.Event.{FitsOver}
+use Rattle.strands.proofs.Entries.{in-range-at, tested, none-below, by-below}
 use Rattle.status.proofs.place.fits_over.Statement.{statement}
 use Rattle.status.proofs.place.fits_over.Tie as tie
 
@@ -33,26 +35,16 @@ module _ (c : tie.After-segment) where
   own m = Bool·beq (z .args .first) (ltb m (z .args .scene .g .start))
 
   -- the entry is the one just below the place
-  module _ (i : ℕ) (e : suc i ≡ z .args .k) where
-    same : z .args .k - 1 ≡ i
-    same = omega arith
+  abbrev k′ : ℕ
+  k′ = z .args .k - 1
 
-    below : c .before .segment-of .result ≡ segmentAt (z .args .s .now) (entry i)
-    below = c .before .segment-of .ensures .0 ∙ ap (λ m. segmentAt (z .args .s .now) (entry m)) same
-
-    its-own : own (c .before .before .before .wide .result) ≡ own (entry i)
-    its-own = ap own (c .before .before .before .wide .ensures ∙ ap entry same)
-
-one : (a : tie.After-segment) → suc (z a .args .k - 1) ≡ z a .args .k
-one a = omega arith
-
--- its test
-module _ (w : tie.After-is-under-beginning) where
-  of-own : (i : ℕ) → (e : suc i ≡ z (w .before) .args .k) → w .is-under-beginning .result ≡ isUnder (w .before .before .segment-of .result) (w .before .segment .result) (own (w .before) (entry (w .before) i))
-  of-own i e = subst (λ (b : Bool). w .is-under-beginning .result ≡ isUnder (w .before .before .segment-of .result) (w .before .segment .result) b) (its-own (w .before) i e) (w .is-under-beginning .ensures)
+  below : c .before .segment-of .result ≡ segmentAt (z .args .s .now) (entry k′)
+  below = c .before .segment-of .ensures .0
 
 returns : tie.Need-returns
-returns c = (λ t i e. absurd (omega arith), λ w. tt)
+returns c =
+    let a = c .before .before .before .args in
+    yes (none-below (a .status .now) (a .k) (FitsOver (a .s .now) (a .scene) (a .first) (a .at)) (c .if1 .taken))
 
 sub-wide : tie.Need-sub-wide
 sub-wide c = search needs
@@ -81,24 +73,36 @@ is-under-beginning-requires c κs = in-range c
 is-lower-requires : tie.Need-is-lower-requires
 is-lower-requires c κs = in-range (c .before .before)
 
+-- by its two tests
+module _ (w : tie.After-is-under-beginning) where
+  abbrev a : tie.After-segment
+  a = w .before
+
+  abbrev x : tie.Start
+  x = z a
+
+  abbrev Fits : ℕ → Type 0
+  Fits = FitsOver (x .args .s .now) (x .args .scene) (x .args .first) (x .args .at)
+
+  belongs : Decides (T (isUnder (segmentAt (x .args .s .now) (entry a (k′ a))) (segmentAt (x .args .s .now) (x .args .at)) (own a (entry a (k′ a))))) (w .is-under-beginning .result)
+  belongs =
+      tested (λ u t. isUnder u t (own a (entry a (k′ a))))
+      (w .is-under-beginning .ensures ∙ ap (λ (e : ℕ). isUnder (a .before .segment-of .result) (a .segment .result) (own a e)) (a .before .before .before .wide .ensures))
+      (below a) (a .segment .ensures)
+
+  is-below : suc (k′ a) ≡ x .args .k
+  is-below = omega arith
+
 returns-2 : tie.Need-returns-2
 returns-2 c =
     let w = c .before .before in
-    let a = w .before in (
-      λ t i e. (
-        passed (λ u v. isUnder u v (own a (entry a i))) (of-own w i e) (below a i e) (a .segment .ensures) (is-true _ (c .before .if2 .taken)),
-        passed lowerAtRight (c .is-lower .ensures) (below a i e) (a .segment .ensures) t,
-      ),
-      λ q. passing lowerAtRight (c .is-lower .ensures) (below a (z a .args .k - 1) (one a)) (a .segment .ensures) (q (z a .args .k - 1) (one a) .1),
-    )
+    by-below (x w .args .status .now) (x w .args .k) (Fits w) (k′ (a w)) (is-below w)
+    (and-second (belongs w) (c .before .if2 .taken) (tested lowerAtRight (c .is-lower .ensures) (below (a w)) (a w .segment .ensures)))
 
 returns-3 : tie.Need-returns-3
 returns-3 c =
     let w = c .before in
-    let a = w .before in (
-      λ t i e. absurd (subst T (c .if2 .left) t),
-      λ q. (passing (λ u v. isUnder u v (own a (entry a (z a .args .k - 1)))) (of-own w (z a .args .k - 1) (one a)) (below a (z a .args .k - 1) (one a)) (a .segment .ensures) (q (z a .args .k - 1) (one a) .0)),
-    )
+    by-below (x w .args .status .now) (x w .args .k) (Fits w) (k′ (a w)) (is-below w) (and-first (belongs w) (c .if2 .left))
 
 pub fits-over-spec : {M : Type 1} → statement M
 fits-over-spec =

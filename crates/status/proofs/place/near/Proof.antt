@@ -1,6 +1,6 @@
 -- `status::place::near` meets its contract: each answer is a place that was tested, or the search's.
 use borrow.Author.Needs.{needs}
-use Rattle.whole.proofs.Logic.{is-true}
+use Rattle.whole.proofs.Deciding.{holds}
 use Rattle.status.proofs.place.near.Statement.{statement}
 use Rattle.status.proofs.place.near.Tie as tie
 
@@ -8,7 +8,7 @@ is-place-requires : tie.Need-is-place-requires
 is-place-requires c κs = search needs
 
 returns : tie.Need-returns
-returns c = c .before .is-place .ensures (is-true _ (c .if1 .taken))
+returns c = holds (c .before .is-place .ensures) (c .if1 .taken)
 
 add-is-place : tie.Need-add-is-place
 add-is-place c = search needs
@@ -20,7 +20,7 @@ add-result : tie.Need-add-result
 add-result c = search needs
 
 returns-2 : tie.Need-returns-2
-returns-2 c = c .before .is-place2 .ensures (is-true _ (c .if3 .taken))
+returns-2 c = holds (c .before .is-place2 .ensures) (c .if3 .taken)
 
 first-over-requires : tie.Need-first-over-requires
 first-over-requires c κs = search needs

@@ -1,20 +1,19 @@
 -- The order of the events in full: no event to come comes before one that has been taken, nor before the one that is next.
-use Prim.Native.Nat.{ℕ, _+_, _<_, _≤_}
+use Prim.Native.Nat.{ℕ, _<_, _≤_}
 use native.Mathlib.Nat.{eq-or-lt-of-le, not-suc-le-zero}
 use native.Mathlib.Omega.{arith}
-use mathlib.Core.Path.{_≡_, refl, sym, ap, _∙_, subst}
-use mathlib.Core.Logic.{_⊎_, inl, inr, ⊎-elim}
+use mathlib.Core.Path.{_≡_, refl, sym, ap, subst}
+use mathlib.Core.Logic.{_⊎_, ⊎-elim}
 use mathlib.Core.Bool.{Bool, true, false, not, _&&_, _||_, true≢false}
 use mathlib.Core.List.{List}
 use lib.Dec.{T, T-not, ltb}
-use lib.IntN.{pos}
-use borrow.Author.Tests.{ltb-true, ltb-false, lt-ltb}
+use borrow.Author.Tests.{ltb-false, lt-ltb}
 use Rattle.whole.proofs.Sign.{Pos, pos-ltZ0}
-use Rattle.whole.proofs.Logic.{or-left, or-right, and-make, and-right, or-cases, is-true, true-is}
+use Rattle.whole.proofs.Logic.{or-right, and-make, and-right, or-cases, is-true}
 use Rattle.plane.specs.declared.Point.{Point}
 use Rattle.plane.specs.declared.Segment.{Segment}
 use Rattle.plane.specs.declared.Halfsegment.{Halfsegment}
-use Rattle.plane.specs.Plane.{before, samePoint, side, ordered, dominating, farEnd, comesBefore}
+use Rattle.plane.specs.Plane.{before, samePoint, side, dominating, farEnd, comesBefore}
 use Rattle.plane.proofs.Equal.{samePoint-refl}
 use Rattle.plane.proofs.Order.{comes-irreflexive, comes-trans, halfOf}
 use Rattle.scene.specs.declared.Scene.{Scene}

@@ -1,33 +1,117 @@
--- In a region where the conditions 10 to 14 find no fault, each point is the dominating point of an even number of halfsegments, so that two by two they
--- share their dominating points.
-use Prim.Native.Nat.{ℕ, zero, suc, _+_, _-_, _%_, _<_, _≤_}
-use native.Mathlib.Nat.{eq-or-lt-of-le}
+-- Condition 13 by pairs of halfsegments: what is left of a parity from the element i on, and what the records of a pair give; that in a region where the
+-- conditions 10 to 14 find no fault each point is the dominating point of an even number of halfsegments; and that then, in order, two by two they
+-- share it.
+use Prim.Native.Nat.{ℕ, suc, _+_, _-_, _*_, _<_, _≤_, zero, _%_}
 use native.Mathlib.Omega.{arith}
-use mathlib.Core.Path.{_≡_, refl, sym, ap, ap₂, _∙_, subst, subst₂}
-use mathlib.Core.Bool.{Bool, true, false, not, _&&_, cond, true≢false}
-use mathlib.Core.List.{List, [], _∷_, map}
+use native.Mathlib.Nat.{eq-or-lt-of-le}
+use mathlib.Core.Path.{_≡_, sym, ap, ap₂, _∙_, refl, subst, subst₂}
+use mathlib.Core.Bool.{Bool, false, true, not, _&&_, cond, true≢false}
+use mathlib.Core.List.{List, _∷_, [], map}
 use mathlib.Core.Logic.{⊎-elim}
-use lib.Dec.{T, not-T, eqb}
+use lib.ListN.{length}
+use lib.Dec.{T, not-T}
 use borrow.Author.Tests.{eqb-false}
-use Rattle.whole.specs.Count.{_∈_, here, there, bit, odd, count}
+use Rattle.whole.proofs.Parity.{_⊻_, xor-same, xor-assoc, parity, parity-nil, parity-cons, xor-none, xor-false, parity-same, parity-xor, parity-none, odd-count, even-all, sorted-once}
+use Rattle.whole.specs.Count.{_∈_, odd, count}
 use Rattle.whole.proofs.Logic.{refute, true-is, in-map, map-in, Sorted, sorted-map}
-use Rattle.whole.proofs.Parity.{_⊻_, xor-none, xor-false, parity, parity-nil, parity-cons, parity-same, parity-xor, parity-none, odd-count, even-all, sorted-once}
 use Rattle.plane.specs.declared.Point.{Point}
+use Rattle.plane.specs.Plane.{samePoint, dominating, before, sameSegment, choose, comesBefore}
+use Rattle.plane.proofs.Equal.{samePoint-read, sameSegment-read, sameSegment-refl, samePoint-refl}
 use Rattle.plane.specs.declared.Segment.{Segment}
 use Rattle.plane.specs.declared.Halfsegment.{Halfsegment}
-use Rattle.plane.specs.Plane.{before, samePoint, sameSegment, dominating, choose, comesBefore}
-use Rattle.plane.proofs.Equal.{sameSegment-read, sameSegment-refl, samePoint-read, samePoint-refl}
 use Rattle.plane.proofs.Order.{before-irreflexive, comes-irreflexive, halfOf}
 use Rattle.scene.specs.declared.Layout.{Layout}
-use Rattle.scene.specs.Conditions.{indices, elements, keep, hasSegments, isRegion, half, isLeft, segments}
+use Rattle.scene.specs.Read.{size, place, halfsegmentAt, IsObject}
+use Rattle.scene.specs.Conditions.{indices, hasSegments, elements, keep, isRegion, half, isLeft, segments, outOfOrder}
+use Rattle.scene.proofs.Taken.{TakenObject, taken-object}
+use Rattle.scene.proofs.Given.{GoodHalfsegment, good-halfsegment}
+use Rattle.scene.specs.declared.Fault.the-variants.{Nothing}
 use Rattle.segments.proofs.Indices.{element-in, in-element, keep-in, in-keep, kept-rise, indices-in, halves-rise}
 use Rattle.segments.proofs.Elements.{region-segments}
-use Rattle.strands.specs.Evenly.{dominatedBy, EndsEvenly, Pairable}
-use Rattle.strands.proofs.Under.{NotBefore}
+use Rattle.strands.specs.Evenly.{dominatedBy, EndsEvenly}
+use Rattle.strands.proofs.Under.{NotBefore, not-before-both}
 use Rattle.strands.proofs.Ordered.{not-after}
-use Rattle.strands.proofs.Pairs.{parityFrom}
-use Rattle.strands.proofs.Located.{not-before-both}
 use Rattle.strands.proofs.SoundObject.{SoundObject, regular, segment-in, half-of}
+
+-- ---- a parity from the number i on
+
+module _ (f : ℕ → Bool) where
+  abbrev pub parityFrom : ℕ → ℕ → Bool
+  parityFrom i n = parity f (indices (n - i) i)
+
+  pub parity-all : (n : ℕ) → parity f (indices n 0) ≡ parityFrom 0 n
+  parity-all n = ap (λ (m : ℕ). parity f (indices m 0)) all
+    where
+      all : n ≡ n - 0
+      all = omega arith
+
+  pub parity-end : (i n : ℕ) → n ≤ i → parityFrom i n ≡ false
+  parity-end i n h = ap (λ (m : ℕ). parity f (indices m i)) none ∙ parity-nil f
+    where
+      none : n - i ≡ 0
+      none = omega arith
+
+  -- a pair that adds up to none
+  pub parity-pair : (i n : ℕ) → i + 1 < n → f i ⊻ f (i + 1) ≡ false → parityFrom i n ≡ parityFrom (i + 2) n
+  parity-pair i n h e =
+      ap (λ (m : ℕ). parity f (indices m i)) left
+      ∙ parity-cons f i (suc i ∷ later)
+      ∙ ap (λ (b : Bool). f i ⊻ b) (parity-cons f (suc i) later)
+      ∙ sym (xor-assoc (f i) (f (suc i)) (parity f later))
+      ∙ ap (λ (b : Bool). b ⊻ parity f later) (ap (λ (m : ℕ). f i ⊻ f m) one ∙ e)
+      ∙ ap (λ (m : ℕ). parity f (indices (n - (i + 2)) m)) two
+    where
+      left : n - i ≡ suc (suc (n - (i + 2)))
+      left = omega arith
+
+      one : suc i ≡ i + 1
+      one = omega arith
+
+      two : suc (suc i) ≡ i + 2
+      two = omega arith
+
+      later : List ℕ
+      later = indices (n - (i + 2)) (suc (suc i))
+
+-- ---- a pair of records at an offset and at the next
+
+pub record Pair (s : List ℕ) (l : Layout) (at step i : ℕ) : Type 0 where
+  pub first : at + 18 ≤ length s
+  pub second : at + step + 18 ≤ length s
+  pub fits : at + 2 * step ≤ length s
+  pub next : at + step ≡ place l (i + 1)
+  pub beyond : at + 2 * step ≡ place l (i + 2)
+
+pub pair : {s : List ℕ} {l : Layout} {at step i : ℕ} → IsObject s l → T (hasSegments (l .shape)) → at ≡ place l i → step ≡ size (l .shape)
+    → i + 1 < l .count → Pair s l at step i
+pair {s} {l} {at} {step} {i} is has e z h = record {
+  first = omega (arith, good i (omega arith) .there);
+  second = omega (arith, good (i + 1) h .there);
+  fits = omega (arith, taken .elements (i + 1) h .whole);
+  next = omega arith;
+  beyond = omega arith;
+}
+  where
+    taken : TakenObject s (l .start) l
+    taken = taken-object s (l .start) l is
+
+    good : (j : ℕ) → j < l .count → GoodHalfsegment s (place l j)
+    good j k = good-halfsegment taken j k has
+
+-- two records that share their dominating point
+pub shared : (s : List ℕ) (l : Layout) (i : ℕ) {at next : ℕ} → at ≡ place l i → next ≡ place l (i + 1)
+    → T (samePoint (dominating (halfsegmentAt s at)) (dominating (halfsegmentAt s next)))
+    → (v : Point) → dominatedBy s l v i ⊻ dominatedBy s l v (i + 1) ≡ false
+shared s l i {at} {next} e f t v =
+    ap₂ (λ (a b : ℕ). samePoint (dominating (halfsegmentAt s a)) v ⊻ samePoint (dominating (halfsegmentAt s b)) v) (sym e) (sym f)
+    ∙ ap (λ (p : Point). samePoint p v ⊻ samePoint q v) (samePoint-read p q t)
+    ∙ xor-same (samePoint q v)
+  where
+    p : Point
+    p = dominating (halfsegmentAt s at)
+
+    q : Point
+    q = dominating (halfsegmentAt s next)
 
 -- ---- parities
 
@@ -114,7 +198,7 @@ module _ {s : List ℕ} {l : Layout} (o : SoundObject s l) (region : T (isRegion
   none-odd : (f : Segment → Bool) → parity f (segments s l) ⊻ parity f rights ≡ false
   none-odd f = sym (both f) ∙ sym (parity-map f seg (elements l)) ∙ even-all sameSegment sameSegment-read sameSegment-refl (map seg (elements l)) twice f
 
-  ends-evenly : EndsEvenly s l
+  pub ends-evenly : EndsEvenly s l
   unfolding dominating
   ends-evenly v =
       parity-same (dominatedBy s l v) (λ i. (left i && samePoint (seg i .left) v) ⊻ (not (left i) && samePoint (seg i .right) v)) (elements l) (λ i m. at (left i) (seg i .left) (seg i .right))
@@ -127,33 +211,36 @@ module _ {s : List ℕ} {l : Layout} (o : SoundObject s l) (region : T (isRegion
       at true p q = sym (xor-false (samePoint p v))
       at false p q = refl
 
-  count-all : (n i : ℕ) → count (λ k. true) (indices n i) ≡ n
-  count-all zero i = refl
-  count-all (suc n) i = omega (arith, count-all n (suc i))
+-- ---- where each point is so evenly often
 
-  even-count : l .count % 2 ≡ 0
+count-all : (n i : ℕ) → count (λ k. true) (indices n i) ≡ n
+count-all zero i = refl
+count-all (suc n) i = omega (arith, count-all n (suc i))
+
+module _ (s : List ℕ) (l : Layout) (evenly : EndsEvenly s l) where
+  -- there is an even number of halfsegments
+  pub even-count : l .count % 2 ≡ 0
   unfolding odd
   even-count = go (eqb-false (l .count % 2) 1 none)
     where
+      at : ℕ → Point
+      at i = dominating (half s l i)
+
       none : odd (l .count) ≡ false
-      none = ap odd (sym (count-all (l .count) 0)) ∙ odd-count (λ k. true) (elements l) ∙ both (λ t. true) ∙ none-odd (λ t. true)
+      none =
+          ap odd (sym (count-all (l .count) 0)) ∙ odd-count (λ k. true) (elements l) ∙ sym (parity-map (λ (p : Point). true) at (elements l))
+          ∙ even-all (λ p q. samePoint q p) (λ p q t. sym (samePoint-read q p t)) samePoint-refl (map at (elements l)) (λ p m. parity-map (λ (q : Point). samePoint q p) at (elements l) ∙ evenly p) (λ p. true)
 
       go : (l .count % 2 ≡ 1 → ⊥) → l .count % 2 ≡ 0
       go h = omega arith
 
-  pub pairable : Pairable s l
-  pairable =
-      record {
-        even-count = even-count;
-        evenly = ends-evenly;
-        rises = λ i j h k. not-after (half s l i) (half s l j) (halves-rise s l (o .read) (o .order) has i j h k);
-      }
-
--- ---- where evenly many are left at each point, the next two share theirs
-
-module _ {s : List ℕ} {l : Layout} (p : Pairable s l) (i : ℕ) (h : i + 1 < l .count) (left : (v : Point) → parityFrom (dominatedBy s l v) i (l .count) ≡ false) where
+-- and where evenly many are left at each point, and points come in order, the next two share theirs
+module _ (s : List ℕ) (l : Layout) (is : IsObject s l) (has : T (hasSegments (l .shape))) (order : outOfOrder s l ≡ Nothing) (i : ℕ) (h : i + 1 < l .count) (left : (v : Point) → parityFrom (dominatedBy s l v) i (l .count) ≡ false) where
   abbrev at : ℕ → Point
   at k = dominating (half s l k)
+
+  rises : (j k : ℕ) → j < k → k < l .count → NotBefore (at k) (at j)
+  rises j k h b = not-after (half s l j) (half s l k) (halves-rise s l is order (true-is _ has) j k h b)
 
   pub next-shares : samePoint (at i) (at (i + 1)) ≡ false → ⊥
   next-shares n = true≢false (sym (ap (λ (m : ℕ). parity f (indices m i)) more ∙ parity-cons f i (indices (l .count - (i + 1)) (suc i)) ∙ ap₂ (λ a b. a ⊻ b) own (parity-none f (indices (l .count - (i + 1)) (suc i)) later)) ∙ left (at i))
@@ -168,7 +255,7 @@ module _ {s : List ℕ} {l : Layout} (p : Pairable s l) (i : ℕ) (h : i + 1 < l
       own = true-is (f i) (samePoint-refl (at i))
 
       later : (k : ℕ) → k ∈ indices (l .count - (i + 1)) (suc i) → f k ≡ false
-      later k m = refute (f k) (λ t. subst T n (subst (λ (q : Point). T (samePoint (at i) q)) (sym (not-before-both (at (i + 1)) (at i) (p .rises i (i + 1) (omega arith) h) (back (samePoint-read (at k) (at i) t)))) (samePoint-refl (at i))))
+      later k m = refute (f k) (λ t. subst T n (subst (λ (q : Point). T (samePoint (at i) q)) (sym (not-before-both (at (i + 1)) (at i) (rises i (i + 1) (omega arith) h) (back (samePoint-read (at k) (at i) t)))) (samePoint-refl (at i))))
         where
           k-after : suc i ≤ k
           k-after = indices-in (l .count - (i + 1)) (suc i) k m .0
@@ -182,4 +269,4 @@ module _ {s : List ℕ} {l : Layout} (p : Pairable s l) (i : ℕ) (h : i + 1 < l
           back : at k ≡ at i → NotBefore (at i) (at (i + 1))
           back e =
               subst (λ (q : Point). NotBefore q (at (i + 1))) e
-              (⊎-elim (λ q. subst (λ (m : ℕ). NotBefore (at m) (at (i + 1))) q (not-T (before (at (i + 1)) (at (i + 1))) (before-irreflexive (at (i + 1))))) (λ g. p .rises (i + 1) k g k-in) (eq-or-lt-of-le after-next))
+              (⊎-elim (λ q. subst (λ (m : ℕ). NotBefore (at m) (at (i + 1))) q (not-T (before (at (i + 1)) (at (i + 1))) (before-irreflexive (at (i + 1))))) (λ g. rises (i + 1) k g k-in) (eq-or-lt-of-le after-next))

@@ -5,18 +5,17 @@ use native.Mathlib.Omega.{arith}
 use mathlib.Core.Path.{_≡_, refl, sym, ap, _∙_, subst}
 use mathlib.Core.Logic.{⊎-elim}
 use mathlib.Core.Bool.{Bool, true, false, not, cond, Bool·beq}
-use mathlib.Core.List.{List, [], _∷_, _++_, map}
+use mathlib.Core.List.{List, [], _∷_, map}
 use lib.ListN.{length, getD, length-append, length-take, length-drop}
 use Rattle.whole.specs.Count.{_∈_, here, there, count}
-use Rattle.whole.proofs.Logic.{Sorted, sorted-nil, sorted-cons, in-nil, in-index, beq-same}
+use Rattle.whole.proofs.Logic.{Sorted, sorted-nil, sorted-cons, in-index, beq-same}
 use Rattle.scene.specs.declared.Scene.{Scene}
-use Rattle.scene.specs.Read.{place}
 use Rattle.strands.specs.Status.{removed}
-use Rattle.strands.specs.Kept.{Strand, Kept}
-use Rattle.strands.specs.Swept.{objectOf, strandAt, isBeginning, strandsBy, total}
+use Rattle.strands.specs.Kept.{Strand}
+use Rattle.strands.specs.Swept.{strandAt, isBeginning, strandsBy, total}
 use Rattle.strands.proofs.Begun.{strandBy, reached, strands, find-by, make-by}
 use Rattle.strands.proofs.Shifted.{removed-rest}
-use Rattle.strands.proofs.Run.{Orderly, isRegionOf, AllEndLater, Run}
+use Rattle.strands.proofs.Run.{Orderly, AllEndLater, Run}
 use Rattle.strands.proofs.Complete.{Fair}
 
 -- ---- lists
