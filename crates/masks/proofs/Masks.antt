@@ -2,19 +2,21 @@
 -- wanted and its sentence holds; and two zero masks give the vectors with every flag.
 use Prim.Native.Nat.{ℕ, _-_, _^_, _≤_}
 use native.Mathlib.Nat.{mod-eq-of-lt}
-use mathlib.Core.Path.{_≡_, refl, ap, _∙_, subst}
+use mathlib.Core.Path.{_≡_, refl, ap, _∙_}
 use mathlib.Core.Logic.{_⊎_}
 use mathlib.Core.Bool.{Bool, not}
 use mathlib.Core.List.{List}
 use lib.Arith.{le→nltb}
 use lib.Bits.{bitAnd, and-mask}
-use lib.Dec.{T, eqb, eqb→eq, eqb-refl, ltb, nltb→le}
+use lib.Dec.{T, ltb, nltb→le}
 use lib.ListN.{length}
+use Rattle.whole.specs.Decides.{Decides}
+use Rattle.whole.proofs.Deciding.{test-is, retest, by-equality, same-as, not-is, and-is, or-is}
 use Rattle.flags.specs.Flags.{Elements, points, line, region, flagsOfF, flagsOfG, pack, hasBit}
-use Rattle.flags.specs.Sentences.{sentencesOfF, sentencesOfG, sentence, Means}
+use Rattle.flags.specs.Sentences.{sentencesOfF, sentencesOfG, sentence}
 use Rattle.masks.specs.Wanted.{maskOfF, maskOfG, wanted, only, hasStray, anyStray, Stray, typeOf, vectorOfF, vectorOfG}
 use Rattle.flags.proofs.Bits.{pack-lt, and-bit, ones-bit, lost-bit, bit-lost}
-use Rattle.flags.proofs.Sentences.{test-is, retest, restate, not-is, and-is, or-is, bit-F, bit-G}
+use Rattle.flags.proofs.Sentences.{bit-F, bit-G}
 
 -- ---- the table
 
@@ -32,22 +34,20 @@ masks (region F) (region G) = (refl, refl)
 
 -- ---- a mask of ones, one for each flag
 
-same-number : (m n : ℕ) → Means (eqb m n) (m ≡ n)
-same-number m n = record { read = eqb→eq m n; make = λ e. subst (λ k. T (eqb m k)) e (eqb-refl m) }
-
 module _ (all : ℕ) (flags : List Bool) (ones : all ≡ 2 ^ length flags - 1) where
   has-flag : (k : ℕ) → hasBit all k ≡ ltb k (length flags)
   has-flag k = ap (λ m. hasBit m k) ones ∙ ones-bit (length flags) k
 
-  no-flag : (k : ℕ) → Means (not (hasBit all k)) (length flags ≤ k)
-  no-flag k = retest (ap not (has-flag k)) (record { read = nltb→le k (length flags); make = le→nltb k (length flags) })
+  no-flag : (k : ℕ) → Decides (length flags ≤ k) (not (hasBit all k))
+  no-flag k = retest (ap not (has-flag k)) (record { sound = nltb→le k (length flags); complete = le→nltb k (length flags) })
 
-  stray : (want : ℕ) → Means (hasStray all want) (Stray flags want)
+  stray : (want : ℕ) → Decides (Stray flags want) (hasStray all want)
   unfolding hasStray
   stray want =
-      restate (not-is (same-number (bitAnd want all) want))
-      (λ changed. let w = lost-bit want all changed in (w .0, w .1, no-flag (w .0) .read (w .2)))
-      (λ w. bit-lost want all (w .0, w .1, no-flag (w .0) .make (w .2)))
+      same-as
+      (λ changed. let w = lost-bit want all changed in (w .0, w .1, no-flag (w .0) .sound (w .2)))
+      (λ w. bit-lost want all (w .0, w .1, no-flag (w .0) .complete (w .2)))
+      (not-is (by-equality (bitAnd want all) want))
 
   whole : only all (pack flags) ≡ pack flags
   whole = ap (bitAnd (pack flags)) ones ∙ and-mask (pack flags) (length flags) ∙ mod-eq-of-lt (pack-lt flags)
@@ -55,8 +55,8 @@ module _ (all : ℕ) (flags : List Bool) (ones : all ≡ 2 ^ length flags - 1) w
 -- ---- refusal 9, and the vectors
 
 -- a bit of what is wanted of a vector
-only-bit : {P : Type 0} (mask v k : ℕ) → Means (hasBit v k) P → Means (hasBit (only mask v) k) (T (hasBit mask k) × P)
-only-bit mask v k h = retest (and-bit v mask k) (restate (and-is h (test-is (hasBit mask k))) (λ w. (w .1, w .0)) (λ w. (w .1, w .0)))
+only-bit : {P : Type 0} (mask v k : ℕ) → Decides P (hasBit v k) → Decides (T (hasBit mask k) × P) (hasBit (only mask v) k)
+only-bit mask v k h = retest (and-bit v mask k) (same-as (λ w. (w .1, w .0)) (λ w. (w .1, w .0)) (and-is h (test-is (hasBit mask k))))
 
 module _ (F G : Elements) where
   abbrev allF : ℕ
@@ -65,15 +65,15 @@ module _ (F G : Elements) where
   abbrev allG : ℕ
   allG = maskOfG (typeOf F) (typeOf G)
 
-  pub stray-wanted : (wantF wantG : ℕ) → Means (anyStray (typeOf F) (typeOf G) wantF wantG) (Stray (flagsOfF F G) wantF ⊎ Stray (flagsOfG F G) wantG)
+  pub stray-wanted : (wantF wantG : ℕ) → Decides (Stray (flagsOfF F G) wantF ⊎ Stray (flagsOfG F G) wantG) (anyStray (typeOf F) (typeOf G) wantF wantG)
   stray-wanted wantF wantG = or-is (stray allF (flagsOfF F G) (masks F G .0) wantF) (stray allG (flagsOfG F G) (masks F G .1) wantG)
 
   -- "A flag not wanted is 0", and any other is its sentence
-  pub vector-F : (wantF wantG k : ℕ) → Means (hasBit (vectorOfF F G wantF wantG) k) (T (hasBit (wanted allF wantF wantG) k) × sentence (sentencesOfF F G) k)
+  pub vector-F : (wantF wantG k : ℕ) → Decides (T (hasBit (wanted allF wantF wantG) k) × sentence (sentencesOfF F G) k) (hasBit (vectorOfF F G wantF wantG) k)
   unfolding vectorOfF
   vector-F wantF wantG k = only-bit (wanted allF wantF wantG) (pack (flagsOfF F G)) k (bit-F F G k)
 
-  pub vector-G : (wantF wantG k : ℕ) → Means (hasBit (vectorOfG F G wantF wantG) k) (T (hasBit (wanted allG wantG wantF) k) × sentence (sentencesOfG F G) k)
+  pub vector-G : (wantF wantG k : ℕ) → Decides (T (hasBit (wanted allG wantG wantF) k) × sentence (sentencesOfG F G) k) (hasBit (vectorOfG F G wantF wantG) k)
   unfolding vectorOfG
   vector-G wantF wantG k = only-bit (wanted allG wantG wantF) (pack (flagsOfG F G)) k (bit-G F G k)
 

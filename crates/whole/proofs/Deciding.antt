@@ -1,15 +1,33 @@
 -- What a test that decides a proposition says, either way, and how such a test is made.
 use Prim.Native.Nat.{ℕ}
 use mathlib.Core.Path.{_≡_, sym, subst}
-use mathlib.Core.Bool.{Bool, true, false, not}
-use lib.Dec.{T, T-not, eqb, eqb→eq}
+use mathlib.Core.Logic.{_⊎_, inl, inr, ⊎-elim}
+use mathlib.Core.Bool.{Bool, true, false, not, _&&_, _||_}
+use lib.Dec.{T, T-not, not-T, eqb, eqb→eq}
 use borrow.Author.Tests.{eq-eqb}
 use Rattle.whole.specs.Decides.{Decides}
-use Rattle.whole.proofs.Logic.{is-true}
+use Rattle.whole.proofs.Logic.{is-true, and-left, and-right, and-make, or-cases, or-left, or-right}
 
--- a test decides whether another is passed that is its equal
+-- a test decides whether it is passed itself
+pub test-is : (b : Bool) → Decides (T b) b
+test-is b = record { sound = λ t. t; complete = λ t. t }
+
+-- one test for another that is its equal
+pub retest : {a b : Bool} {P : Type 0} → a ≡ b → Decides P b → Decides P a
+retest e h = record { sound = λ t. h .sound (subst T e t); complete = λ p. subst T (sym e) (h .complete p) }
+
 pub by-test : {r b : Bool} → r ≡ b → Decides (T b) r
-by-test e = record { sound = subst T e; complete = subst T (sym e) }
+by-test {r} {b} e = retest e (test-is b)
+
+-- the Boolean operations
+pub not-is : {b : Bool} {P : Type 0} → Decides P b → Decides (¬ P) (not b)
+not-is {b} h = record { sound = λ t p. T-not b t (h .complete p); complete = λ n. not-T b (λ t. n (h .sound t)) }
+
+pub and-is : {a b : Bool} {P Q : Type 0} → Decides P a → Decides Q b → Decides (P × Q) (a && b)
+and-is {a} {b} h k = record { sound = λ t. (h .sound (and-left a b t), k .sound (and-right a b t)); complete = λ w. and-make a b (h .complete (w .0)) (k .complete (w .1)) }
+
+pub or-is : {a b : Bool} {P Q : Type 0} → Decides P a → Decides Q b → Decides (P ⊎ Q) (a || b)
+or-is {a} {b} h k = record { sound = λ t. ⊎-elim (λ s. inl (h .sound s)) (λ s. inr (k .sound s)) (or-cases a b t); complete = ⊎-elim (λ p. or-left a b (h .complete p)) (λ q. or-right a b (k .complete q)) }
 
 pub by-equality : (m n : ℕ) → Decides (m ≡ n) (eqb m n)
 by-equality m n = record { sound = eqb→eq m n; complete = λ e. is-true (eqb m n) (eq-eqb m n e) }
