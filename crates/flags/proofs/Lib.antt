@@ -1,5 +1,6 @@
 -- What belongs to no one function: the bits of a number, the boundary rule, the flags' sentences, tests over an object's elements, where the midpoint of a
 -- segment lies by the other object, and the elements of an object beside another.
+-- What belongs to no one function: marks, collected element by element.
 pub mod Bits
 pub mod Boundary
 pub mod Sentences
@@ -7,3 +8,4 @@ pub mod Elements
 pub mod Inside
 pub mod Clear
 pub mod SideBySide
+pub mod Marks

@@ -19,19 +19,19 @@ use Rattle.scene.specs.declared.Layout.{Layout}
 use Rattle.scene.specs.declared.Scene.{Scene}
 use Rattle.scene.specs.declared.CheckedScene.{CheckedScene}
 use Rattle.scene.specs.Conditions.{elements, keep, isRegion, isLeft, segments}
-use Rattle.checks.proofs.Laws.{SoundObject, ia-is}
-use Rattle.segments.proofs.Indices.{in-element}
+use Rattle.check_verdict.proofs.Laws.{SoundObject, ia-is}
+use Rattle.scene_segments.proofs.Indices.{in-element}
 use Rattle.flags.specs.Flags.{Edge, Elements, region, outline, hasSegment, midInside, midOutside, class01, class10, class12, class21, class02, class20, class11, flagsOfF, flagsOfG}
 use Rattle.flags.specs.Elements.{edgeOf, edges, elementsOf, elementsAs, sameIa, Clear}
 use Rattle.flags.proofs.Elements.{some-on, outline-edges}
 use Rattle.flags.proofs.Inside.{inside-on}
-use Rattle.adjoining.specs.Bytes.{merge, adjoins, byteOf}
-use Rattle.adjoining.proofs.Members.{merge-in, in-merge-f, in-merge-g}
-use Rattle.adjoining.proofs.Adjoins.{adjoins-other, edge-there, edge-find, Marked, adjoins-edge}
-use Rattle.merging.specs.Walked.{TwoRegions}
-use Rattle.merging.proofs.Clear.{either-clear}
-use Rattle.listable.specs.Rules.{checkList}
-use Rattle.listable.proofs.Checked.{listable}
+use Rattle.overlap.specs.Bytes.{merge, adjoins, byteOf}
+use Rattle.overlap.proofs.Members.{merge-in, in-merge-f, in-merge-g}
+use Rattle.overlap.proofs.Adjoins.{adjoins-other, edge-there, edge-find, Marked, adjoins-edge}
+use Rattle.overlap.specs.Walked.{TwoRegions}
+use Rattle.overlap.proofs.Clear.{either-clear}
+use Rattle.overlap.specs.Rules.{checkList}
+use Rattle.overlap.proofs.Checked.{listable}
 use Rattle.overlap.specs.Classes.{of-f, of-g, of-both, belongs, hasByte, classesOfF, classesOfG}
 
 -- ---- the byte by ia, and by "inside"

@@ -7,8 +7,8 @@ use Rattle.plane.specs.Plane.{within, before, samePoint, sameSegment, ordered, 
 use Rattle.scene.specs.Read.{signed, coordinate, kindOf, shapeOf, recordAt, elementsFrom, readObject, readScene}
 use Rattle.scene.specs.Conditions.{segments, inOrder, outOfOrder, partner, unpaired, touching, touchingItself, oddEnd, wrongIa, checkSceneBy}
 use Rattle.flags.specs.Elements.{edges}
-use Rattle.adjoining.specs.Bytes.{adjoins, overlapBytes}
-use Rattle.listable.specs.Rules.{checkList}
+use Rattle.overlap.specs.Bytes.{adjoins, overlapBytes}
+use Rattle.overlap.specs.Rules.{checkList}
 use Rattle.overlap.specs.Overlap.{overlapOf, bufferAfter}
 
 word : ℕ → List ℕ

@@ -3,6 +3,9 @@ use scene::CheckedScene;
 ghost use mathlib.Core.Path.{_≡_};
 ghost use Rattle.overlap.specs.Overlap.{overlapOf, bufferAfter};
 
+pub mod adjoining;
+pub mod merging;
+pub mod refusals;
 pub mod written;
 
 // An answer: number 0 where the list was written, else that of the refusal with its place; and how many bytes were written.
@@ -17,7 +20,7 @@ pub fn overlap_list(s: &[u8], list: &mut [u8]) -> Overlap
     ensures { λ r. ⌜ (r ≡ overlapOf (now (s .entry)) (now (list .entry))) × (now (list .exit) ≡ bufferAfter (now (s .entry)) (now (list .entry))) ⌝ }
 {
     let mut notes = [0u8; 2048];
-    match listable::check_list(s, list.len(), &mut notes) {
+    match refusals::check_list(s, list.len(), &mut notes) {
         CheckedScene::Refused(r) => Overlap {
             number: r.number,
             place: r.place,

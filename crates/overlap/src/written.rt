@@ -1,13 +1,14 @@
 // The list of two regions in a lent buffer: the byte of each different segment.
-use merging::ByteStep;
+use crate::merging;
+use crate::merging::ByteStep;
 use scene::Scene;
 ghost use mathlib.Core.Path.{_≡_};
 ghost use mathlib.Core.List.{_++_};
 ghost use Prim.Native.Nat.{_≤_};
 ghost use lib.ListN.{length, drop};
 ghost use Rattle.scene.specs.declared.CheckedScene.{CheckedScene as Checked};
-ghost use Rattle.strands.specs.Noted.{Noted};
-ghost use Rattle.listable.specs.Rules.{listOf, checkList};
+ghost use Rattle.sweep_laws.specs.Noted.{Noted};
+ghost use Rattle.overlap.specs.Rules.{listOf, checkList};
 
 // Writes the list from the start of a buffer with room for it, and says how long it is.
 pub fn write(s: &[u8], scene: Scene, notes: &[u8], list: &mut [u8]) -> usize

@@ -1,12 +1,12 @@
 // The sweep over the halfsegments of a scene, from left to right: it accepts exactly the scenes in order in which the conditions 11 to 15 find no fault.
 // How many of the other object's segments pass under each segment, or under each point, is then noted, as a parity.
-use event::Step;
 use scene::Layout;
 use scene::Scene;
 use scene::bytes;
 use scene::records;
-use status::note;
-use status::place;
+use sweep_event::Step;
+use sweep_status::note;
+use sweep_status::place;
 ghost use mathlib.Core.Path.{_≡_};
 ghost use mathlib.Core.Bool.{true, false, not, _&&_, cond};
 ghost use Prim.Native.Nat.{_<_, _≤_};
@@ -15,14 +15,15 @@ ghost use lib.ListN.{length, take};
 ghost use Rattle.whole.specs.Decides.{Decides};
 ghost use Rattle.scene.specs.Read.{IsObject, IsScene};
 ghost use Rattle.scene.specs.Conditions.{hasSegments};
-ghost use Rattle.keys.specs.Keyed.{nextKey};
-ghost use Rattle.strands.specs.Evenly.{RegionsEndEvenly};
-ghost use Rattle.strands.specs.Swept.{total, isBeginning, takesFirst, InOrder, Passes};
-ghost use Rattle.strands.specs.Event.{Taken, CanTake};
-ghost use Rattle.strands.specs.Ready.{Held};
-ghost use Rattle.strands.specs.Noted.{SegmentsNoted, Noted};
-ghost use Rattle.event.specs.Steps.{Steps};
+ghost use Rattle.scene_keys.specs.Keyed.{nextKey};
+ghost use Rattle.sweep_laws.specs.Evenly.{RegionsEndEvenly};
+ghost use Rattle.sweep_laws.specs.Swept.{total, isBeginning, takesFirst, InOrder, Passes};
+ghost use Rattle.sweep_laws.specs.Event.{Taken, CanTake};
+ghost use Rattle.sweep_laws.specs.Ready.{Held};
+ghost use Rattle.sweep_laws.specs.Noted.{SegmentsNoted, Noted};
+ghost use Rattle.sweep_event.specs.Steps.{Steps};
 
+pub mod evenly;
 pub mod points;
 
 // How many events an object has.
@@ -30,7 +31,7 @@ fn event_count(l: Layout) -> usize
     ensures { λ r. ⌜ r ≡ cond (hasSegments (l .shape)) (l .count) 0 ⌝ }
 {
     let k = l.shape;
-    if segments::has_segments(k) {
+    if scene_segments::has_segments(k) {
         l.count
     } else {
         0
@@ -55,7 +56,7 @@ fn takes_first(s: &[u8], scene: Scene, i: usize, j: usize, key_f: u64, key_g: u6
     }
     let h = bytes::halfsegment(s, records::place(f, i));
     let k = bytes::halfsegment(s, records::place(g, j));
-    !geometry::comes_before(k, h)
+    !plane_segments::comes_before(k, h)
 }
 
 // The key of the element i, where a step to it has been taken; the old one where not.
@@ -64,7 +65,7 @@ fn key_after(s: &[u8], l: Layout, stepped: bool, i: usize, old: u64) -> u64
     ensures { λ r. ⌜ r ≡ nextKey (now (s .entry)) l i ⌝ }
 {
     if stepped {
-        keys::key_of(s, l, i, records::place(l, i))
+        scene_keys::key_of(s, l, i, records::place(l, i))
     } else {
         old
     }
@@ -93,11 +94,11 @@ fn take_event(
     let l = if first { scene.f } else { scene.g };
     let at = records::place(l, k);
     let h = bytes::halfsegment(s, at);
-    let p = place::find(s, geometry::dominating_point(h), status, n, hint);
+    let p = place::find(s, plane_segments::dominating_point(h), status, n, hint);
     if h.is_left {
-        event::begin(s, scene, first, at, status, n, p)
+        sweep_event::begin(s, scene, first, at, status, n, p)
     } else {
-        event::end(s, scene, first, at, status, n, p, notes)
+        sweep_event::end(s, scene, first, at, status, n, p, notes)
     }
 }
 
@@ -140,7 +141,7 @@ fn has_points(scene: Scene) -> bool
     let g = scene.g;
     let k = f.shape;
     let l = g.shape;
-    !segments::has_segments(k) && segments::has_segments(l)
+    !scene_segments::has_segments(k) && scene_segments::has_segments(l)
 }
 
 // Do 11 to 15 find no fault in a scene in order? If so, each element is noted.

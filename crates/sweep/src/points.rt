@@ -1,11 +1,11 @@
 // The points of F where F has points and G segments: the sweep over G's halfsegments takes each before the first halfsegment that does not come
 // before it, and notes it by the segments that are active there.
-use event::Step;
 use plane::Point;
 use scene::Scene;
 use scene::bytes;
 use scene::records;
-use status::place;
+use sweep_event::Step;
+use sweep_status::place;
 ghost use mathlib.Core.Path.{_≡_};
 ghost use mathlib.Core.Bool.{false};
 ghost use Prim.Native.Nat.{_<_, _≤_};
@@ -16,11 +16,11 @@ ghost use Rattle.plane.specs.Plane.{inRange};
 ghost use Rattle.scene.specs.declared.Shape.the-variants.{Points};
 ghost use Rattle.scene.specs.Read.{IsScene};
 ghost use Rattle.scene.specs.Conditions.{hasSegments};
-ghost use Rattle.strands.specs.Ready.{Readable, Held};
-ghost use Rattle.strands.specs.Located.{NearNote, pointBy, isPointNext, PointsTaken};
-ghost use Rattle.strands.specs.Evenly.{RegionsEndEvenly};
-ghost use Rattle.strands.specs.Noted.{Noted};
-ghost use Rattle.strands.specs.Swept.{total, InOrder, Passes};
+ghost use Rattle.sweep_laws.specs.Ready.{Readable, Held};
+ghost use Rattle.sweep_laws.specs.Located.{NearNote, pointBy, isPointNext, PointsTaken};
+ghost use Rattle.sweep_laws.specs.Evenly.{RegionsEndEvenly};
+ghost use Rattle.sweep_laws.specs.Noted.{Noted};
+ghost use Rattle.sweep_laws.specs.Swept.{total, InOrder, Passes};
 
 // The note of a point by the first n entries. In order, those that pass under it come first, and those that pass over it last: the one just below
 // these, if there is one, passes under it or through it.
@@ -54,7 +54,7 @@ fn is_point_next(s: &[u8], scene: Scene, i: usize, j: usize) -> bool
     }
     let h = bytes::halfsegment(s, records::place(g, j));
     let v = bytes::point(s, records::place(f, i));
-    !plane::is_before(geometry::dominating_point(h), v)
+    !plane::is_before(plane_segments::dominating_point(h), v)
 }
 
 // The note of F's point i.

@@ -6,7 +6,7 @@ use lib.ListN.{length}
 use borrow.Author.Needs.{needs}
 use Rattle.scene.specs.declared.Scene.{Scene}
 use Rattle.scene.specs.declared.CheckedScene.{CheckedScene}
-use Rattle.listable.specs.Rules.{checkList}
+use Rattle.overlap.specs.Rules.{checkList}
 use Rattle.overlap.specs.declared.Overlap.{Overlap}
 use Rattle.overlap.specs.Overlap.{answer, lentAfter}
 use Rattle.overlap.proofs.overlap_list.Statement.{statement}

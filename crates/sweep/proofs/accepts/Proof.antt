@@ -8,9 +8,9 @@ use Rattle.whole.proofs.Logic.{is-true, is-false, true-is, false-is, and-left, 
 use Rattle.whole.proofs.Deciding.{no, accepted, refused}
 use Rattle.scene.specs.declared.Shape.the-variants.{Points}
 use Rattle.scene.specs.Conditions.{hasSegments}
-use Rattle.segments.proofs.Elements.{no-segments-points}
-use Rattle.strands.specs.Evenly.{RegionsEndEvenly}
-use Rattle.strands.proofs.GoesOn.{regions-end-evenly}
+use Rattle.scene_segments.proofs.Elements.{no-segments-points}
+use Rattle.sweep_laws.specs.Evenly.{RegionsEndEvenly}
+use Rattle.sweep_laws.proofs.GoesOn.{regions-end-evenly}
 use Rattle.sweep.proofs.accepts.Statement.{statement}
 use Rattle.sweep.proofs.accepts.Tie as tie
 

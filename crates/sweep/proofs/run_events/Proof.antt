@@ -10,24 +10,24 @@ use mathlib.Core.List.{List, []}
 use lib.Dec.{eqb→eq}
 use lib.ListN.{length, take, set, length-set}
 use borrow.Author.Needs.{needs}
-use Rattle.keys.specs.Keyed.{nextKey}
+use Rattle.scene_keys.specs.Keyed.{nextKey}
 use Rattle.scene.specs.Read.{IsObject}
-use Rattle.strands.specs.Swept.{slot, objectOf, isBeginning, total, Passes}
-use Rattle.strands.proofs.Begun.{reached}
-use Rattle.strands.specs.Event.{Taken, CanTake}
-use Rattle.strands.proofs.Run.{Run, Orderly, AllEndLater, run-start, advance}
-use Rattle.strands.proofs.EventOrder.{After, Earliest, rises, earliest, after-start, after-next}
-use Rattle.strands.proofs.Lasting.{none-left, at-end}
-use Rattle.strands.proofs.GoesOn
-use Rattle.strands.proofs.GoesOn.{goes-on, all-later}
+use Rattle.sweep_laws.specs.Swept.{slot, objectOf, isBeginning, total, Passes}
+use Rattle.sweep_laws.proofs.Begun.{reached}
+use Rattle.sweep_laws.specs.Event.{Taken, CanTake}
+use Rattle.sweep_laws.proofs.Run.{Run, Orderly, AllEndLater, run-start, advance}
+use Rattle.sweep_laws.proofs.EventOrder.{After, Earliest, rises, earliest, after-start, after-next}
+use Rattle.sweep_laws.proofs.Lasting.{none-left, at-end}
+use Rattle.sweep_laws.proofs.GoesOn
+use Rattle.sweep_laws.proofs.GoesOn.{goes-on, all-later}
 use Rattle.whole.proofs.Logic.{in-nil}
 use Rattle.whole.proofs.Deciding.{by-equality, no, same-as}
 use lib.Seq.{length-take-le}
-use Rattle.strands.proofs.Notes.{AllNoted, noted-start, noted-next, slot-room}
-use Rattle.strands.proofs.Objects.{read, few-events}
-use Rattle.strands.proofs.Ordered.{orderly}
-use Rattle.strands.proofs.Final.{passes, notes-hold}
-use Rattle.strands.proofs.Chosen.{Chosen, chosen, further, next-by, both-within, entries-are}
+use Rattle.sweep_laws.proofs.Notes.{AllNoted, noted-start, noted-next, slot-room}
+use Rattle.sweep_laws.proofs.Objects.{read, few-events}
+use Rattle.sweep_laws.proofs.Ordered.{orderly}
+use Rattle.sweep_laws.proofs.Final.{passes, notes-hold}
+use Rattle.sweep_laws.proofs.Chosen.{Chosen, chosen, further, next-by, both-within, entries-are}
 use Rattle.sweep.proofs.Next.{total-within}
 use Rattle.sweep.proofs.run_events.Statement.{statement}
 use Rattle.sweep.proofs.run_events.Tie as tie

@@ -14,12 +14,12 @@ use Rattle.plane.specs.Plane.{inRange, dominating, choose}
 use Rattle.scene.specs.declared.Layout.{Layout}
 use Rattle.scene.specs.Read.{segmentAt, halfsegmentAt, place}
 use Rattle.scene.proofs.Given.{GoodHalfsegment}
-use Rattle.keys.proofs.Elements.{dominating-in-range}
-use Rattle.strands.specs.Ready.{Ready}
-use Rattle.strands.specs.Swept.{objectOf, isFirst, isBeginning, Entry}
-use Rattle.strands.specs.Event.{Place, Began, Ended, CanBegin, CanEnd, it-began, it-ended}
-use Rattle.strands.proofs.Objects.{good, owned, entry}
-use Rattle.strands.proofs.Entries.{entry-readable, in-range-at, held-readable}
+use Rattle.scene_keys.proofs.Elements.{dominating-in-range}
+use Rattle.sweep_laws.specs.Ready.{Ready}
+use Rattle.sweep_laws.specs.Swept.{objectOf, isFirst, isBeginning, Entry}
+use Rattle.sweep_laws.specs.Event.{Place, Began, Ended, CanBegin, CanEnd, it-began, it-ended}
+use Rattle.sweep_laws.proofs.Objects.{good, owned, entry}
+use Rattle.sweep_laws.proofs.Entries.{entry-readable, in-range-at, held-readable}
 use Rattle.sweep.proofs.take_event.Statement.{statement}
 use Rattle.sweep.proofs.take_event.Tie as tie
 

@@ -7,12 +7,12 @@ use mathlib.Core.List.{List, [], _∷_, map}
 use lib.ListN.{length}
 use borrow.Author.Needs.{needs}
 use Rattle.flags.specs.Elements.{edges}
-use Rattle.classes.proofs.Standing.{Standing, standing}
-use Rattle.adjoining.specs.Bytes.{byteOf}
-use Rattle.merging.specs.declared.ByteStep.{ByteStep}
-use Rattle.merging.specs.Walked.{NextByte, ByteStepped}
-use Rattle.merging.proofs.Listing.{allBytes, bytesFrom, bytes-start}
-use Rattle.listable.proofs.Checked.{Listable, listable}
+use Rattle.flags_classes.proofs.Standing.{Standing, standing}
+use Rattle.overlap.specs.Bytes.{byteOf}
+use Rattle.overlap.specs.declared.merging.ByteStep.{ByteStep}
+use Rattle.overlap.specs.Walked.{NextByte, ByteStepped}
+use Rattle.overlap.proofs.Listing.{allBytes, bytesFrom, bytes-start}
+use Rattle.overlap.proofs.Checked.{Listable, listable}
 use Rattle.overlap.proofs.Filled.{Filled, filled-none, filled-count, filled-length, filled-more, filled-all}
 use Rattle.overlap.proofs.written.write.Statement.{statement}
 use Rattle.overlap.proofs.written.write.Tie as tie

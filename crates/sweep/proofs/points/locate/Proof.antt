@@ -17,11 +17,11 @@ use Rattle.plane.specs.Plane.{side}
 use Rattle.plane.proofs.Machine.{turn-asks, small-fits, bits-eq, eqZ-yes}
 use Rattle.scene.specs.Read.{segmentAt}
 use Rattle.scene.proofs.Given.{GoodHalfsegment}
-use Rattle.segments.proofs.Walk.{byte-bit}
-use Rattle.strands.specs.Lower.{passesUnder}
-use Rattle.strands.specs.Located.{on-entry, between}
-use Rattle.strands.proofs.Entries.{in-range-at, first-length, none-below}
-use Rattle.strands.proofs.Located.{under-else}
+use Rattle.scene_segments.proofs.Walk.{byte-bit}
+use Rattle.sweep_laws.specs.Lower.{passesUnder}
+use Rattle.sweep_laws.specs.Located.{on-entry, between}
+use Rattle.sweep_laws.proofs.Entries.{in-range-at, first-length, none-below}
+use Rattle.sweep_laws.proofs.Located.{under-else}
 use Rattle.sweep.proofs.points.locate.Statement.{statement}
 use Rattle.sweep.proofs.points.locate.Tie as tie
 

@@ -7,9 +7,9 @@ use Rattle.plane.specs.declared.Point.{Point}
 use Rattle.plane.specs.Plane.{inRange}
 use Rattle.scene.specs.Read.{place, pointAt}
 use Rattle.scene.proofs.Given.{GoodPoint}
-use Rattle.strands.specs.Located.{NearNote, pointBy}
-use Rattle.strands.proofs.Entries.{held-readable}
-use Rattle.strands.proofs.Objects.{point-good}
+use Rattle.sweep_laws.specs.Located.{NearNote, pointBy}
+use Rattle.sweep_laws.proofs.Entries.{held-readable}
+use Rattle.sweep_laws.proofs.Objects.{point-good}
 use Rattle.sweep.proofs.points.note_of.Statement.{statement}
 use Rattle.sweep.proofs.points.note_of.Tie as tie
 

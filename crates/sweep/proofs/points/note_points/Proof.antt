@@ -6,8 +6,8 @@ use mathlib.Core.Path.{sym, _∙_}
 use lib.Dec.{T}
 use lib.ListN.{length, take}
 use Rattle.whole.proofs.Logic.{is-true}
-use Rattle.strands.specs.Located.{isPointNext, PointsTaken}
-use Rattle.strands.proofs.PointRun.{next-within, points-none, points-more}
+use Rattle.sweep_laws.specs.Located.{isPointNext, PointsTaken}
+use Rattle.sweep_laws.proofs.PointRun.{next-within, points-none, points-more}
 use Rattle.sweep.proofs.points.note_points.Statement.{statement}
 use Rattle.sweep.proofs.points.note_points.Tie as tie
 

@@ -9,23 +9,23 @@ use lib.Dec.{eqb→eq}
 use lib.ListN.{length, take, set, length-set}
 use lib.Seq.{getD-set-other, length-take-le}
 use borrow.Author.Needs.{needs}
-use Rattle.strands.specs.Swept.{isBeginning, total, Passes}
-use Rattle.strands.specs.Located.{isPointNext}
-use Rattle.strands.proofs.Begun.{reached, Next}
-use Rattle.strands.specs.Event.{Taken, CanTake}
-use Rattle.strands.specs.Ready.{Held}
-use Rattle.strands.proofs.EventOrder.{After, Earliest, rises, not-earlier, after-start, after-next}
-use Rattle.strands.proofs.Lasting.{none-left, at-end}
-use Rattle.strands.proofs.GoesOn
-use Rattle.strands.proofs.GoesOn.{goes-on, all-later}
+use Rattle.sweep_laws.specs.Swept.{isBeginning, total, Passes}
+use Rattle.sweep_laws.specs.Located.{isPointNext}
+use Rattle.sweep_laws.proofs.Begun.{reached, Next}
+use Rattle.sweep_laws.specs.Event.{Taken, CanTake}
+use Rattle.sweep_laws.specs.Ready.{Held}
+use Rattle.sweep_laws.proofs.EventOrder.{After, Earliest, rises, not-earlier, after-start, after-next}
+use Rattle.sweep_laws.proofs.Lasting.{none-left, at-end}
+use Rattle.sweep_laws.proofs.GoesOn
+use Rattle.sweep_laws.proofs.GoesOn.{goes-on, all-later}
 use Rattle.whole.proofs.Logic.{in-nil}
 use Rattle.whole.proofs.Deciding.{by-equality, no, same-as}
-use Rattle.strands.proofs.Run.{Run, Orderly, AllEndLater, run-start, later-taken, advance}
-use Rattle.strands.proofs.Notes.{AllNoted, noted-start, noted-next}
-use Rattle.strands.proofs.Objects.{few-elements, few-events}
-use Rattle.strands.proofs.Final.{passes, notes-hold}
-use Rattle.strands.proofs.Chosen.{Chosen, next-by, both-within, entries-are}
-use Rattle.strands.proofs.PointRun.{Passed, passed-none, still-noted, start, no-events, only-second, passed-points, passed-event, all-noted}
+use Rattle.sweep_laws.proofs.Run.{Run, Orderly, AllEndLater, run-start, later-taken, advance}
+use Rattle.sweep_laws.proofs.Notes.{AllNoted, noted-start, noted-next}
+use Rattle.sweep_laws.proofs.Objects.{few-elements, few-events}
+use Rattle.sweep_laws.proofs.Final.{passes, notes-hold}
+use Rattle.sweep_laws.proofs.Chosen.{Chosen, next-by, both-within, entries-are}
+use Rattle.sweep_laws.proofs.PointRun.{Passed, passed-none, still-noted, start, no-events, only-second, passed-points, passed-event, all-noted}
 use Rattle.sweep.proofs.points.run_points.Statement.{statement}
 use Rattle.sweep.proofs.points.run_points.Tie as tie
 

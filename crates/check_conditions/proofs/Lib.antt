@@ -1,0 +1,6 @@
+-- Laws of the search for a place in the order.
+-- That the earliest record at fault by the tests of one element is that of the definitions.
+-- What the loops over points and over halfsegments have in common.
+pub mod Halving
+pub mod Earliest
+pub mod Pass
