@@ -1,6 +1,4 @@
--- What the tests promise of the elements of an object.
--- What the tests promise of the elements of an object.
--- What the functions promise of the elements of an object.
+-- What the tests of one element promise, and the earliest fault under each condition.
 pub mod Partners
 pub mod Odd
 pub mod Faults

@@ -1,5 +1,5 @@
 -- The conditions 13 and 14 as tests of one element. Each rests on the conditions before it and looks at fewer elements than its definition in scene's
--- Conditions.antt; where they hold, the earliest record at fault is the same (conditions, proofs/Earliest.antt).
+-- Conditions.antt; where they hold, the earliest record at fault is the same (proofs/Earliest.antt).
 use Prim.Native.Nat.{ℕ, _-_}
 use mathlib.Core.Bool.{Bool, not, _&&_, _||_, Bool·beq}
 use mathlib.Core.List.{List}

@@ -1,5 +1,5 @@
 -- The partner of a halfsegment, sought at its one place in the order. The test rests on condition 10 and looks at fewer elements than the definition in
--- scene's Conditions.antt; where 10 finds no fault, the earliest record at fault is the same (conditions, proofs/Earliest.antt).
+-- scene's Conditions.antt; where 10 finds no fault, the earliest record at fault is the same (proofs/Earliest.antt).
 use Prim.Native.Nat.{ℕ, zero, suc, _+_, _/_}
 use mathlib.Core.Bool.{Bool, not, _&&_, cond}
 use mathlib.Core.List.{List}

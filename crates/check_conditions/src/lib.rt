@@ -1,44 +1,30 @@
-// The conditions 10 to 15 by their numbers, as tests of one element, and the earliest element at fault under each.
+// The conditions 10 to 15 by their numbers, as tests of one element, and the earliest element at fault under each. A file for each condition:
+// order 10, partners 11, touch 12 and 15, ends 13, interior 14.
 use scene::Fault;
 use scene::Layout;
-use scene::bytes;
 use scene::records;
 ghost use mathlib.Core.Path.{_≡_};
-ghost use Prim.Native.Nat.{_<_, _≤_};
+ghost use Prim.Native.Nat.{_<_};
 ghost use Rattle.scene.specs.Read.{IsObject};
-ghost use Rattle.check_conditions.specs.Faults.{touchesAny, isAtFault, faultUnder};
+ghost use Rattle.check_conditions.specs.Faults.{isAtFault, faultUnder};
 
+pub mod ends;
+pub mod interior;
 pub mod order;
-pub mod parity;
 pub mod partners;
-
-// ---- 12 and 15: a segment that shares with one of other's, from the element k on, a point that is not an end of both
-
-fn is_touching(s: &[u8], l: Layout, other: Layout, k: usize, i: usize) -> bool
-    requires { ⌜ IsObject (now s) l × IsObject (now s) other × (k ≤ other .count) × (i < l .count) ⌝ }
-    ensures { λ r. ⌜ r ≡ touchesAny (now (s .entry)) l other k i ⌝ }
-{
-    let shape = l.shape;
-    if !scene_segments::has_segments(shape) {
-        return false;
-    }
-    let h = bytes::halfsegment(s, records::place(l, i));
-    h.is_left && scene_segments::touches_from(s, other, h.segment, k)
-}
-
-// ---- by number
+pub mod touch;
 
 fn is_at_fault(s: &[u8], l: Layout, other: Layout, number: u8, i: usize) -> bool
     requires { ⌜ IsObject (now s) l × IsObject (now s) other × (i < l .count) ⌝ }
     ensures { λ r. ⌜ r ≡ isAtFault (now (s .entry)) l other number i ⌝ }
 {
     match number {
-        10 => partners::is_misplaced(s, l, i),
+        10 => order::is_misplaced(s, l, i),
         11 => partners::is_unpaired(s, l, i),
-        12 => is_touching(s, l, l, i + 1, i),
-        13 => parity::ends_oddly(s, l, i),
-        14 => parity::has_wrong_ia(s, l, i),
-        _ => is_touching(s, l, other, 0, i),
+        12 => touch::is_touching(s, l, l, i + 1, i),
+        13 => ends::ends_oddly(s, l, i),
+        14 => interior::has_wrong_ia(s, l, i),
+        _ => touch::is_touching(s, l, other, 0, i),
     }
 }
 

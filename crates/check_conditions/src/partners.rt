@@ -1,5 +1,5 @@
-// The conditions 10 and 11 as tests of one element, by its index: that it stands after the one before, and that its partner stands at its one place in
-// the order.
+// Condition 11 as a test of one element, by its index: a halfsegment with no partner of opposite d, equal ends and ia, which is looked for at its one
+// place in the order.
 use plane::Halfsegment;
 use scene::Layout;
 use scene::Shape;
@@ -12,37 +12,9 @@ ghost use lib.ListN.{length};
 ghost use lib.Dec.{T};
 ghost use Rattle.plane.specs.Plane.{segmentInRange};
 ghost use Rattle.scene.specs.Read.{halfsegmentAt, iaAt, size, IsObject};
-ghost use Rattle.scene.specs.Conditions.{hasSegments, isRegion, inOrder, isMisplaced};
+ghost use Rattle.scene.specs.Conditions.{hasSegments, isRegion};
 ghost use Rattle.scene_segments.specs.Walked.{partners};
 ghost use Rattle.check_conditions.specs.Partners.{placeFor, hasPartner};
-
-// ---- 10: element not strictly after the one before
-
-fn in_order(s: &[u8], l: Layout, i: usize, j: usize) -> bool
-    requires { ⌜ IsObject (now s) l × (i < l .count) × (j < l .count) ⌝ }
-    ensures { λ r. ⌜ r ≡ inOrder (now (s .entry)) l i j ⌝ }
-{
-    let at = records::place(l, i);
-    let next = records::place(l, j);
-    let k = l.shape;
-    if scene_segments::has_segments(k) {
-        plane_segments::comes_before(bytes::halfsegment(s, at), bytes::halfsegment(s, next))
-    } else {
-        plane::is_before(bytes::point(s, at), bytes::point(s, next))
-    }
-}
-
-pub fn is_misplaced(s: &[u8], l: Layout, i: usize) -> bool
-    requires { ⌜ IsObject (now s) l × (i < l .count) ⌝ }
-    ensures { λ r. ⌜ r ≡ isMisplaced (now (s .entry)) l i ⌝ }
-{
-    if i == 0 {
-        return false;
-    }
-    !in_order(s, l, i - 1, i)
-}
-
-// ---- 11: halfsegment with no partner of opposite d, equal ends and ia
 
 // ia, which a region's halfsegment alone has.
 fn ia_at(s: &[u8], k: Shape, at: usize) -> bool

@@ -1,7 +1,5 @@
--- The overlap list of two regions, from their edges alone.
--- What the walk over the different segments of two regions promises.
--- Which scenes have an overlap list that fits a buffer.
--- The overlap list: what is answered, the class flags in the list, and worked examples.
+-- The overlap list of two regions: its bytes from their edges alone, the walk over their different segments, the scenes that have a list which fits a
+-- buffer, what is answered, the class flags in the list, and worked examples.
 pub mod Bytes
 pub mod Walked
 pub mod Rules

@@ -12,9 +12,9 @@ use Rattle.check_verdict.proofs.Laws.{SoundScene}
 use Rattle.flags.specs.Elements.{edges}
 use Rattle.flags_classes.proofs.Standing.{Standing}
 use Rattle.overlap.specs.Bytes.{merge, byteOf}
-use Rattle.overlap.specs.declared.merging.Step.{Step}
-use Rattle.overlap.specs.declared.merging.Step.the-variants.{Next, End}
-use Rattle.overlap.specs.declared.merging.ByteStep.{ByteStep}
+use Rattle.overlap.specs.declared.walk.Step.{Step}
+use Rattle.overlap.specs.declared.walk.Step.the-variants.{Next, End}
+use Rattle.overlap.specs.declared.walk.ByteStep.{ByteStep}
 
 -- the segments of the elements from i on
 unfoldable pub segmentsFrom : List ℕ → Layout → ℕ → List Segment

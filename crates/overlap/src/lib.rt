@@ -4,8 +4,8 @@ ghost use mathlib.Core.Path.{_≡_};
 ghost use Rattle.overlap.specs.Overlap.{overlapOf, bufferAfter};
 
 pub mod adjoining;
-pub mod merging;
 pub mod refusals;
+pub mod walk;
 pub mod written;
 
 // An answer: number 0 where the list was written, else that of the refusal with its place; and how many bytes were written.

@@ -1,5 +1,5 @@
 // Whether a scene has an overlap list that fits a buffer: the scene's bytes checked whole, with 16 and 17 last.
-use crate::merging;
+use crate::walk;
 use check_verdict::Verdict;
 use scene::CheckedScene;
 use scene::Fault;
@@ -40,7 +40,7 @@ fn judge(s: &[u8], scene: Scene, room: usize) -> CheckedScene
         Fault::Nothing => {
             let f = scene.f;
             let g = scene.g;
-            if room < merging::count(s, f, g) {
+            if room < walk::count(s, f, g) {
                 return CheckedScene::Refused(Refusal {
                     number: 17,
                     place: 0,

@@ -1,6 +1,6 @@
 // The list of two regions in a lent buffer: the byte of each different segment.
-use crate::merging;
-use crate::merging::ByteStep;
+use crate::walk;
+use crate::walk::ByteStep;
 use scene::Scene;
 ghost use mathlib.Core.Path.{_≡_};
 ghost use mathlib.Core.List.{_++_};
@@ -19,7 +19,7 @@ pub fn write(s: &[u8], scene: Scene, notes: &[u8], list: &mut [u8]) -> usize
     let mut i: usize = 0;
     let mut j: usize = 0;
     loop {
-        match merging::next_byte(s, scene, notes, i, j) {
+        match walk::next_byte(s, scene, notes, i, j) {
             ByteStep::Next { byte, i: k, j: m } => {
                 list[n] = byte;
                 i = k;

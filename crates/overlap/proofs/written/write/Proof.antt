@@ -9,7 +9,7 @@ use borrow.Author.Needs.{needs}
 use Rattle.flags.specs.Elements.{edges}
 use Rattle.flags_classes.proofs.Standing.{Standing, standing}
 use Rattle.overlap.specs.Bytes.{byteOf}
-use Rattle.overlap.specs.declared.merging.ByteStep.{ByteStep}
+use Rattle.overlap.specs.declared.walk.ByteStep.{ByteStep}
 use Rattle.overlap.specs.Walked.{NextByte, ByteStepped}
 use Rattle.overlap.proofs.Listing.{allBytes, bytesFrom, bytes-start}
 use Rattle.overlap.proofs.Checked.{Listable, listable}

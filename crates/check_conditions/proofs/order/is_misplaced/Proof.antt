@@ -1,12 +1,12 @@
--- `check_conditions::partners::is_misplaced` meets its contract: the first element is never at fault, any other where it is not in order after the one before.
+-- `check_conditions::order::is_misplaced` meets its contract: the first element is never at fault, any other where it is not in order after the one before.
 use Prim.Native.Nat.{_<_}
 use native.Mathlib.Omega.{arith}
 use mathlib.Core.Path.{ap}
 use mathlib.Core.Bool.{not}
 use borrow.Author.Needs.{needs}
 use borrow.Author.Tests.{lt-ltb}
-use Rattle.check_conditions.proofs.partners.is_misplaced.Statement.{statement}
-use Rattle.check_conditions.proofs.partners.is_misplaced.Tie as tie
+use Rattle.check_conditions.proofs.order.is_misplaced.Statement.{statement}
+use Rattle.check_conditions.proofs.order.is_misplaced.Tie as tie
 
 returns : tie.Need-returns
 returns c = rw (c .if1 .taken)

@@ -1,4 +1,4 @@
--- `overlap::merging::count` meets its contract. The loop's invariant: `n` segments came before those from `i` and `j` on.
+-- `overlap::walk::count` meets its contract. The loop's invariant: `n` segments came before those from `i` and `j` on.
 -- The measure is the number of elements that are left.
 use Prim.Native.Nat.{_+_, _-_, _≤_}
 use native.Mathlib.Omega.{arith}
@@ -6,11 +6,11 @@ use mathlib.Core.Path.{_≡_, ap, subst}
 use mathlib.Core.List.{[]}
 use lib.ListN.{length}
 use borrow.Author.Needs.{needs}
-use Rattle.overlap.specs.declared.merging.Step.{Step}
+use Rattle.overlap.specs.declared.walk.Step.{Step}
 use Rattle.overlap.specs.Walked.{mergedFrom, NextIs, Stepped}
 use Rattle.overlap.proofs.Listing.{few, count-start}
-use Rattle.overlap.proofs.merging.count.Statement.{statement}
-use Rattle.overlap.proofs.merging.count.Tie as tie
+use Rattle.overlap.proofs.walk.count.Statement.{statement}
+use Rattle.overlap.proofs.walk.count.Tie as tie
 
 abbrev Inv-loop : tie.InvT-loop
 Inv-loop s f g n₀ i₀ j₀ n i j =

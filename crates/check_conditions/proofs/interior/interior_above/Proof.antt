@@ -1,4 +1,4 @@
--- `check_conditions::parity::interior_above` meets its contract: the rule for upright segments, or the one for the others.
+-- `check_conditions::interior::interior_above` meets its contract: the rule for upright segments, or the one for the others.
 use mathlib.Core.Path.{_≡_, sym, ap, _∙_}
 use mathlib.Core.Bool.{not, or-false}
 use mir.Syntax.{w32}
@@ -7,8 +7,8 @@ use borrow.Author.Needs.{needs}
 use Rattle.whole.specs.Count.{odd}
 use Rattle.plane.proofs.Machine.{Held, bits-eq, eqZ-yes, eqZ-no, left-in-doubled, right-in-doubled, doubled-held}
 use Rattle.scene_segments.specs.Walked.{countBelow}
-use Rattle.check_conditions.proofs.parity.interior_above.Statement.{statement}
-use Rattle.check_conditions.proofs.parity.interior_above.Tie as tie
+use Rattle.check_conditions.proofs.interior.interior_above.Statement.{statement}
+use Rattle.check_conditions.proofs.interior.interior_above.Tie as tie
 
 module _ (z : tie.Start) where
   left-held : Held (z .args .t .left)

@@ -1,4 +1,4 @@
--- `overlap::merging::next_step` meets its contract: what comes next in the walk over the left halfsegments is the head of the merged lists.
+-- `overlap::walk::next_step` meets its contract: what comes next in the walk over the left halfsegments is the head of the merged lists.
 use native.Mathlib.Omega.{arith}
 use mathlib.Core.Path.{_≡_, subst}
 use borrow.Author.Needs.{needs}
@@ -7,8 +7,8 @@ use Rattle.flags_classes.specs.Walked.{NextOfF, NextOfG, NextOfBoth, Stepped}
 use Rattle.flags_classes.proofs.Merging.{left-has}
 use Rattle.overlap.proofs.Merging.{list-f, list-g, list-both, list-end}
 use Rattle.overlap.proofs.Listing.{few}
-use Rattle.overlap.proofs.merging.next_step.Statement.{statement}
-use Rattle.overlap.proofs.merging.next_step.Tie as tie
+use Rattle.overlap.proofs.walk.next_step.Statement.{statement}
+use Rattle.overlap.proofs.walk.next_step.Tie as tie
 
 module _ (d : tie.After-next-step) where
   abbrev z : tie.Start

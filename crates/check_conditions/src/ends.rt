@@ -1,18 +1,15 @@
-// The conditions 13 and 14 as tests of one element, by its index: each asks whether a number of the region's segments is odd.
+// Condition 13 as a test of one element, by its index: a region's end in an odd number of its segments, by the first element that has it.
 use plane::Point;
-use plane::Segment;
 use scene::Layout;
 use scene::bytes;
 use scene::records;
 ghost use mathlib.Core.Path.{_≡_};
 ghost use Prim.Native.Nat.{_<_};
 ghost use lib.Dec.{T};
-ghost use Rattle.plane.specs.Plane.{segmentInRange, dominating};
+ghost use Rattle.plane.specs.Plane.{dominating};
 ghost use Rattle.scene.specs.Read.{IsObject};
 ghost use Rattle.scene.specs.Conditions.{hasSegments, half};
-ghost use Rattle.check_conditions.specs.Odd.{isFirstAt, beginsOddly, interiorBy, isMismarked};
-
-// ---- 13: region end in an odd number of its segments, by the first element that has it
+ghost use Rattle.check_conditions.specs.Odd.{isFirstAt, beginsOddly};
 
 fn point_at(s: &[u8], l: Layout, i: usize) -> Point
     requires { ⌜ IsObject (now s) l × (i < l .count) × T (hasSegments (l .shape)) ⌝ }
@@ -44,30 +41,4 @@ pub fn ends_oddly(s: &[u8], l: Layout, i: usize) -> bool
     }
     let p = point_at(s, l, i);
     scene_segments::count_ends(s, l, p) % 2 == 1
-}
-
-// ---- 14: wrong ia
-
-fn interior_above(s: &[u8], l: Layout, t: Segment) -> bool
-    requires { ⌜ IsObject (now s) l × T (hasSegments (l .shape)) × T (segmentInRange t) ⌝ }
-    ensures { λ r. ⌜ r ≡ interiorBy (now (s .entry)) l t ⌝ }
-{
-    if t.left.x == t.right.x {
-        scene_segments::count_for_ia(s, l, t) % 2 == 1
-    } else {
-        scene_segments::count_for_ia(s, l, t) % 2 != 1
-    }
-}
-
-pub fn has_wrong_ia(s: &[u8], l: Layout, i: usize) -> bool
-    requires { ⌜ IsObject (now s) l × (i < l .count) ⌝ }
-    ensures { λ r. ⌜ r ≡ isMismarked (now (s .entry)) l i ⌝ }
-{
-    let k = l.shape;
-    if !scene_segments::is_region(k) {
-        return false;
-    }
-    let at = records::place(l, i);
-    let h = bytes::halfsegment(s, at);
-    h.is_left && bytes::ia(s, at) != interior_above(s, l, h.segment)
 }

@@ -1,4 +1,4 @@
--- `check_conditions::parity::point_at` meets its contract: the dominating point of the record's halfsegment.
+-- `check_conditions::ends::point_at` meets its contract: the dominating point of the record's halfsegment.
 use native.Mathlib.Omega.{arith}
 use mathlib.Core.Path.{ap, _∙_}
 use borrow.Author.Needs.{needs}
@@ -8,8 +8,8 @@ use Rattle.scene.specs.Read.{place}
 use Rattle.scene.specs.Conditions.{hasSegments}
 use Rattle.scene.proofs.Given.{GoodHalfsegment}
 use Rattle.scene_segments.proofs.Elements.{half-good, half-is}
-use Rattle.check_conditions.proofs.parity.point_at.Statement.{statement}
-use Rattle.check_conditions.proofs.parity.point_at.Tie as tie
+use Rattle.check_conditions.proofs.ends.point_at.Statement.{statement}
+use Rattle.check_conditions.proofs.ends.point_at.Tie as tie
 
 good : (z : tie.Start) → GoodHalfsegment (z .args .s .now) (place (z .args .l) (z .args .i))
 good z = half-good (z .args .s .now) (z .args .l) (z .pre .0) (z .args .i) (z .pre .1) (true-is (hasSegments (z .args .l .shape)) (z .pre .2))

@@ -1,4 +1,4 @@
--- `check_conditions::partners::in_order` meets its contract: both records are read, and compared by the order of the object's type.
+-- `check_conditions::order::in_order` meets its contract: both records are read, and compared by the order of the object's type.
 use native.Mathlib.Omega.{arith}
 use mathlib.Core.Path.{_≡_, sym, ap, ap₂, _∙_}
 use mathlib.Core.Bool.{true, false}
@@ -8,8 +8,8 @@ use Rattle.scene.specs.Read.{pointAt, place, IsObject}
 use Rattle.scene.specs.Conditions.{hasSegments, half}
 use Rattle.scene.proofs.Given.{GoodPoint, GoodHalfsegment}
 use Rattle.scene_segments.proofs.Elements.{fits, point-good, half-good, half-is, half-in-range, order-of-points, order-of-halves}
-use Rattle.check_conditions.proofs.partners.in_order.Statement.{statement}
-use Rattle.check_conditions.proofs.partners.in_order.Tie as tie
+use Rattle.check_conditions.proofs.order.in_order.Statement.{statement}
+use Rattle.check_conditions.proofs.order.in_order.Tie as tie
 
 -- once both places are known
 module _ (c : tie.After-place2) where

@@ -1,4 +1,4 @@
--- `check_conditions::parity::ends_oddly` meets its contract: the number of segments that end at the dominating point is odd.
+-- `check_conditions::ends::ends_oddly` meets its contract: the number of segments that end at the dominating point is odd.
 use Prim.Native.Nat.{_<_}
 use mathlib.Core.Path.{_≡_, ap, _∙_}
 use mathlib.Core.Bool.{true}
@@ -12,8 +12,8 @@ use Rattle.scene.specs.Read.{IsObject}
 use Rattle.scene.specs.Conditions.{hasSegments, isRegion, segments}
 use Rattle.scene.proofs.Flags.{refuted, upheld}
 use Rattle.scene_segments.proofs.Elements.{region-segments}
-use Rattle.check_conditions.proofs.parity.ends_oddly.Statement.{statement}
-use Rattle.check_conditions.proofs.parity.ends_oddly.Tie as tie
+use Rattle.check_conditions.proofs.ends.ends_oddly.Statement.{statement}
+use Rattle.check_conditions.proofs.ends.ends_oddly.Tie as tie
 
 module _ (c : tie.Else1) where
   abbrev z : tie.Start

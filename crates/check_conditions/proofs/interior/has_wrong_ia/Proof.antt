@@ -1,4 +1,4 @@
--- `check_conditions::parity::has_wrong_ia` meets its contract: a left halfsegment's ia against the rule's.
+-- `check_conditions::interior::has_wrong_ia` meets its contract: a left halfsegment's ia against the rule's.
 use native.Mathlib.Omega.{arith}
 use mathlib.Core.Path.{_≡_, sym, ap, ap₂, _∙_}
 use mathlib.Core.Bool.{Bool, true, not, Bool·beq}
@@ -11,8 +11,8 @@ use Rattle.scene.proofs.Flags.{refuted, upheld}
 use Rattle.scene.proofs.Given.{GoodHalfsegment}
 use Rattle.scene_segments.proofs.Elements.{fits, region-segments, half-good, half-is, half-in-range, ia-good}
 use Rattle.check_conditions.specs.Odd.{interiorBy}
-use Rattle.check_conditions.proofs.parity.has_wrong_ia.Statement.{statement}
-use Rattle.check_conditions.proofs.parity.has_wrong_ia.Tie as tie
+use Rattle.check_conditions.proofs.interior.has_wrong_ia.Statement.{statement}
+use Rattle.check_conditions.proofs.interior.has_wrong_ia.Tie as tie
 
 module _ (c : tie.Else1) where
   abbrev z : tie.Start

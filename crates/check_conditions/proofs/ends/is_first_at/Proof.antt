@@ -1,4 +1,4 @@
--- `check_conditions::parity::is_first_at` meets its contract: there is no element before, or it has another dominating point.
+-- `check_conditions::ends::is_first_at` meets its contract: there is no element before, or it has another dominating point.
 use Prim.Native.Nat.{_<_}
 use native.Mathlib.Omega.{arith}
 use mathlib.Core.Path.{ap, ap₂, _∙_}
@@ -6,8 +6,8 @@ use mathlib.Core.Bool.{not}
 use borrow.Author.Needs.{needs}
 use borrow.Author.Tests.{lt-ltb}
 use Rattle.plane.specs.Plane.{samePoint}
-use Rattle.check_conditions.proofs.parity.is_first_at.Statement.{statement}
-use Rattle.check_conditions.proofs.parity.is_first_at.Tie as tie
+use Rattle.check_conditions.proofs.ends.is_first_at.Statement.{statement}
+use Rattle.check_conditions.proofs.ends.is_first_at.Tie as tie
 
 returns : tie.Need-returns
 returns c = rw (c .if1 .taken)

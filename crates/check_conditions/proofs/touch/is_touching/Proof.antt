@@ -1,4 +1,4 @@
--- `check_conditions::is_touching` meets its contract: a left halfsegment's segment is held against the other object's segments.
+-- `check_conditions::touch::is_touching` meets its contract: a left halfsegment's segment is held against the other object's segments.
 use native.Mathlib.Omega.{arith}
 use mathlib.Core.Path.{_≡_, ap, _∙_}
 use mathlib.Core.Bool.{true, _&&_}
@@ -12,8 +12,8 @@ use Rattle.scene_segments.proofs.Elements.{fits, half-good, half-is}
 use Rattle.scene_segments.proofs.Walk.{in-range-at, in-order-at}
 use Rattle.scene_segments.specs.Walked.{touchesFrom}
 use Rattle.check_conditions.specs.Faults.{touchesAny}
-use Rattle.check_conditions.proofs.is_touching.Statement.{statement}
-use Rattle.check_conditions.proofs.is_touching.Tie as tie
+use Rattle.check_conditions.proofs.touch.is_touching.Statement.{statement}
+use Rattle.check_conditions.proofs.touch.is_touching.Tie as tie
 
 module _ (c : tie.Else1) where
   abbrev z : tie.Start

@@ -1,4 +1,4 @@
--- `overlap::merging::next_byte` meets its contract: what comes next in the walk over the left halfsegments, with its byte by ia and by its note.
+-- `overlap::walk::next_byte` meets its contract: what comes next in the walk over the left halfsegments, with its byte by ia and by its note.
 use Prim.Native.Nat.{ℕ, _≤_}
 use native.Mathlib.Omega.{arith}
 use mathlib.Core.Path.{_≡_, subst}
@@ -11,8 +11,8 @@ use Rattle.flags_classes.specs.declared.merged.Step.{Step}
 use Rattle.flags_classes.specs.Walked.{NextOfF, NextOfG, NextOfBoth, Stepped}
 use Rattle.overlap.proofs.Merging.{list-end}
 use Rattle.overlap.proofs.Noted.{noted-f, noted-g, noted-both}
-use Rattle.overlap.proofs.merging.next_byte.Statement.{statement}
-use Rattle.overlap.proofs.merging.next_byte.Tie as tie
+use Rattle.overlap.proofs.walk.next_byte.Statement.{statement}
+use Rattle.overlap.proofs.walk.next_byte.Tie as tie
 
 few : (s : List ℕ) (l : Layout) → IsObject s l → l .count ≤ 1024
 few s l is = taken-object s (l .start) l is .few
