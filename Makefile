@@ -1,20 +1,21 @@
 # make test: everything that the gate checks. make run: builds explore and answers the sample scenes; make run SCENE=file answers a file.
 # make install PREFIX=dir: header, archive and pkg-config file. make fuzz SECONDS=n: fresh scenes and inputs for so long.
-.PHONY: test run archive install fuzz tools pictures bench fmt clean
+# make wrong: the wrong programs that the gate leaves out; make wrong CRATES="a b": those of these crates.
+.PHONY: test run archive install fuzz wrong tools pictures bench fmt clean
 
 test:
 	@bash tests/gate
 
-# The proved program, and the archive for C
+# The proved program, and the archive for C; tools/prove says how far the proofs have come
 sources := $(shell find crates -name '*.rt' -o -name '*.antt')
 
 target/bin/explore: $(sources)
-	@rt check explore && touch $@
+	@tools/prove explore rt check explore && touch $@
 
 archive: target/staticlib/libkarvoiss.a
 
 target/staticlib/libkarvoiss.a: $(sources)
-	@rt staticlib karvoiss
+	@tools/prove karvoiss rt staticlib karvoiss && touch $@
 
 # Where a C build finds them; DESTDIR is put before PREFIX for packages
 PREFIX ?= /usr/local
@@ -29,6 +30,10 @@ install: archive
 SECONDS ?= 60
 fuzz: archive target/tools/scene
 	@tests/fuzz $(SECONDS)
+
+CRATES ?=
+wrong:
+	@tests/wrong/run $(CRATES)
 
 ifdef SCENE
 run: target/bin/explore

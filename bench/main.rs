@@ -69,6 +69,7 @@ use std::process::exit;
 const USAGE: &str = "usage: bench compare           GEOS's cells against ours; fails if a difference is unexplained
        bench time               times of every row, ours and GEOS's
        bench peer               GEOS's times alone
+       bench ours               our times alone, for bench/against
        bench turns              times of many different scenes asked one after another, ours and GEOS's
        bench slowest            our times for scenes with a fault, and the slowest of many random scenes
        bench make DIR           writes the scenes of full size, a file each
@@ -94,6 +95,7 @@ fn main() {
         }
         ["time"] => time(true),
         ["peer"] => time(false),
+        ["ours"] => ours(),
         ["turns"] => turns(),
         ["slowest"] => slowest(),
         ["make", directory] => make(directory),
@@ -142,14 +144,30 @@ impl Timed {
 
     fn pass(&mut self, geos: &Geos, with_ours: bool) {
         if with_ours {
-            self.take(0, clock::best(|| library::cells(&self.row.bytes)));
-            self.take(1, clock::best(|| library::vectors(&self.row.bytes, 0, 0)));
-            self.take(2, clock::best(|| library::overlap(&self.row.bytes, &mut [])));
+            our_times(&self.row.bytes).into_iter().enumerate().for_each(|(which, time)| self.take(which, time));
         }
         self.take(3, clock::best(|| bench_geos_from_bytes(geos, &self.row.bytes, &self.parts)));
         let built = Pair::build(geos, &self.row.bytes, &self.parts);
         self.take(4, clock::best(|| built.relate()));
     }
+}
+
+/// Our cells, our vectors, our check of one scene.
+fn our_times(bytes: &[u8]) -> [f64; 3] {
+    [
+        clock::best(|| library::cells(bytes)),
+        clock::best(|| library::vectors(bytes, 0, 0)),
+        clock::best(|| library::overlap(bytes, &mut [])),
+    ]
+}
+
+/// One pass over all rows, ours alone.
+fn ours() -> bool {
+    for row in rows::all() {
+        let [cells, vectors, check] = our_times(&row.bytes);
+        println!("row {} {cells:.3} {vectors:.3} {check:.3}", row.name());
+    }
+    true
 }
 
 /// Passes over all rows, so that a row's batches lie some time apart.

@@ -10,6 +10,8 @@ const COLOURS: [&str; 6] = ["#7f7f7f", "#bcae22", "#2ca02c", "#1f77b4", "#9467bd
 
 const LEFT: f64 = 110.0;
 const RIGHT: f64 = 760.0;
+/// Room for the half of the last label that stands right of the last line.
+const MARGIN: f64 = 64.0;
 const TOP: f64 = 64.0;
 const STEP: f64 = 24.0;
 
@@ -41,7 +43,7 @@ pub fn svg(results: &Results) -> String {
     let mut svg = format!(
         "<svg xmlns=\"http://www.w3.org/2000/svg\" viewBox=\"0 0 {} {}\" font-family=\"sans-serif\" font-size=\"13\">\n\
          <rect width=\"100%\" height=\"100%\" fill=\"#ffffff\"/>\n",
-        RIGHT + 30.0,
+        RIGHT + MARGIN,
         bottom + 46.0
     );
     let mut text = |x: f64, y: f64, anchor: &str, words: &str| {

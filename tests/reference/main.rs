@@ -35,7 +35,7 @@ use tally::Tally;
 
 const USAGE: &str = "usage: reference answer < scene    the line that explore writes
        reference list < scene      the overlap list, or its refusal
-       reference vectors < text    the lines that the program vectors writes
+       reference vectors < text    the lines that the program test_vectors writes
        reference draw < scene      the scene as bytes, words and a drawing
        reference scene SEED        writes the scene that a seed names
        reference self              the scenes made by hand against their known answers

@@ -21,22 +21,22 @@ use Rattle.scene.specs.declared.CheckedScene.{CheckedScene}
 use Rattle.scene.specs.Read.{shapeNumber}
 use Rattle.scene.specs.Conditions as C
 use Rattle.scene.specs.Conditions.{half, isLeft, hasSegments, segments, elements, keep, checkScene}
-use Rattle.checks.proofs.Laws.{SoundObject, SoundScene, sound-scene, split, regular, ia-is, across, segment-in, left-in, in-left}
-use Rattle.segments.proofs.Indices.{keep-in, element-in, in-element}
+use Rattle.check_verdict.proofs.Laws.{SoundObject, SoundScene, sound-scene, split, regular, ia-is, across, segment-in, left-in, in-left}
+use Rattle.scene_segments.proofs.Indices.{keep-in, element-in, in-element}
 use Rattle.flags.specs.Flags as F
 use Rattle.flags.specs.Flags.{Edge, Elements, outline, segmentsOf, flagsOfF, flagsOfG, pack}
-use Rattle.flags.specs.Walk.{edges, edgeOf, pointOf, pointsOf, elementsAs, elementsOf}
-use Rattle.features.specs.declared.Vectors.{Vectors}
-use Rattle.features.specs.Vectors.{sceneVectors}
-use Rattle.flags.proofs.ByElement.{outline-edges}
-use Rattle.masks.proofs.Masks.{vector-all-F, vector-all-G}
+use Rattle.flags.specs.Elements.{edges, edgeOf, pointOf, pointsOf, elementsAs, elementsOf}
+use Rattle.flags_vectors.specs.declared.Vectors.{Vectors}
+use Rattle.flags_vectors.specs.Vectors.{sceneVectors}
+use Rattle.flags.proofs.Elements.{outline-edges}
+use Rattle.flags_masks.proofs.Masks.{vector-all-F, vector-all-G}
 use Rattle.cells.specs.declared.Explored.{Explored}
-use Rattle.matrix.specs.Matrix.{Part, interior, boundary, exterior, Meet, matrixOf, cellAt}
+use Rattle.cells_matrix.specs.Matrix.{Part, interior, boundary, exterior, Meet, matrixOf, cellAt}
 use Rattle.cells.specs.Explored as E
 use Rattle.cells.specs.Explored.{sceneMatrix, row, takenAs, exploredOf, answered, cellsOf, NoCellWrong}
-use Rattle.matrix.proofs.Common.{filled, filled-of}
-use Rattle.matrix.proofs.RegionRegion.{Sound}
-use Rattle.matrix.proofs.Theorem.{Accepted, Good, shapeOf, isEmpty, no-cell-wrong}
+use Rattle.cells_matrix.proofs.Common.{filled, filled-of}
+use Rattle.cells_matrix.proofs.RegionRegion.{Sound}
+use Rattle.cells_matrix.proofs.Theorem.{Accepted, Good, shapeOf, isEmpty, no-cell-wrong}
 
 filled-none : {A : Type 0} (b : List A) → ((a : A) → a ∈ b → ⊥) → filled b ≡ false
 filled-none [] h = refl

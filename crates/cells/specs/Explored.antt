@@ -12,11 +12,11 @@ use Rattle.scene.specs.declared.Refusal.{Refusal}
 use Rattle.scene.specs.declared.CheckedScene.{CheckedScene}
 use Rattle.scene.specs.Read.{shapeNumber}
 use Rattle.scene.specs.Conditions.{object, checkScene}
-use Rattle.flags.specs.Walk.{elementsOf}
-use Rattle.masks.specs.Wanted.{vectorOfF, vectorOfG}
+use Rattle.flags.specs.Elements.{elementsOf}
+use Rattle.flags_masks.specs.Wanted.{vectorOfF, vectorOfG}
 use Rattle.cells.specs.declared.Row.{Row}
 use Rattle.cells.specs.declared.Explored.{Explored}
-use Rattle.matrix.specs.Matrix.{Part, interior, boundary, exterior, Meet, matrixOf, noCells, index, cellAt}
+use Rattle.cells_matrix.specs.Matrix.{Part, interior, boundary, exterior, Meet, matrixOf, noCells, index, cellAt}
 
 -- "an object is empty when it has no elements"
 abbrev pub isEmpty : Layout → Bool

@@ -19,3 +19,4 @@ pub struct Explored {
 }
 
 pub mod question;
+pub mod table;

@@ -1,16 +1,17 @@
 // The cells question over a scene's bytes.
 use crate::Explored;
 use crate::Row;
-use features::Answer;
-use features::Vectors;
-use features::question;
+use crate::table;
+use flags_vectors::Answer;
+use flags_vectors::Vectors;
+use flags_vectors::question;
 use scene::Refusal;
 use scene::Scene;
 use scene::records;
 ghost use mathlib.Core.Path.{_≡_};
 ghost use mathlib.Core.List.{List};
 ghost use Prim.Native.Nat.{ℕ};
-ghost use Rattle.features.specs.Vectors.{sceneVectors};
+ghost use Rattle.flags_vectors.specs.Vectors.{sceneVectors};
 ghost use Rattle.cells.specs.Explored.{takenAs, refusedAs, exploredOf, cellsOf, NoCellWrong};
 
 fn refused(refusal: Refusal) -> Explored

@@ -1,8 +1,8 @@
 // Reads a scene from standard input and writes its answer line.
+use answer_line::LINE_LIMIT;
 use cells::question;
 use libc::STDIN_FILENO;
 use libc::STDOUT_FILENO;
-use report::LINE_LIMIT;
 
 // Room for one byte more than the longest scene has: the place of refusal 7 is at most its length.
 const ROOM: usize = 38919;
@@ -16,7 +16,7 @@ fn main() {
     let exterior = answer.exterior.c;
     let cells = [interior, boundary, exterior];
     let mut line = [0u8; LINE_LIMIT];
-    let written = report::write_line(
+    let written = answer_line::write_line(
         &mut line,
         answer.number,
         answer.place,

@@ -1,16 +1,19 @@
--- The bits of a number: of a packed list, of a number halved, of two numbers' "and" and "or", of a number of ones.
+-- The bits of a number: of a packed list, of a number halved, of two numbers' "and" and "or", of a number of ones; a bit as
+-- the program tests it; numbers with the same bits.
 use Prim.Native.Nat.{ℕ, zero, suc, _+_, _-_, _*_, _/_, _%_, _^_, _<_, min, max}
 use native.Mathlib.Nat.{pow-suc, zero-div, div-one, zero-add, suc-add, div-add-mod'}
+use native.Mathlib.Decide.{ℕ-discrete}
 use native.Mathlib.Omega.{arith}
 use mathlib.Core.Path.{_≡_, refl, sym, ap, ap₂, _∙_, subst}
 use mathlib.Core.Logic.{⊎-elim}
 use mathlib.Core.Bool.{Bool, true, false, not, _&&_, _||_}
 use mathlib.Core.List.{List, [], _∷_}
 use lib.Arith.{bin-ind}
-use lib.Bits.{bitAnd, bitOr, and-step, or-step, and-shr, or-shr}
+use lib.Bits.{bitAnd, bitOr, and-mask, and-comm, and-step, or-step, and-shr, or-shr}
 use lib.Dec.{T, T-not, eqb, ltb, leb·zero, leb·suc-zero, leb·suc-suc}
 use lib.ListN.{length, getD}
 use lib.Pow.{pow-pos, shr-shr}
+use borrow.Author.Tests.{ne-eqb}
 use Rattle.whole.specs.Count.{bit, odd}
 use Rattle.whole.proofs.Logic.{and-left, and-right, decide}
 use Rattle.flags.specs.Flags.{pack, hasBit}
@@ -23,7 +26,7 @@ pub next-bit : (v k : ℕ) → hasBit v (suc k) ≡ hasBit (v / 2) k
 unfolding hasBit
 next-bit v k = ap odd (ap (λ n. v / 2 ^ n) (sym (suc-add 0 k ∙ ap suc (zero-add k))) ∙ sym (shr-shr v 1 k))
 
-no-bit : (k : ℕ) → hasBit 0 k ≡ false
+pub no-bit : (k : ℕ) → hasBit 0 k ≡ false
 unfolding hasBit odd
 no-bit k = ap odd (zero-div (2 ^ k))
 
@@ -96,6 +99,30 @@ pub or-bit : (a b k : ℕ) → hasBit (bitOr a b) k ≡ hasBit a k || hasBit b k
 unfolding hasBit
 or-bit a b k = ap odd (or-shr a b k) ∙ odd-or (a / 2 ^ k) (b / 2 ^ k)
 
+-- a bit as the program tests it
+pub test-bit : (m k : ℕ) → not (eqb (bitAnd m (2 ^ k)) 0) ≡ hasBit m k
+unfolding odd
+test-bit m zero = ap (λ n. not (eqb n 0)) (and-mask m 1) ∙ digit (m % 2) (omega arith) ∙ sym (first-bit m)
+  where
+    digit : (r : ℕ) → r < 2 → not (eqb r 0) ≡ eqb r 1
+    digit zero h = refl
+    digit (suc zero) h = refl
+    digit (suc (suc r)) h = absurd (omega arith)
+test-bit m (suc k) = doubled (bitAnd m (2 ^ suc k)) (bitAnd (m / 2) (2 ^ k)) twice ∙ test-bit (m / 2) k ∙ sym (next-bit m k)
+  where
+    half : 2 ^ suc k / 2 ≡ 2 ^ k
+    half = omega (arith, pow-suc 2 k)
+
+    even : min (m % 2) (2 ^ suc k % 2) ≡ 0
+    even = omega (arith, pow-suc 2 k)
+
+    twice : bitAnd m (2 ^ suc k) ≡ bitAnd (m / 2) (2 ^ k) * 2
+    twice = and-step m (2 ^ suc k) ∙ omega (arith, ap (bitAnd (m / 2)) half, even)
+
+    doubled : (n x : ℕ) → n ≡ x * 2 → not (eqb n 0) ≡ not (eqb x 0)
+    doubled n zero e = ap (λ n. not (eqb n 0)) e
+    doubled n (suc x) e = ap not (ne-eqb n 0 (λ z. omega arith) ∙ sym (ne-eqb (suc x) 0 (λ z. omega arith)))
+
 -- ---- ones
 
 pub ones-bit : (n k : ℕ) → hasBit (2 ^ n - 1) k ≡ ltb k n
@@ -144,3 +171,14 @@ bit-lost m n w e = T-not (hasBit n k) (w .2) (and-right (hasBit m k) (hasBit n k
   where
     k : ℕ
     k = w .0
+
+-- numbers with the same bits are equal
+pub same-number : (a b : ℕ) → ((k : ℕ) → hasBit a k ≡ hasBit b k) → a ≡ b
+same-number a b e = sym (kept a b e) ∙ and-comm a b ∙ kept b a (λ k. sym (e k))
+  where
+    kept : (a b : ℕ) → ((k : ℕ) → hasBit a k ≡ hasBit b k) → bitAnd a b ≡ a
+    kept a b e = go (ℕ-discrete (bitAnd a b) a)
+      where
+        go : Dec (bitAnd a b ≡ a) → bitAnd a b ≡ a
+        go (yes p) = p
+        go (no n) = let w = lost-bit a b n in absurd (T-not (hasBit b (w .0)) (w .2) (subst T (e (w .0)) (w .1)))

@@ -1,9 +1,10 @@
--- What belongs to no one function: the bits of a vector, the flags' sentences, the flags element by element, the searches over an object's elements, and
--- what two objects that are taken give them.
+-- What belongs to no one function: the bits of a number, and marks collected element by element; the boundary rule; the flags' sentences; tests over an
+-- object's elements; where the midpoint of a segment lies by the other object; and the elements of an object beside another.
 pub mod Bits
+pub mod Marks
+pub mod Boundary
 pub mod Sentences
-pub mod ByElement
-pub mod Searching
+pub mod Elements
 pub mod Inside
 pub mod Clear
-pub mod Gathered
+pub mod SideBySide

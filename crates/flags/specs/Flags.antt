@@ -1,7 +1,7 @@
 -- The topological flags: document 01's section "Flags, bit 0 first", over the elements of two objects, each flag as a test that computes. A flag is "some
 -- element as named exists". `Sentences.antt` has each flag in words, with "some" and "every".
 use Prim.Native.Nat.{ℕ, _+_, _*_, _/_, _^_}
-use mathlib.Core.Bool.{Bool, true, false, not, _&&_, _||_}
+use mathlib.Core.Bool.{Bool, not, _&&_, _||_}
 use mathlib.Core.List.{List, [], _∷_, map}
 use Rattle.whole.specs.Count.{bit, odd, some}
 use Rattle.plane.specs.declared.Point.{Point}

@@ -1,4 +1,4 @@
 -- What the topological flags are.
 pub mod Flags
 pub mod Sentences
-pub mod Walk
+pub mod Elements

@@ -236,8 +236,3 @@ sentencesOfG (region F) (region G) = Class01 G F ∷ Class10 G F ∷ Class12 G F
 -- Sentence k; there is none past the last, and nothing makes it hold
 abbrev pub sentence : List (Type 0) → ℕ → Type 0
 sentence l k = getD l k ⊥
-
--- The test passes exactly when the sentence holds
-pub record Means (b : Bool) (P : Type 0) : Type 0 where
-  pub read : T b → P
-  pub make : P → T b

@@ -1,22 +1,34 @@
-// The topological flags: what they are, as the program holds them, and where a segment lies by an object.
+// Flags as the bits of a number.
+ghost use mathlib.Core.Path.{_≡_};
+ghost use mathlib.Core.List.{[], _∷_};
+ghost use Prim.Native.Nat.{_<_};
+ghost use Rattle.whole.specs.Count.{bit};
+ghost use Rattle.flags.specs.Flags.{pack};
 
-// The flags of a vector, bit 0 first; a bit without a flag is false.
-pub struct Found {
-    pub b0: bool,
-    pub b1: bool,
-    pub b2: bool,
-    pub b3: bool,
-    pub b4: bool,
-    pub b5: bool,
-    pub b6: bool,
-    pub b7: bool,
+fn bit(b: bool) -> u16
+    ensures { λ r. ⌜ (r ≡ bit b) × (r < 2) ⌝ }
+{
+    b as u16
 }
 
-// A segment beside a region: one of the region's segments, or with its midpoint inside the region, or neither.
-pub struct Middle {
-    pub shared: bool,
-    pub inside: bool,
+// The vectors of four and of eight flags, bit 0 first.
+pub fn packed_four(b0: bool, b1: bool, b2: bool, b3: bool) -> u16
+    ensures { λ r. ⌜ (r ≡ pack (b0 ∷ b1 ∷ b2 ∷ b3 ∷ [])) × (r < 16) ⌝ }
+{
+    bit(b0) + 2 * bit(b1) + 4 * bit(b2) + 8 * bit(b3)
 }
 
-pub mod position;
-pub mod searches;
+pub fn packed_eight(
+    b0: bool,
+    b1: bool,
+    b2: bool,
+    b3: bool,
+    b4: bool,
+    b5: bool,
+    b6: bool,
+    b7: bool,
+) -> u16
+    ensures { λ r. ⌜ r ≡ pack (b0 ∷ b1 ∷ b2 ∷ b3 ∷ b4 ∷ b5 ∷ b6 ∷ b7 ∷ []) ⌝ }
+{
+    packed_four(b0, b1, b2, b3) + 16 * packed_four(b4, b5, b6, b7)
+}

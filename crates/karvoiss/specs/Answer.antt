@@ -1,8 +1,8 @@
 -- What C gets for each answer: number 0 means taken; a refusal has its number and place, no flag, and no cell.
 use mathlib.Core.Bool.{Bool}
 use mathlib.Core.List.{List, [], _∷_}
-use Rattle.features.specs.declared.Explored.{Explored}
-use Rattle.features.specs.Vectors.{vectorsValues}
+use Rattle.flags_vectors.specs.declared.Explored.{Explored}
+use Rattle.flags_vectors.specs.Vectors.{vectorsValues}
 use Rattle.cells.specs.declared.Explored as C
 use Rattle.karvoiss.specs.declared.KarvoissVectors.{KarvoissVectors}
 use Rattle.overlap.specs.declared.Overlap.{Overlap}

@@ -1,8 +1,8 @@
 // What C programs call: every function is total, keeps no state and allocates nothing. include/karvoiss.h is for those who call them.
-use features::Explored;
-use features::question;
+use flags_vectors::Explored;
+use flags_vectors::question;
 ghost use mathlib.Core.Path.{_≡_};
-ghost use Rattle.features.specs.Vectors.{vectorsOf};
+ghost use Rattle.flags_vectors.specs.Vectors.{vectorsOf};
 ghost use Rattle.cells.specs.Explored.{exploredOf, NoCellWrong};
 ghost use Rattle.overlap.specs.Overlap.{overlapOf, bufferAfter};
 ghost use Rattle.karvoiss.specs.Answer.{vectorsAnswer, cellsAnswer, cellsOf, overlapAnswer};

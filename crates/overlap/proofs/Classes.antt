@@ -11,7 +11,7 @@ use lib.ListN.{take}
 use Rattle.whole.specs.Count.{bit, some, _∈_, here, there}
 use Rattle.whole.proofs.Logic.{and-left, and-right, and-make, is-true, true-is, same-test, some-find, some-make, in-cons, in-map, map-in}
 use Rattle.plane.specs.declared.Segment.{Segment}
-use Rattle.plane.specs.Plane.{HPoint, midpoint, sameSegment, onSome, inside, interiorAbove}
+use Rattle.plane.specs.Plane.{midpoint, sameSegment, inside, interiorAbove}
 use Rattle.plane.proofs.Equal.{sameSegment-read, sameSegment-refl}
 use Rattle.scene.specs.declared.Shape.{Shape}
 use Rattle.scene.specs.declared.Shape.the-variants.{Points, Line, Region}
@@ -19,18 +19,19 @@ use Rattle.scene.specs.declared.Layout.{Layout}
 use Rattle.scene.specs.declared.Scene.{Scene}
 use Rattle.scene.specs.declared.CheckedScene.{CheckedScene}
 use Rattle.scene.specs.Conditions.{elements, keep, isRegion, isLeft, segments}
-use Rattle.checks.proofs.Laws.{SoundObject, ia-is}
-use Rattle.segments.proofs.Indices.{in-element}
+use Rattle.check_verdict.proofs.Laws.{SoundObject, ia-is}
+use Rattle.scene_segments.proofs.Indices.{in-element}
 use Rattle.flags.specs.Flags.{Edge, Elements, region, outline, hasSegment, midInside, midOutside, class01, class10, class12, class21, class02, class20, class11, flagsOfF, flagsOfG}
-use Rattle.flags.specs.Walk.{edgeOf, edges, elementsOf, elementsAs, sameIa, Clear}
-use Rattle.flags.proofs.ByElement.{outline-edges}
-use Rattle.adjoining.specs.Bytes.{merge, adjoins, byteOf}
-use Rattle.adjoining.proofs.Members.{merge-in, in-merge-f, in-merge-g}
-use Rattle.adjoining.proofs.Adjoins.{adjoins-other, edge-there, edge-find, Marked, adjoins-edge}
-use Rattle.merging.specs.Walked.{TwoRegions}
-use Rattle.merging.proofs.Clear.{either-clear}
-use Rattle.listable.specs.Rules.{checkList}
-use Rattle.listable.proofs.Checked.{listable}
+use Rattle.flags.specs.Elements.{edgeOf, edges, elementsOf, elementsAs, sameIa, Clear}
+use Rattle.flags.proofs.Elements.{some-on, outline-edges}
+use Rattle.flags.proofs.Inside.{inside-on}
+use Rattle.overlap.specs.Bytes.{merge, adjoins, byteOf}
+use Rattle.overlap.proofs.Members.{merge-in, in-merge-f, in-merge-g}
+use Rattle.overlap.proofs.Adjoins.{adjoins-other, edge-there, edge-find, Marked, adjoins-edge}
+use Rattle.overlap.specs.Walked.{TwoRegions}
+use Rattle.overlap.proofs.Clear.{either-clear}
+use Rattle.overlap.specs.Rules.{checkList}
+use Rattle.overlap.proofs.Checked.{listable}
 use Rattle.overlap.specs.Classes.{of-f, of-g, of-both, belongs, hasByte, classesOfF, classesOfG}
 
 -- ---- the byte by ia, and by "inside"
@@ -43,14 +44,6 @@ aloneByte ia i = code (not ia) i ia i
 
 bothByte : Bool → Bool → ℕ
 bothByte p q = code (not p) (not q) p q
-
-some-in : {A : Type 0} (f g : A → Bool) (l : List A) → ((a : A) → a ∈ l → f a ≡ g a) → some f l ≡ some g l
-some-in f g [] h = refl
-some-in f g (a ∷ l) h = ap₂ _||_ (h a here) (some-in f g l (λ b m. h b (there m)))
-
-inside-on : (l : List Segment) (p : HPoint) → onSome l p ≡ true → inside l p ≡ false
-unfolding inside
-inside-on l p e = rw e
 
 -- what the tests of an edge come to, h where its segment is one of the other region's
 outside-apart : (x h i : Bool) → x && (not h && not i) ≡ (x && not i) && not h
@@ -166,12 +159,12 @@ module _ (F G : List Edge) (a b : Segment → Bool) (mark-f : Marked F a) (mark-
 
     outside-test : (x : Edge → Bool) → some (λ (f : Edge). x f && midOutside G f) F ≡ some (λ (f : Edge). (x f && not (within f)) && not (shared f)) F
     outside-test x =
-        some-in (λ (f : Edge). x f && midOutside G f) (λ (f : Edge). (x f && not (within f)) && not (shared f)) F
+        some-on (λ (f : Edge). x f && midOutside G f) (λ (f : Edge). (x f && not (within f)) && not (shared f)) F
         (λ f m. ap (λ (h : Bool). x f && (not h && not (within f))) (clear f m) ∙ outside-apart (x f) (shared f) (within f))
 
     inside-test : (x : Edge → Bool) → some (λ (f : Edge). x f && midInside G f) F ≡ some (λ (f : Edge). (x f && within f) && not (shared f)) F
     inside-test x =
-        some-in (λ (f : Edge). x f && midInside G f) (λ (f : Edge). (x f && within f) && not (shared f)) F
+        some-on (λ (f : Edge). x f && midInside G f) (λ (f : Edge). (x f && within f) && not (shared f)) F
         (λ f m. inside-apart (x f) (shared f) (within f) (λ e. inside-on (outline G) (midpoint (f .segment)) (clear f m ∙ e)))
 
     class-01 : class01 F G ≡ hasByte F G of-f 1
@@ -252,7 +245,7 @@ module _ (F G : List Edge) where
 
   exchanged : (n : ℕ) → hasByte G F of-f n ≡ hasByte F G of-g n
   exchanged n =
-      some-in (λ t. belongs G F of-f t && eqb (byteOf G F t) n) (λ t. belongs F G of-g t && eqb (byteOf F G t) n) (merge (outline G) (outline F))
+      some-on (λ t. belongs G F of-f t && eqb (byteOf G F t) n) (λ t. belongs F G of-g t && eqb (byteOf F G t) n) (merge (outline G) (outline F))
       (λ t m. ap (λ (k : ℕ). belongs F G of-g t && eqb k n) (byte-exchanged t))
       ∙ same-test (some test (merge (outline G) (outline F))) (some test (merge (outline F) (outline G))) (moved (outline G) (outline F)) (moved (outline F) (outline G))
     where

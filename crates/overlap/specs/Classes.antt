@@ -6,7 +6,7 @@ use lib.Dec.{eqb}
 use Rattle.whole.specs.Count.{some}
 use Rattle.plane.specs.declared.Segment.{Segment}
 use Rattle.flags.specs.Flags.{Edge, outline, hasSegment}
-use Rattle.adjoining.specs.Bytes.{merge, byteOf}
+use Rattle.overlap.specs.Bytes.{merge, byteOf}
 
 -- whose segment it is: F's alone, G's alone, or one of both
 pub data Whose : Type 0 where

@@ -6,9 +6,9 @@ use Rattle.whole.specs.Count.{odd}
 use Rattle.plane.specs.Plane.{within, before, samePoint, sameSegment, ordered, side, dominating, farEnd, comesBefore, sideAt, isAt, notBefore, notAfter, on, isEnd, countsBelow, countsBelowLeft, onSome, inside, interiorAbove, endsAt, opposite, cross, endWithin, touch}
 use Rattle.scene.specs.Read.{signed, coordinate, kindOf, shapeOf, recordAt, elementsFrom, readObject, readScene}
 use Rattle.scene.specs.Conditions.{segments, inOrder, outOfOrder, partner, unpaired, touching, touchingItself, oddEnd, wrongIa, checkSceneBy}
-use Rattle.flags.specs.Walk.{edges}
-use Rattle.adjoining.specs.Bytes.{adjoins, overlapBytes}
-use Rattle.listable.specs.Rules.{checkList}
+use Rattle.flags.specs.Elements.{edges}
+use Rattle.overlap.specs.Bytes.{adjoins, overlapBytes}
+use Rattle.overlap.specs.Rules.{checkList}
 use Rattle.overlap.specs.Overlap.{overlapOf, bufferAfter}
 
 word : ℕ → List ℕ

@@ -4,7 +4,7 @@ use Prim.Native.Nat.{ℕ}
 use mathlib.Core.List.{List, _++_}
 use lib.ListN.{length, drop}
 use Rattle.scene.specs.declared.CheckedScene.{CheckedScene}
-use Rattle.listable.specs.Rules.{listOf, checkList}
+use Rattle.overlap.specs.Rules.{listOf, checkList}
 use Rattle.overlap.specs.declared.Overlap.{Overlap}
 
 -- the number and the values of every answer, and what the lent buffer then holds

@@ -3,6 +3,9 @@ use scene::CheckedScene;
 ghost use mathlib.Core.Path.{_≡_};
 ghost use Rattle.overlap.specs.Overlap.{overlapOf, bufferAfter};
 
+pub mod adjoining;
+pub mod refusals;
+pub mod walk;
 pub mod written;
 
 // An answer: number 0 where the list was written, else that of the refusal with its place; and how many bytes were written.
@@ -17,16 +20,14 @@ pub fn overlap_list(s: &[u8], list: &mut [u8]) -> Overlap
     ensures { λ r. ⌜ (r ≡ overlapOf (now (s .entry)) (now (list .entry))) × (now (list .exit) ≡ bufferAfter (now (s .entry)) (now (list .entry))) ⌝ }
 {
     let mut notes = [0u8; 2048];
-    let checked = listable::check_list(s, list.len(), &mut notes);
-    let outcome = checked.scene;
-    match outcome {
+    match refusals::check_list(s, list.len(), &mut notes) {
         CheckedScene::Refused(r) => Overlap {
             number: r.number,
             place: r.place,
             count: 0,
         },
         CheckedScene::Taken(scene) => {
-            let count = written::write(s, scene, checked.swept, &notes, list);
+            let count = written::write(s, scene, &notes, list);
             Overlap {
                 number: 0,
                 place: 0,

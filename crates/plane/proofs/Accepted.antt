@@ -3,20 +3,19 @@
 use mathlib.Core.Path.{_≡_, sym, ap, ap₂, _∙_, subst}
 use mathlib.Core.Logic.{_⊎_, inl, inr, ⊎-elim}
 use mathlib.Core.Bool.{Bool, true, false, not, _&&_, _||_, or-false}
-use mathlib.Core.List.{List, [], _∷_}
+use mathlib.Core.List.{List}
 use lib.Dec.{T, T-not}
-use lib.IntN.{ℤ, pos, one, _+ℤ_, _-ℤ_, _*ℤ_, +ℤ-comm, *ℤ-one}
+use lib.IntN.{one, _*ℤ_, *ℤ-one}
 use Rattle.whole.specs.Count.{eqZ, odd, some, count, _∈_}
-use Rattle.whole.proofs.Solver.{var, con, _:+_, _:-_, _:*_, solve}
-use Rattle.whole.proofs.Sign.{one-pos, eqZ-zero, zero-eqZ, zero-pos, sub-zero-eq}
+use Rattle.whole.proofs.Sign.{one-pos, eqZ-zero, zero-eqZ, zero-pos}
 use Rattle.whole.proofs.Logic.{and-left, and-right, decide, true-is, refute, is-false, some-find, some-make, Sorted}
 use Rattle.whole.proofs.Parity.{_⊻_, xor-comm, or-xor, parity, parity-same, parity-none, odd-count}
 use Rattle.plane.specs.declared.Point.{Point}
 use Rattle.plane.specs.declared.Segment.{Segment}
 use Rattle.plane.specs.Plane.{grid, midpoint, samePoint, sameSegment, ordered, isAt, isEnd, endsAt, countsBelow, countsBelowLeft, interiorAbove, touch}
 use Rattle.plane.proofs.OnSegment.{Ordered, slanting, upright, Away, ordered-read, on-or-away}
-use Rattle.plane.proofs.Equal.{point-eq, samePoint-read, sameSegment-read, sameSegment-refl}
-use Rattle.plane.proofs.Means.{EndOf, end-read, middle, middle-inner}
+use Rattle.plane.proofs.Equal.{samePoint-read, sameSegment-read, sameSegment-refl}
+use Rattle.plane.proofs.Means.{end-read, middle, middle-inner}
 use Rattle.plane.proofs.Touch.{isEnd-read, touch-free}
 use Rattle.plane.proofs.Path.{Even}
 use Rattle.plane.proofs.AlongSegment.{Apart}

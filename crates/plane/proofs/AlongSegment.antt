@@ -1,9 +1,8 @@
 -- Parity along one's own segment: at a point of s that no other segment of the list passes through, the count below has the parity that it
 -- has at s's midpoint, where s shares only common ends with the others.
-use mathlib.Core.Path.{_≡_, refl, sym, ap, _∙_, subst}
-use mathlib.Core.Logic.{_⊎_, inl, inr, ⊎-elim}
+use mathlib.Core.Path.{_≡_, subst}
+use mathlib.Core.Logic.{_⊎_, ⊎-elim}
 use mathlib.Core.List.{List}
-use lib.IntN.{ℤ, pos}
 use Rattle.whole.specs.Count.{_∈_}
 use Rattle.whole.proofs.Sign.{Pos, one-pos}
 use Rattle.whole.proofs.Parity.{parity}
@@ -11,7 +10,7 @@ use Rattle.plane.specs.declared.Segment.{Segment}
 use Rattle.plane.specs.Plane.{HPoint, midpoint, countsBelow}
 use Rattle.plane.proofs.OnSegment.{Along, Ordered, width, on-line}
 use Rattle.plane.proofs.Meeting.{Clear, aligned, Meets, clear-or-meets}
-use Rattle.plane.proofs.Means.{EndOf, Multiple, between-multiple, between-compose, collinear, middle, end-beside-middle}
+use Rattle.plane.proofs.Means.{EndOf, between-multiple, between-compose, collinear, middle, end-beside-middle}
 use Rattle.plane.proofs.Path.{Even, path}
 
 -- Every common point of s and t is an end of both

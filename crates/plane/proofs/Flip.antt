@@ -3,17 +3,16 @@
 use Prim.Native.Nat.{ℕ}
 use mathlib.Core.Path.{_≡_, refl, sym, ap, ap₂, _∙_, subst}
 use mathlib.Core.Logic.{_⊎_, inl, inr, ⊎-elim}
-use mathlib.Core.Bool.{Bool, true, false, not, _&&_, _||_}
+use mathlib.Core.Bool.{Bool, true, false, _&&_}
 use mathlib.Core.List.{List, [], _∷_}
 use lib.Dec.{T}
 use lib.IntN.{ℤ, pos, negsuc, negℤ, _+ℤ_, _-ℤ_, _*ℤ_}
 use lib.Signed.{ltZ}
 use Rattle.whole.specs.Count.{eqZ, _∈_}
-use Rattle.whole.proofs.Balance.{eqZ-read}
-use Rattle.whole.proofs.Solver.{Exp, var, con, opp, _:+_, _:-_, _:*_, solve}
-use Rattle.whole.proofs.Sign.{Half, at-least, under, half, nonneg-mul, Pos, NonNeg, Neg, NonPos, Sign, minus, nought, plus, sign, pos-nonneg, zero-nonneg, zero-nonpos, neg-nonpos, neg-pos, pos-neg, neg-of-pos, pos-of-neg, pos-clash, nonneg-clash, zero-pos, zero-neg, pos-add, pos-mul, pos-mul-neg, cancel-pos, mul-zero-left, mul-zero-right, eqZ-zero, zero-eqZ, ltZ-shift, one-pos}
+use Rattle.whole.proofs.Solver.{var, con, opp, _:+_, _:-_, _:*_, solve}
+use Rattle.whole.proofs.Sign.{Half, at-least, under, half, nonneg-mul, Pos, Neg, Sign, minus, nought, plus, sign, pos-nonneg, zero-nonneg, zero-nonpos, neg-nonpos, neg-pos, pos-neg, neg-of-pos, pos-clash, zero-pos, zero-neg, pos-add, pos-mul, pos-mul-neg, mul-zero-right, eqZ-zero, zero-eqZ, ltZ-shift, one-pos}
 use Rattle.whole.proofs.Logic.{true-is, refute, and-never}
-use Rattle.whole.proofs.Parity.{_⊻_, xor-same, xor-false, xor-comm, xor-assoc, xor-move, parity, parity-same, parity-xor}
+use Rattle.whole.proofs.Parity.{_⊻_, xor-same, xor-false, xor-move, parity, parity-same, parity-xor}
 use Rattle.plane.specs.declared.Point.{Point}
 use Rattle.plane.specs.declared.Segment.{Segment}
 use Rattle.plane.specs.Plane.{HPoint, midpoint, sideAt, sameSegment, countsBelow, countsBelowLeft}
@@ -22,7 +21,7 @@ use Rattle.plane.proofs.Means.{middle}
 use Rattle.plane.proofs.OnSegment.{on-line, on-away, Away, over, beneath, leftward, rightward, short, past, Ordered, slanting, upright}
 use Rattle.plane.proofs.Path.{Even, even-ends}
 use Rattle.plane.proofs.Equal.{sameSegment-read, sameSegment-refl}
-use Rattle.plane.proofs.Steps.{grows, stays, positive-is, Large, large-all, large-map, large-and, large-each, step, side-moved, past-left-moved, to-right-moved, away-moved, count-moved, count-moved-left, upright-never, upright-never-left, positive, atLeast, positive-yes, positive-no, at-least-yes, at-least-no, count-tests, left-count-tests, inCount, inLeftCount, left-count-range}
+use Rattle.plane.proofs.Steps.{grows, stays, positive-is, Large, large-all, large-map, large-and, large-each, step, side-moved, past-left-moved, to-right-moved, away-moved, count-moved, count-moved-left, upright-never, upright-never-left, positive, atLeast, positive-yes, positive-no, at-least-yes, at-least-no, count-tests, left-count-tests, inCount, inLeftCount}
 
 -- ---- directions
 

@@ -1,13 +1,13 @@
 -- Homogeneous points: their determinant, and the identities behind every lemma on the plane. Each is one call of the ring solver, over
 -- the expressions that mirror the definitions.
-use mathlib.Core.Path.{_≡_, refl, sym, ap, _∙_}
+use mathlib.Core.Path.{_≡_}
 use mathlib.Core.List.{List, [], _∷_}
 use lib.IntN.{ℤ, pos, negℤ, _+ℤ_, _-ℤ_, _*ℤ_}
 use Rattle.whole.proofs.Solver.{Exp, var, con, opp, _:+_, _:-_, _:*_, solve}
 use Rattle.whole.proofs.Ring.{one-mul}
 use Rattle.plane.specs.declared.Point.{Point}
 use Rattle.plane.specs.declared.Segment.{Segment}
-use Rattle.plane.specs.Plane.{HPoint, grid, midpoint, side, sideAt}
+use Rattle.plane.specs.Plane.{HPoint, grid, side, sideAt}
 
 infixl 26 _⊞_
 infixl 27 _⋆_
@@ -24,12 +24,9 @@ det u v p =
     u .X *ℤ (v .Y *ℤ p .W -ℤ p .Y *ℤ v .W) -ℤ u .Y *ℤ (v .X *ℤ p .W -ℤ p .X *ℤ v .W)
     +ℤ u .W *ℤ (v .X *ℤ p .Y -ℤ p .X *ℤ v .Y)
 
--- how far q is right of p, and above it, times both denominators
+-- how far q is right of p, times both denominators
 unfoldable pub dx : HPoint → HPoint → ℤ
 dx p q = q .X *ℤ p .W -ℤ p .X *ℤ q .W
-
-unfoldable pub dy : HPoint → HPoint → ℤ
-dy p q = q .Y *ℤ p .W -ℤ p .Y *ℤ q .W
 
 -- ---- the definitions over expressions
 
@@ -61,9 +58,6 @@ left = gridᵉ (var 0) (var 1)
 
 abbrev pub right : Triple
 right = gridᵉ (var 2) (var 3)
-
-abbrev pub mid : Triple
-mid = triple (var 0 :+ var 2) (var 1 :+ var 3) (con (pos 2))
 
 abbrev pub sideAtᵉ : Triple → Exp
 sideAtᵉ p = sideᵉ (var 0) (var 1) (var 2) (var 3) p

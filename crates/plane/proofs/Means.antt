@@ -1,21 +1,19 @@
 -- Weighted means of two points: a mean of means is a mean; two means are collinear with their ends; a mean that is one of the ends has no
 -- weight on the other; and points that differ by a positive factor lie on the same segments.
 use Prim.Native.Nat.{ℕ}
-use mathlib.Core.Path.{_≡_, refl, sym, ap, ap₂, _∙_, subst}
-use mathlib.Core.Logic.{_⊎_, inl, inr, ⊎-elim}
-use mathlib.Core.Bool.{Bool, true, false, not, _&&_, _||_}
-use mathlib.Core.List.{List, [], _∷_}
+use mathlib.Core.Path.{_≡_, refl, sym, ap, ap₂, _∙_}
+use mathlib.Core.Logic.{_⊎_, ⊎-elim}
+use mathlib.Core.List.{[], _∷_}
 use lib.Dec.{T}
 use lib.IntN.{ℤ, pos, negℤ, _+ℤ_, _-ℤ_, _*ℤ_, *ℤ-comm}
 use Rattle.whole.specs.Count.{eqZ}
 use Rattle.whole.proofs.Ring.{mul-assoc}
-use Rattle.whole.proofs.Solver.{Exp, var, con, opp, _:+_, _:-_, _:*_, solve}
-use Rattle.whole.proofs.Balance.{eqZ-read, eqZ-make}
-use Rattle.whole.proofs.Sign.{Pos, NonNeg, Neg, Weak, weak-zero, weak-plus, weak, pos-nonneg, one-pos, lit-nonneg, zero-pos, pos-mul, nonneg-mul, nonneg-add, mul-zero-left, mul-zero-right, cancel-zero, cancel-zero-right, sum-zero-left, sum-zero-right, eqZ-zero, zero-eqZ}
+use Rattle.whole.proofs.Solver.{var, con, opp, _:+_, _:-_, _:*_, solve}
+use Rattle.whole.proofs.Sign.{Pos, NonNeg, Weak, weak-zero, weak-plus, weak, pos-nonneg, one-pos, lit-nonneg, zero-pos, pos-mul, nonneg-mul, nonneg-add, mul-zero-left, mul-zero-right, cancel-zero, cancel-zero-right, sum-zero-right, eqZ-zero, zero-eqZ}
 use Rattle.whole.proofs.Logic.{and-left, and-right, and-make, or-cases, or-left, or-right}
 use Rattle.plane.specs.declared.Point.{Point}
 use Rattle.plane.specs.declared.Segment.{Segment}
-use Rattle.plane.specs.Plane.{HPoint, grid, midpoint, sideAt, isAt, isEnd}
+use Rattle.plane.specs.Plane.{HPoint, midpoint, isAt, isEnd}
 use Rattle.plane.proofs.Homogeneous.{_⋆_, _⊞_, triple-eq, det, detᵉ, triple, Triple}
 use Rattle.plane.proofs.OnSegment.{Between, Along, Ordered, slanting, upright, right-of-left, above-left, left-of-right, below-right}
 

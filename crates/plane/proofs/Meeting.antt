@@ -1,9 +1,9 @@
 -- The meeting lemma: a path from p to q and a segment have a common point, or the signs of four determinants keep them apart.
-use mathlib.Core.Path.{_≡_, refl, sym, ap, ap₂, _∙_, subst}
+use mathlib.Core.Path.{_≡_, sym, ap, ap₂, _∙_, subst}
 use mathlib.Core.Logic.{_⊎_, inl, inr, ⊎-elim}
 use lib.IntN.{ℤ, pos, negℤ, _+ℤ_, _*ℤ_, +ℤ-comm, *ℤ-comm, negℤ-negℤ, negℤ-+ℤ}
 use Rattle.whole.proofs.Ring.{one-mul}
-use Rattle.whole.proofs.Sign.{Pos, NonNeg, Neg, Weak, weak-zero, weak-plus, weak, Signs, both-plus, both-minus, falling, rising, signs, pos-nonneg, nonneg-both, nonneg-add, nonneg-mul, neg-pos, pos-neg, neg-of-pos, pos-of-neg, sum-zero-left, sum-zero-right, cancel-zero-right, zero-of-neg, neg-zero, one-pos}
+use Rattle.whole.proofs.Sign.{Pos, NonNeg, Neg, Weak, weak-zero, weak-plus, weak, Signs, both-plus, both-minus, falling, rising, signs, pos-nonneg, nonneg-both, nonneg-add, nonneg-mul, neg-pos, pos-neg, sum-zero-left, sum-zero-right, cancel-zero-right, zero-of-neg, neg-zero, one-pos}
 use Rattle.plane.specs.declared.Segment.{Segment}
 use Rattle.plane.specs.Plane.{HPoint, grid, sideAt}
 use Rattle.plane.proofs.Homogeneous.{_⋆_, _⊞_, triple-eq, det, det-swap, crossing, cramer, one-times}

@@ -1,15 +1,15 @@
 -- A point on a segment, as the test of the specification and as a weighted mean of the two ends; and "away", its negation as strict
 -- inequalities, which small steps preserve. Every point is on a segment or away from it.
-use mathlib.Core.Path.{_≡_, refl, sym, ap, ap₂, _∙_, subst}
+use mathlib.Core.Path.{_≡_, sym, ap, ap₂, _∙_, subst}
 use mathlib.Core.Logic.{_⊎_, inl, inr, ⊎-elim}
-use mathlib.Core.Bool.{Bool, true, false, not, _&&_, _||_}
+use mathlib.Core.Bool.{false, _&&_}
 use mathlib.Core.List.{List, [], _∷_}
 use lib.Dec.{T}
 use lib.IntN.{ℤ, pos, negℤ, _+ℤ_, _-ℤ_, _*ℤ_}
 use lib.Signed.{ltZ, leZ}
 use Rattle.whole.specs.Count.{eqZ}
-use Rattle.whole.proofs.Solver.{Exp, var, con, opp, _:+_, _:-_, _:*_, solve}
-use Rattle.whole.proofs.Sign.{Pos, NonNeg, Neg, Sign, minus, nought, plus, sign, Weak, weak-zero, weak-plus, weak, Half, at-least, under, half, pos-nonneg, zero-nonneg, neg-pos, neg-of-pos, pos-of-neg, pos-clash, nonneg-clash, zero-pos, zero-neg, pos-add, pos-add-nonneg, nonneg-add, pos-mul, nonneg-mul, mul-zero-left, mul-zero-right, cancel-zero, cancel-pos, cancel-nonneg, ltZ-pos, pos-ltZ, leZ-nonneg, nonneg-leZ, eqZ-zero, zero-eqZ, sub-zero-eq, one-pos}
+use Rattle.whole.proofs.Solver.{var, con, opp, _:+_, _:-_, _:*_, solve}
+use Rattle.whole.proofs.Sign.{Pos, NonNeg, Neg, Sign, minus, nought, plus, sign, Weak, weak-zero, weak-plus, weak, Half, at-least, under, half, pos-nonneg, zero-nonneg, nonneg-clash, zero-pos, zero-neg, pos-mul, nonneg-mul, mul-zero-left, mul-zero-right, cancel-zero, cancel-pos, cancel-nonneg, ltZ-pos, pos-ltZ, leZ-nonneg, nonneg-leZ, eqZ-zero, zero-eqZ, sub-zero-eq}
 use Rattle.whole.proofs.Balance.{eqZ-read, eqZ-make}
 use Rattle.whole.proofs.Logic.{and-left, and-right, and-make, or-cases, or-left, or-right, refute}
 use Rattle.plane.specs.declared.Point.{Point}

@@ -1,21 +1,20 @@
 -- Parity along a path: where no segment of a list with even ends meets the path from p to q, the counts below p and below q have the same
 -- parity. First the claim for one segment, from the signs that keep it clear; then the sum over the list.
 use mathlib.Core.Path.{_≡_, refl, sym, ap, ap₂, _∙_, subst}
-use mathlib.Core.Logic.{_⊎_, inl, inr, ⊎-elim}
-use mathlib.Core.Bool.{Bool, true, false, not, _&&_, _||_}
+use mathlib.Core.Bool.{Bool, true, false, not, _&&_}
 use mathlib.Core.List.{List, [], _∷_}
-use lib.Dec.{T, T-not}
+use lib.Dec.{T}
 use lib.IntN.{ℤ, pos, negℤ, _+ℤ_, _-ℤ_, _*ℤ_, *ℤ-comm}
 use lib.Signed.{ltZ, leZ}
-use Rattle.whole.specs.Count.{eqZ, _∈_, here, there}
-use Rattle.whole.proofs.Solver.{Exp, var, con, opp, _:+_, _:-_, _:*_, solve}
-use Rattle.whole.proofs.Sign.{Pos, NonNeg, Neg, Half, at-least, under, half, pos-nonneg, neg-pos, neg-of-pos, pos-neg, pos-clash, nonneg-clash, zero-pos, zero-neg, pos-add-nonneg, nonneg-add-pos, nonneg-add, pos-mul, nonneg-mul, pos-of-mul-nonneg, cancel-nonneg, ltZ-pos, leZ-nonneg, nonneg-leZ, ltZ-leZ, ltZ0-pos, pos-ltZ0, ltZ0-neg, neg-ltZ0}
-use Rattle.whole.proofs.Logic.{and-left, and-right, and-make, and-follows, and-never}
-use Rattle.whole.proofs.Parity.{_⊻_, xor-none, xor-assoc, parity, parity-cons, parity-nil, parity-same, parity-xor, even-all}
+use Rattle.whole.specs.Count.{_∈_}
+use Rattle.whole.proofs.Solver.{var, opp, _:+_, _:-_, _:*_, solve}
+use Rattle.whole.proofs.Sign.{Pos, NonNeg, Neg, Half, at-least, under, half, pos-nonneg, neg-pos, neg-of-pos, pos-clash, zero-pos, zero-neg, pos-add-nonneg, nonneg-add-pos, nonneg-add, pos-mul, nonneg-mul, pos-of-mul-nonneg, cancel-nonneg, ltZ-pos, leZ-nonneg, nonneg-leZ, ltZ-leZ, ltZ0-pos, pos-ltZ0, ltZ0-neg, neg-ltZ0}
+use Rattle.whole.proofs.Logic.{and-left, and-right, and-follows, and-never}
+use Rattle.whole.proofs.Parity.{_⊻_, xor-none, xor-assoc, parity, parity-same, parity-xor, even-all}
 use Rattle.plane.specs.declared.Point.{Point}
 use Rattle.plane.specs.declared.Segment.{Segment}
 use Rattle.plane.specs.Plane.{HPoint, grid, sideAt, samePoint, countsBelow}
-use Rattle.plane.proofs.Homogeneous.{det, dx, dx-swap, first, second, dxᵉ, values₂, seen-from-left, seen-from-right, seen-from-first, seen-from-second}
+use Rattle.plane.proofs.Homogeneous.{det, dx, dx-swap, first, second, dxᵉ, seen-from-left, seen-from-right, seen-from-first, seen-from-second}
 use Rattle.plane.proofs.Equal.{samePoint-read, samePoint-refl}
 use Rattle.plane.proofs.Meeting.{Clear, aligned, path-over, path-under, ends-over, ends-under, clear-swap}
 

@@ -3,16 +3,16 @@
 use Prim.Native.Nat.{ℕ, zero, suc, _+_, _*_, _≤_, _<_, max}
 use native.Mathlib.Omega.{arith}
 use mathlib.Core.Path.{_≡_, refl, sym, ap, ap₂, _∙_, subst}
-use mathlib.Core.Logic.{_⊎_, inl, inr, ⊎-elim}
-use mathlib.Core.Bool.{Bool, true, false, not, _&&_, _||_}
+use mathlib.Core.Logic.{_⊎_, ⊎-elim}
+use mathlib.Core.Bool.{Bool, true, false, _&&_}
 use mathlib.Core.List.{List, [], _∷_}
 use lib.Dec.{T}
-use lib.IntN.{ℤ, pos, negsuc, negℤ, natAbs, _+ℤ_, _-ℤ_, _*ℤ_, +ℤ-idl, *ℤ-zero}
+use lib.IntN.{ℤ, pos, negsuc, negℤ, _+ℤ_, _-ℤ_, _*ℤ_, +ℤ-idl}
 use lib.Signed.{ltZ, leZ}
-use Rattle.whole.specs.Count.{eqZ, _∈_, here, there}
-use Rattle.whole.proofs.Balance.{P, N, add-balance, neg-P, neg-N}
-use Rattle.whole.proofs.Solver.{Exp, var, con, opp, _:+_, _:-_, _:*_, solve}
-use Rattle.whole.proofs.Sign.{Pos, NonNeg, Neg, NonPos, neg-nonpos, zero-nonpos, nonpos-clash, Sign, minus, nought, plus, sign, pos-nonneg, zero-nonneg, neg-pos, pos-neg, neg-of-pos, pos-clash, nonneg-clash, zero-pos, zero-neg, pos-add-nonneg, nonneg-add-pos, nonneg-mul, nonneg-add, lit-nonneg, mul-zero-left, mul-zero-right, ltZ0-pos, pos-ltZ0, leZ0-nonneg, nonneg-leZ0, ltZ-shift, leZ-shift, one-pos}
+use Rattle.whole.specs.Count.{_∈_, here, there}
+use Rattle.whole.proofs.Balance.{P, N, add-balance}
+use Rattle.whole.proofs.Solver.{var, opp, _:+_, _:-_, _:*_, solve}
+use Rattle.whole.proofs.Sign.{Pos, NonNeg, Neg, NonPos, neg-nonpos, zero-nonpos, nonpos-clash, Sign, minus, nought, plus, sign, pos-nonneg, zero-nonneg, neg-pos, neg-of-pos, nonneg-clash, zero-pos, pos-add-nonneg, nonneg-add-pos, nonneg-mul, nonneg-add, lit-nonneg, mul-zero-left, mul-zero-right, ltZ0-pos, pos-ltZ0, leZ0-nonneg, nonneg-leZ0, ltZ-shift, leZ-shift}
 use Rattle.whole.proofs.Logic.{in-nil, in-cons, true-is, refute, and-left, and-right, and-never}
 use Rattle.plane.specs.declared.Segment.{Segment}
 use Rattle.plane.specs.Plane.{HPoint, sideAt, countsBelow, countsBelowLeft}

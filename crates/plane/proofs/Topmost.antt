@@ -1,26 +1,26 @@
 -- What lies under a point: among the segments that count below a point away from all of them, the highest at that x is a segment from whose
 -- upper side the point's parities can be read, for every list with even ends.
 use Prim.Native.Nat.{ℕ, suc}
-use mathlib.Core.Path.{_≡_, refl, sym, ap, ap₂, _∙_, subst}
+use mathlib.Core.Path.{_≡_, sym, ap, ap₂, _∙_, subst}
 use mathlib.Core.Logic.{_⊎_, inl, inr, ⊎-elim}
-use mathlib.Core.Bool.{Bool, true, false, not, _&&_, _||_}
+use mathlib.Core.Bool.{Bool, true, false, not, _&&_}
 use mathlib.Core.List.{List, [], _∷_}
 use lib.Dec.{T, T-not}
-use lib.IntN.{ℤ, pos, negℤ, _+ℤ_, _-ℤ_, _*ℤ_}
+use lib.IntN.{ℤ, pos, _-ℤ_, _*ℤ_}
 use Rattle.whole.specs.Count.{_∈_, here, there}
 use Rattle.whole.proofs.Solver.{Exp, var, con, opp, _:+_, _:-_, _:*_, solve}
-use Rattle.whole.proofs.Sign.{zero-nonneg, zero-neg, neg-sub-pos, pos-add-nonneg, lit-nonneg, Pos, NonNeg, Neg, NonPos, Weak, weak-zero, weak-plus, weak, Half, at-least, under, half, pos-nonneg, neg-nonpos, neg-pos, pos-neg, neg-of-pos, pos-clash, nonneg-clash, zero-pos, pos-add, nonneg-add, nonneg-add-pos, pos-mul, nonneg-mul, pos-mul-neg, cancel-pos, cancel-nonneg, one-pos}
-use Rattle.whole.proofs.Logic.{in-nil, in-cons, decide, and-left, and-right, and-make, true-is, false-is, is-true, refute, and-never}
+use Rattle.whole.proofs.Sign.{zero-nonneg, zero-neg, neg-sub-pos, pos-add-nonneg, lit-nonneg, Pos, NonNeg, Neg, Weak, weak-zero, weak-plus, weak, Half, at-least, under, half, pos-nonneg, neg-nonpos, neg-pos, pos-neg, nonneg-clash, zero-pos, nonneg-add, nonneg-add-pos, pos-mul, nonneg-mul, pos-mul-neg, cancel-pos, cancel-nonneg, one-pos}
+use Rattle.whole.proofs.Logic.{in-nil, in-cons, decide, and-left, and-right, and-make, true-is, false-is, is-true, and-never}
 use Rattle.whole.proofs.Parity.{_⊻_, xor-false, parity, parity-same, parity-xor}
 use Rattle.plane.specs.declared.Segment.{Segment}
 use Rattle.plane.specs.Plane.{HPoint, grid, midpoint, sideAt, sameSegment, countsBelow}
 use Rattle.plane.proofs.Homogeneous.{_⋆_, _⊞_, one-times, Triple, triple, sideᵉ, sideAtᵉ, first}
-use Rattle.plane.proofs.OnSegment.{Between, Along, Ordered, Away, over, beneath, leftward, rightward, short, past, on-or-away, on-line}
+use Rattle.plane.proofs.OnSegment.{Along, Ordered, Away, over, beneath, leftward, rightward, short, past, on-or-away, on-line}
 use Rattle.plane.proofs.Means.{EndOf, left-end, right-end, at-left, at-right}
 use Rattle.plane.proofs.Path.{Even}
 use Rattle.plane.proofs.Equal.{sameSegment-read, sameSegment-refl}
 use Rattle.plane.proofs.AlongSegment.{Apart, along-segment}
-use Rattle.plane.proofs.Steps.{Large, large-all, large-map, large-and, large-each, large-one, step, past-left-moved, to-right-moved, away-moved, count-moved, shrinks, positive, atLeast, positive-is, positive-yes, positive-no, at-least-yes, at-least-no, count-tests, inCount, InRange, count-range}
+use Rattle.plane.proofs.Steps.{Large, large-all, large-map, large-and, large-each, large-one, step, past-left-moved, away-moved, count-moved, shrinks, positive, atLeast, positive-is, positive-yes, positive-no, count-tests, inCount, InRange, count-range}
 use Rattle.plane.proofs.Flip.{rightwards, seen-x, seen-back, positive-times, at-least-times}
 
 -- ---- the greatest fraction over a list

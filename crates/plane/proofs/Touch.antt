@@ -1,21 +1,20 @@
 -- The touch test decides "share a point that is not an end of both" for unequal segments with ordered ends: they cross, or an end of one lies
 -- strictly inside the other. On one line the ends are compared by the order of points, as steps that go forward by x, then y.
-use mathlib.Core.Path.{_≡_, refl, sym, ap, ap₂, _∙_, subst, subst₂}
+use mathlib.Core.Path.{_≡_, sym, ap, ap₂, _∙_, subst, subst₂}
 use mathlib.Core.Logic.{_⊎_, inl, inr, ⊎-elim}
 use mathlib.Core.Bool.{Bool, true, false, not, _&&_, _||_, and-comm}
 use mathlib.Core.List.{[], _∷_}
 use lib.Dec.{T, T-not, not-T}
 use lib.IntN.{ℤ, pos, negℤ, _+ℤ_, _-ℤ_, _*ℤ_, *ℤ-comm}
 use lib.Signed.{ltZ}
-use Rattle.whole.specs.Count.{eqZ}
 use Rattle.whole.proofs.Ring.{one-mul}
 use Rattle.whole.proofs.Solver.{var, con, opp, _:+_, _:-_, _:*_, solve}
-use Rattle.whole.proofs.Balance.{eqZ-read, eqZ-make}
+use Rattle.whole.proofs.Balance.{eqZ-make}
 use Rattle.whole.proofs.Sign.{Pos, NonNeg, Neg, Sign, minus, nought, plus, sign, Weak, weak-zero, weak-plus, weak, pos-nonneg, zero-nonneg, neg-pos, pos-neg, pos-clash, nonneg-clash, zero-pos, zero-neg, pos-add, pos-add-nonneg, nonneg-add-pos, sum-zero-left, sum-zero-right, pos-mul, pos-mul-neg, neg-mul-pos, neg-mul-neg, mul-zero-left, mul-zero-right, cancel-zero, cancel-pos, cancel-neg, eqZ-zero, sub-zero-eq, one-pos, lit-nonneg, ltZ0-pos, pos-ltZ0, ltZ0-neg, neg-ltZ0}
 use Rattle.whole.proofs.Logic.{and-left, and-right, and-make, or-cases, or-left, or-right, decide}
 use Rattle.plane.specs.declared.Point.{Point}
 use Rattle.plane.specs.declared.Segment.{Segment}
-use Rattle.plane.specs.Plane.{HPoint, grid, fractions, samePoint, sameSegment, sideAt, isAt, on, isEnd, SharePoint, opposite, cross, endWithin, touch}
+use Rattle.plane.specs.Plane.{HPoint, grid, fractions, sameSegment, sideAt, isAt, on, isEnd, SharePoint, opposite, cross, endWithin, touch}
 use Rattle.plane.proofs.Homogeneous.{_⋆_, triple, triple-eq, gridᵉ, det, sideAt-det, side-grid, sideᵉ, sideAtᵉ, left, right, first, second}
 use Rattle.plane.proofs.OnSegment.{Ordered, slanting, upright, Between, Along, right-of-left, above-left, left-of-right, below-right, on-line, Away, over, beneath, leftward, rightward, short, past, on-or-away, along-on, on-along}
 use Rattle.plane.proofs.Meeting.{Clear, aligned, path-over, path-under, ends-over, ends-under, Meets, between-swap, clear-or-meets}

@@ -1,7 +1,6 @@
 -- The plane: document 01's section "Objects", sentence by sentence. All tests compute; none but `inRange` knows a coordinate range.
 -- A quotation names the sentence that a definition renders.
 use Prim.Native.Nat.{ℕ, zero, suc, _*_, _<_}
-use mathlib.Core.Path.{_≡_}
 use mathlib.Core.Bool.{Bool, true, false, not, _&&_, _||_}
 use mathlib.Core.List.{List}
 use lib.Dec.{T, leb, eqb}

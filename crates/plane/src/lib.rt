@@ -1,5 +1,5 @@
 // The plane of document 01, exactly: its types, and the tests on points and turns in 64 bits, each proved equal to its definition in specs/Plane.antt.
-// The tests on segments are those of the crate geometry.
+// The tests on segments are those of `plane_segments`.
 // Every sign of a side value is read off `turn_from`.
 ghost use mathlib.Core.Path.{_≡_};
 ghost use Prim.Native.Nat.{_*_};

@@ -1,9 +1,9 @@
 -- What a taken scene or object gives its callers: each condition of its list has no fault, and each element is whole, in range and ordered.
 use Prim.Native.Nat.{ℕ, _+_, _<_, _≤_}
 use native.Mathlib.Omega.{arith}
-use mathlib.Core.Path.{_≡_, refl, subst}
-use mathlib.Core.Bool.{false}
-use mathlib.Core.List.{List, [], _∷_}
+use mathlib.Core.Path.{_≡_, refl, ap, subst, _∙_}
+use mathlib.Core.Bool.{true, false, false≢true}
+use mathlib.Core.List.{List, [], _∷_, map}
 use lib.ListN.{length}
 use lib.Dec.{T}
 use Rattle.plane.specs.Plane.{inRange, segmentInRange, ordered}
@@ -18,8 +18,9 @@ use Rattle.scene.specs.declared.Fault.the-variants.{At, Nothing}
 use Rattle.scene.specs.declared.CheckedObject.{CheckedObject}
 use Rattle.scene.specs.declared.CheckedScene.{CheckedScene}
 use Rattle.scene.specs.Read.{place, bodyLength, coordinatesGood, standsIn, pointAt, segmentAt, decide, judge, readScene, readAlone}
-use Rattle.scene.specs.Conditions.{Rule, conditions, hasSegments, isRegion, checkedScene, checkSceneBy, checkedObject, checkObject, objectRules}
+use Rattle.scene.specs.Conditions.{Rule, conditions, orElse, overBoth, hasSegments, isRegion, checkedScene, checkSceneBy, checkedObject, checkObject, objectRules}
 use Rattle.scene.proofs.Passed.{Passed}
+use Rattle.scene.proofs.Indices.{not-nothing}
 use Rattle.scene.proofs.Taken.{TakenObject, TakenAlone, TakenScene, taken-alone, taken-scene, not-taken, never-taken, same-layout, same-scene}
 
 -- ---- conditions
@@ -41,6 +42,28 @@ module _ {A : Type 0} (s : List ℕ) (a : A) where
         go (At p) q x later = absurd (never (record { number = r .number; place = p }) x)
         go Nothing q x later = (later x .0, (q, later x .1))
 
+  -- a list with no fault
+  faultless : {B : Type 0} (refuse : Refusal → B) (b : B) (rules : List (Rule A)) → NoFault rules → judge refuse b (conditions rules s a) ≡ b
+  faultless refuse b [] n = refl
+  faultless refuse b (r ∷ rules) n = rw (n .0) (faultless refuse b rules (n .1))
+
+-- over a scene: a list over both objects has no fault where it has none in either
+pub neither : (a b : Fault) → orElse a b ≡ Nothing → (a ≡ Nothing) × (b ≡ Nothing)
+neither (At p) b e = absurd (not-nothing e)
+neither Nothing b e = (refl, e)
+
+module _ (s : List ℕ) (sc : Scene) where
+  pub in-neither : (rules : List (Rule Layout)) → NoFault s sc (map overBoth rules) → NoFault s (sc .f) rules × NoFault s (sc .g) rules
+  in-neither [] n = (tt, tt)
+  in-neither (r ∷ rules) n =
+      let first = neither (r .fault s (sc .f)) (r .fault s (sc .g)) (n .0) in
+      let more = in-neither rules (n .1) in
+      ((first .0, more .0), (first .1, more .1))
+
+  pub over-both : (rules : List (Rule Layout)) → NoFault s (sc .f) rules → NoFault s (sc .g) rules → NoFault s sc (map overBoth rules)
+  over-both [] f g = tt
+  over-both (r ∷ rules) f g = (ap (λ (x : Fault). orElse x (r .fault s (sc .g))) (f .0) ∙ g .0, over-both rules (f .1) (g .1))
+
 pub checked-scene : (rules : List (Rule Scene)) (s : List ℕ) (sc : Scene) → checkSceneBy rules s ≡ CheckedScene.Taken sc → TakenScene s sc × NoFault s sc rules
 unfolding checkSceneBy
 checked-scene rules s sc e = go (readScene s) refl e
@@ -61,6 +84,10 @@ checked-object s l e = go (readAlone s) refl e
         let n = no-fault s o CheckedObject.Refused (CheckedObject.Taken l) (λ r. not-taken) objectRules (CheckedObject.Taken o) x in
         subst (λ (o : Layout). TakenAlone s 0 o × NoFault s o objectRules) (same-layout (n .0)) (taken-alone s o q, n .1)
 
+pub object-checked : (s : List ℕ) (l : Layout) → readAlone s ≡ CheckedObject.Taken l → NoFault s l objectRules → checkObject s ≡ CheckedObject.Taken l
+unfolding checkObject
+object-checked s l e n = ap (checkedObject s) e ∙ faultless s l CheckedObject.Refused (CheckedObject.Taken l) objectRules n
+
 -- ---- elements: what the functions that read them and those of the plane ask
 
 pub record GoodPoint (s : List ℕ) (at : ℕ) : Type 0 where
@@ -71,6 +98,11 @@ pub record GoodHalfsegment (s : List ℕ) (at : ℕ) : Type 0 where
   pub there : at + 18 ≤ length s
   pub in-range : T (segmentInRange (segmentAt s at))
   pub in-order : T (ordered (segmentAt s at))
+
+pub region-segments : (k : Shape) → isRegion k ≡ true → hasSegments k ≡ true
+region-segments Points e = absurd (false≢true e)
+region-segments Line e = absurd (false≢true e)
+region-segments Region e = refl
 
 module _ {s : List ℕ} {at : ℕ} {l : Layout} (t : TakenObject s at l) (i : ℕ) (h : i < l .count) where
   pub good-point : l .shape ≡ Points → GoodPoint s (place l i)

@@ -4,11 +4,11 @@ use native.Mathlib.Nat.{lt-irrefl}
 use native.Mathlib.Decide.{decLt, ℕ-discrete}
 use native.Mathlib.Omega.{arith}
 use mathlib.Core.Path.{_≡_, refl, sym, ap, subst, _∙_}
-use mathlib.Core.Bool.{Bool, true, false, not, true≢false}
+use mathlib.Core.Bool.{Bool, true, false, not, true≢false, false≢true}
 use mathlib.Core.List.{List, [], _∷_}
 use lib.ListN.{length}
 use lib.Dec.{T, leb, eqb, eqb→eq}
-use borrow.Author.Tests.{eq-eqb, ne-eqb, leb-true}
+use borrow.Author.Tests.{eq-eqb, ne-eqb, leb-true, le-leb}
 use Rattle.scene.specs.declared.Shape.{Shape}
 use Rattle.scene.specs.declared.Shape.the-variants.{Points, Line, Region}
 use Rattle.scene.specs.declared.Kind.{Kind}
@@ -20,7 +20,7 @@ use Rattle.scene.specs.declared.Record.{Record}
 use Rattle.scene.specs.declared.Record.the-variants.{Good, Bad}
 use Rattle.scene.specs.declared.CheckedObject.{CheckedObject}
 use Rattle.scene.specs.declared.CheckedScene.{CheckedScene}
-use Rattle.scene.specs.Read.{shapeNumber, standsIn, startsObject, isEnd, recordAt, place, endPlace, after, next, most, elementsFrom, begun, readObject, shapeOf, byte, unless, decide, judge, endsWith, alone, readAlone, withG, withF, readScene, IsObject}
+use Rattle.scene.specs.Read.{kindAt, shapeNumber, standsIn, startsObject, isEnd, recordAt, place, endPlace, after, next, most, elementsFrom, begun, readObject, shapeOf, byte, unless, decide, judge, endsWith, alone, readAlone, withG, withF, readScene, IsObject}
 use Rattle.scene.proofs.Passed.{Passed, passed, same-shape}
 
 abbrev pub layout : Shape → ℕ → ℕ → Layout
@@ -32,6 +32,12 @@ element-kind k Start a e = absurd a
 element-kind k (Element x) a e = ap Element (same-shape x k (eqb→eq (shapeNumber x) (shapeNumber k) a))
 element-kind k End a e = absurd (true≢false e)
 element-kind k Unknown a e = absurd a
+
+end-kind : (j : Kind) → isEnd j ≡ true → j ≡ End
+end-kind Start e = absurd (false≢true e)
+end-kind (Element x) e = absurd (false≢true e)
+end-kind End e = refl
+end-kind Unknown e = absurd (false≢true e)
 
 -- ---- one step, n elements having been read
 module _ (s : List ℕ) (k : Shape) (start : ℕ) where
@@ -101,8 +107,10 @@ module _ (s : List ℕ) (k : Shape) (start : ℕ) where
 -- ---- a taken object
 pub record TakenObject (s : List ℕ) (at : ℕ) (l : Layout) : Type 0 where
   pub starts : l .start ≡ at
+  pub type : l .shape ≡ shapeOf (byte s (at + 1))
   pub few : l .count ≤ most
   pub ends : after l ≤ length s
+  pub end : kindAt s (endPlace l) ≡ End
   pub elements : (i : ℕ) → i < l .count → Passed s (place l i) (standsIn (l .shape)) false (Element (l .shape))
 
 pub not-taken : {r : Refusal} {l : Layout} → CheckedObject.Refused r ≡ CheckedObject.Taken l → ⊥
@@ -118,6 +126,7 @@ module _ (s : List ℕ) (k : Shape) (start : ℕ) (l : Layout) where
     is : layout k start last ≡ l
     few : last ≤ most
     ends : endPlace (layout k start last) + 1 ≤ length s
+    end : kindAt s (endPlace (layout k start last)) ≡ End
     elements : (i : ℕ) → n ≤ i → i < last → Passed s (place (layout k start i) i) (standsIn k) false (Element k)
 
   read-one : (n : ℕ) → n ≤ most → (n < most → rest s k start (n + 1) ≡ CheckedObject.Taken l → ReadTo (n + 1)) → rest s k start n ≡ CheckedObject.Taken l → ReadTo n
@@ -128,9 +137,13 @@ module _ (s : List ℕ) (k : Shape) (start : ℕ) (l : Layout) where
         last = n;
         is = same-layout (sym (ends-here s k start n h j q x) ∙ e);
         few = h;
-        ends = omega (arith, passed s (place (layout k start n) n) (standsIn k) (eqb n most) j q .whole);
+        ends = omega (arith, tests .whole);
+        end = tests .kind ∙ end-kind j x;
         elements = λ i f t. absurd (omega arith);
       }
+        where
+          tests : Passed s (place (layout k start n) n) (standsIn k) (eqb n most) j
+          tests = passed s (place (layout k start n) n) (standsIn k) (eqb n most) j q
 
       further : GoesOn s k start n → ReadTo n
       further g = record {
@@ -138,6 +151,7 @@ module _ (s : List ℕ) (k : Shape) (start : ℕ) (l : Layout) where
         is = r .is;
         few = r .few;
         ends = r .ends;
+        end = r .end;
         elements = λ i f t. which i t (ℕ-discrete n i) f;
       }
         where
@@ -180,7 +194,7 @@ taken-object s at l e = go (recordAt s at startsObject false) e
     read : rest s k at 0 ≡ CheckedObject.Taken l → TakenObject s at l
     read q =
         subst (TakenObject s at) (r .is)
-        (record { starts = refl; few = r .few; ends = r .ends; elements = λ i t. r .elements i zero-le t })
+        (record { starts = refl; type = refl; few = r .few; ends = r .ends; end = r .end; elements = λ i t. r .elements i zero-le t })
       where
         r : ReadTo s k at l 0
         r = read-to s k at l most 0 refl q
@@ -245,6 +259,19 @@ taken-scene s sc e = of-f (readObject s 0) refl e
     of-f : (o : CheckedObject) → readObject s 0 ≡ o → withF s o ≡ CheckedScene.Taken sc → TakenScene s sc
     of-f (CheckedObject.Refused r) q x = absurd (never-taken x)
     of-f (CheckedObject.Taken f) q x = of-g f q (readObject s (after f)) refl x
+
+-- and back: an object, or two, with no bytes after
+no-seven : {A : Type 0} (refuse : Refusal → A) (a : A) (s : List ℕ) (l : Layout) → length s ≡ after l → judge refuse a (endsWith s l ∷ []) ≡ a
+no-seven refuse a s l e = rw (le-leb (length s) (after l) (omega arith))
+
+pub alone-read : (s : List ℕ) (l : Layout) → readObject s 0 ≡ CheckedObject.Taken l → length s ≡ after l → readAlone s ≡ CheckedObject.Taken l
+unfolding readAlone
+alone-read s l e all = ap (alone s) e ∙ no-seven CheckedObject.Refused (CheckedObject.Taken l) s l all
+
+pub scene-read : (s : List ℕ) (sc : Scene) → readObject s 0 ≡ CheckedObject.Taken (sc .f) → readObject s (after (sc .f)) ≡ CheckedObject.Taken (sc .g)
+    → length s ≡ after (sc .g) → readScene s ≡ CheckedScene.Taken sc
+unfolding readScene
+scene-read s sc f g all = ap (withF s) f ∙ ap (withG s (sc .f)) g ∙ no-seven CheckedScene.Refused (CheckedScene.Taken sc) s (sc .g) all
 
 -- no object takes more than 19,459 bytes, and no scene more than 38,918
 abbrev pub longest : ℕ

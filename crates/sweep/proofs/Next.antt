@@ -14,11 +14,11 @@ use Rattle.scene.specs.declared.Layout.{Layout}
 use Rattle.scene.specs.declared.Scene.{Scene}
 use Rattle.scene.specs.Read.{IsObject}
 use Rattle.scene.specs.Conditions.{hasSegments, half}
-use Rattle.keys.specs.Keyed.{key, keys, nextKey}
-use Rattle.keys.proofs.Keys.{key-less, next-in}
-use Rattle.keys.proofs.Elements.{point-in-range, point-of-half}
-use Rattle.strands.specs.Swept.{objectOf, total}
-use Rattle.strands.proofs.Ordered.{not-after, comes-by-point}
+use Rattle.scene_keys.specs.Keyed.{key, keys, nextKey}
+use Rattle.scene_keys.proofs.Keys.{key-less, next-in}
+use Rattle.scene_keys.proofs.Elements.{point-in-range, point-of-half}
+use Rattle.sweep_laws.specs.Swept.{objectOf, total}
+use Rattle.sweep_laws.proofs.Ordered.{not-after, comes-by-point}
 
 -- h of F and k of G
 module _ (h k : Halfsegment) where

@@ -1,25 +1,29 @@
-// The sweep over the halfsegments of a scene, from left to right: where it accepts, the conditions 11 to 15 hold, and how many of the other
-// object's segments pass under each segment, or under each point, is noted, as a parity. Where it does not, nothing is said.
-use event::Step;
+// The sweep over the halfsegments of a scene, from left to right: it accepts exactly the scenes in order in which the conditions 11 to 15 find no fault.
+// How many of the other object's segments pass under each segment, or under each point, is then noted, as a parity.
 use scene::Layout;
 use scene::Scene;
 use scene::bytes;
 use scene::records;
-use status::note;
+use sweep_event::Step;
+use sweep_status::note;
+use sweep_status::place;
 ghost use mathlib.Core.Path.{_≡_};
-ghost use mathlib.Core.Bool.{Bool, true, false, not, _&&_, cond};
-ghost use Prim.Native.Nat.{ℕ, _<_, _≤_};
+ghost use mathlib.Core.Bool.{true, false, not, _&&_, cond};
+ghost use Prim.Native.Nat.{_<_, _≤_};
 ghost use lib.Dec.{T};
 ghost use lib.ListN.{length, take};
-ghost use Rattle.whole.specs.Count.{_∈_};
-ghost use Rattle.scene.specs.declared.Fault.the-variants.{Nothing};
+ghost use Rattle.whole.specs.Decides.{Decides};
 ghost use Rattle.scene.specs.Read.{IsObject, IsScene};
-ghost use Rattle.scene.specs.Conditions.{hasSegments, outOfOrder};
-ghost use Rattle.keys.specs.Keyed.{nextKey};
-ghost use Rattle.strands.specs.Evenly.{RegionsEndEvenly};
-ghost use Rattle.strands.specs.Swept.{objectOf, total, takesFirst, Taken, Entry, Passes};
-ghost use Rattle.strands.specs.Noted.{SegmentsNoted, Noted};
+ghost use Rattle.scene.specs.Conditions.{hasSegments};
+ghost use Rattle.scene_keys.specs.Keyed.{nextKey};
+ghost use Rattle.sweep_laws.specs.Evenly.{RegionsEndEvenly};
+ghost use Rattle.sweep_laws.specs.Swept.{total, isBeginning, takesFirst, InOrder, Passes};
+ghost use Rattle.sweep_laws.specs.Event.{Taken, CanTake};
+ghost use Rattle.sweep_laws.specs.Ready.{Held};
+ghost use Rattle.sweep_laws.specs.Noted.{SegmentsNoted, Noted};
+ghost use Rattle.sweep_event.specs.Steps.{Steps};
 
+pub mod evenly;
 pub mod points;
 
 // How many events an object has.
@@ -27,7 +31,7 @@ fn event_count(l: Layout) -> usize
     ensures { λ r. ⌜ r ≡ cond (hasSegments (l .shape)) (l .count) 0 ⌝ }
 {
     let k = l.shape;
-    if segments::has_segments(k) {
+    if scene_segments::has_segments(k) {
         l.count
     } else {
         0
@@ -52,7 +56,7 @@ fn takes_first(s: &[u8], scene: Scene, i: usize, j: usize, key_f: u64, key_g: u6
     }
     let h = bytes::halfsegment(s, records::place(f, i));
     let k = bytes::halfsegment(s, records::place(g, j));
-    !geometry::comes_before(k, h)
+    !plane_segments::comes_before(k, h)
 }
 
 // The key of the element i, where a step to it has been taken; the old one where not.
@@ -61,7 +65,7 @@ fn key_after(s: &[u8], l: Layout, stepped: bool, i: usize, old: u64) -> u64
     ensures { λ r. ⌜ r ≡ nextKey (now (s .entry)) l i ⌝ }
 {
     if stepped {
-        keys::key_of(s, l, i, records::place(l, i))
+        scene_keys::key_of(s, l, i, records::place(l, i))
     } else {
         old
     }
@@ -73,7 +77,7 @@ fn next_of(first: bool, i: usize, j: usize) -> usize
     if first { i } else { j }
 }
 
-// The element k of F, or of G.
+// The element k of F, or of G, at a place for its point.
 fn take_event(
     s: &[u8],
     scene: Scene,
@@ -84,22 +88,24 @@ fn take_event(
     hint: usize,
     notes: &[u8],
 ) -> Step
-    requires { ⌜ IsScene (now s) scene × (k < total (now s) scene first) × (n ≤ length (now status)) × ((e : ℕ) → e ∈ take n (now status) → Entry (now s) scene e) × (2048 ≤ length (now notes)) ⌝ }
-    ensures { λ r. ⌜ (length (now (status .exit)) ≡ length (now (status .entry))) × ((m v h : ℕ) → r ≡ Step.On m v h → (m ≤ length (now (status .exit))) × Taken (now (s .entry)) scene first k (now (notes .entry)) (take n (now (status .entry))) (take m (now (status .exit))) v) ⌝ }
+    requires { ⌜ IsScene (now s) scene × (k < total (now s) scene first) × Held (now s) scene (now status) n × (2048 ≤ length (now notes)) ⌝ }
+    ensures { λ r. ⌜ (length (now (status .exit)) ≡ length (now (status .entry))) × Steps (λ m v. (m ≤ length (now (status .exit))) × Taken (now (s .entry)) scene first k (now (notes .entry)) (take n (now (status .entry))) (take m (now (status .exit))) v) ((isBeginning (now (s .entry)) scene first k ≡ true → n < length (now (status .entry))) × CanTake (now (s .entry)) scene first k (take n (now (status .entry)))) r ⌝ }
 {
     let l = if first { scene.f } else { scene.g };
     let at = records::place(l, k);
-    if s[at + 17] == 1 {
-        event::begin(s, scene, first, at, status, n, hint)
+    let h = bytes::halfsegment(s, at);
+    let p = place::find(s, plane_segments::dominating_point(h), status, n, hint);
+    if h.is_left {
+        sweep_event::begin(s, scene, first, at, status, n, p)
     } else {
-        event::end(s, scene, first, at, status, n, hint, notes)
+        sweep_event::end(s, scene, first, at, status, n, p, notes)
     }
 }
 
-// All events, one after the other.
+// All events, one after the other. No segment is active at the end.
 fn run_events(s: &[u8], scene: Scene, status: &mut [u16], notes: &mut [u8]) -> bool
-    requires { ⌜ IsScene (now s) scene × ((first : Bool) → outOfOrder (now s) (objectOf (now s) scene first) ≡ Nothing) × (2048 ≤ length (now notes)) ⌝ }
-    ensures { λ r. ⌜ (length (now (status .exit)) ≡ length (now (status .entry))) × (length (now (notes .exit)) ≡ length (now (notes .entry))) × (T r → RegionsEndEvenly (now (s .entry)) scene → Passes (now (s .entry)) scene × SegmentsNoted (now (s .entry)) scene (now (notes .exit))) ⌝ }
+    requires { ⌜ IsScene (now s) scene × InOrder (now s) scene × RegionsEndEvenly (now s) scene × (1024 ≤ length (now status)) × (2048 ≤ length (now notes)) ⌝ }
+    ensures { λ r. ⌜ (length (now (status .exit)) ≡ length (now (status .entry))) × (length (now (notes .exit)) ≡ length (now (notes .entry))) × Decides (Passes (now (s .entry)) scene) r × (T r → SegmentsNoted (now (s .entry)) scene (now (notes .exit))) ⌝ }
 {
     let f = scene.f;
     let g = scene.g;
@@ -135,12 +141,13 @@ fn has_points(scene: Scene) -> bool
     let g = scene.g;
     let k = f.shape;
     let l = g.shape;
-    !segments::has_segments(k) && segments::has_segments(l)
+    !scene_segments::has_segments(k) && scene_segments::has_segments(l)
 }
 
+// Do 11 to 15 find no fault in a scene in order? If so, each element is noted.
 pub fn accepts(s: &[u8], scene: Scene, notes: &mut [u8]) -> bool
-    requires { ⌜ IsScene (now s) scene × ((first : Bool) → outOfOrder (now s) (objectOf (now s) scene first) ≡ Nothing) × (2048 ≤ length (now notes)) ⌝ }
-    ensures { λ r. ⌜ (length (now (notes .exit)) ≡ length (now (notes .entry))) × (T r → Passes (now (s .entry)) scene × Noted (now (s .entry)) scene (now (notes .exit))) ⌝ }
+    requires { ⌜ IsScene (now s) scene × InOrder (now s) scene × (2048 ≤ length (now notes)) ⌝ }
+    ensures { λ r. ⌜ (length (now (notes .exit)) ≡ length (now (notes .entry))) × Decides (Passes (now (s .entry)) scene) r × (T r → Noted (now (s .entry)) scene (now (notes .exit))) ⌝ }
 {
     if !evenly::regions_end_evenly(s, scene) {
         return false;

@@ -1,5 +1,5 @@
 -- Counts over lists: of an appended list, of tests that agree, and of an element put between two lists; and "some" as a count above zero.
-use Prim.Native.Nat.{ℕ, _+_}
+use Prim.Native.Nat.{_+_}
 use native.Mathlib.Nat.{zero-add}
 use native.Mathlib.Omega.{arith}
 use mathlib.Core.Path.{_≡_, refl, sym, ap, _∙_}

@@ -4,5 +4,6 @@ pub mod Solver
 pub mod Balance
 pub mod Sign
 pub mod Logic
+pub mod Deciding
 pub mod Counted
 pub mod Parity

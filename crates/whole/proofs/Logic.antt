@@ -1,9 +1,10 @@
 -- Tests as propositions: `T b` taken apart and put together at each Boolean operation, and "some" and "every" of a list with their witnesses.
 -- And lists whose elements rise in a strict order: from neighbours to any two.
-use Prim.Native.Nat.{ℕ, zero, suc, _<_}
+use Prim.Native.Nat.{ℕ, zero, suc, _<_, _≤_}
+use native.Mathlib.Decide.{decLt}
 use native.Mathlib.Nat.{not-suc-le-zero, le-of-suc-le-suc, eq-or-lt-of-le}
 use native.Mathlib.Omega.{arith}
-use mathlib.Core.Path.{_≡_, refl, sym, ap, _∙_, subst}
+use mathlib.Core.Path.{_≡_, refl, sym, subst}
 use mathlib.Core.Logic.{_⊎_, inl, inr, ⊎-elim}
 use mathlib.Core.Bool.{Bool, true, false, not, _&&_, _||_, Bool·beq}
 use mathlib.Core.List.{List, [], _∷_, _++_, map}
@@ -35,6 +36,13 @@ pub or-right : (a b : Bool) → T b → T (a || b)
 or-right true b t = tt
 or-right false b t = t
 
+pub less-or-not : (m n : ℕ) → (m < n) ⊎ (n ≤ m)
+less-or-not m n = go (decLt m n)
+  where
+    go : Dec (m < n) → (m < n) ⊎ (n ≤ m)
+    go (yes h) = inl h
+    go (no h) = inr (omega arith)
+
 pub decide : (b : Bool) → T b ⊎ T (not b)
 decide true = inl tt
 decide false = inr tt
@@ -60,11 +68,6 @@ refute b f = false-is b (not-T b f)
 pub same-test : (a b : Bool) → (T a → T b) → (T b → T a) → a ≡ b
 same-test true b f g = sym (true-is b (f tt))
 same-test false b f g = sym (refute b g)
-
--- what is so for both values of a test is so
-pub by-test : (A : Bool → Type 0) → A true → A false → (b : Bool) → A b
-by-test A t f true = t
-by-test A t f false = f
 
 -- a second test that follows from the first, or contradicts it
 pub and-follows : (a b : Bool) → (T a → T b) → a && b ≡ a
@@ -181,16 +184,3 @@ module _ {A : Type 0} (P : A → Type 0) (R : A → A → Type 0) (trans : (a b 
     where
       step : i < j → R (f i) (f j) → R (f i) (f (suc j))
       step g r = trans (f i) (f j) (f (suc j)) (good i (omega arith)) (good j (omega arith)) (good (suc j) k) r (next j k)
-
-  module _ (l : List A) (d : A) (good : (a : A) → a ∈ l → P a) (next : (i : ℕ) → suc i < length l → R (getD l i d) (getD l (suc i) d)) where
-    pub rising-list : (i j : ℕ) → i < j → j < length l → R (getD l i d) (getD l j d)
-    rising-list = rising (λ i. getD l i d) (length l) (λ i h. good (getD l i d) (in-at l d i h)) next
-
-    pub rising-sorted : Sorted R l
-    rising-sorted = go l rising-list
-      where
-        go : (l : List A) → ((i j : ℕ) → i < j → j < length l → R (getD l i d) (getD l j d)) → Sorted R l
-        go [] h = sorted-nil
-        go (a ∷ l) h =
-            sorted-cons {l = l} (λ b m. let w = in-index d m in subst (R a) (w .2) (h 0 (suc (w .0)) (omega arith) (omega arith)))
-            (go l (λ i j p q. h (suc i) (suc j) (omega arith) (omega arith)))

@@ -1,16 +1,15 @@
 -- Parity as exclusive or over a list, tied to an odd count; and the lemma on even multisets: where every value occurs an even number of times
 -- in a list, any test holds for evenly many of its elements. In a list that rises in a strict order each element occurs once.
-use Prim.Native.Nat.{ℕ, zero, suc, _+_, _%_, _≤_, _<_}
+use Prim.Native.Nat.{ℕ, _+_, _%_}
 use native.Mathlib.Omega.{arith}
 use mathlib.Core.Path.{_≡_, refl, sym, ap, ap₂, _∙_, subst}
 use mathlib.Core.Logic.{_⊎_, inl, inr, ⊎-elim}
 use mathlib.Core.Bool.{Bool, true, false, not, _&&_, _||_}
 use mathlib.Core.List.{List, [], _∷_, _++_}
 use lib.Dec.{T, eqb}
-use lib.ListN.{length, getD}
 use borrow.Author.Tests.{eq-eqb, ne-eqb, eqb-true, eqb-false}
-use Rattle.whole.specs.Count.{_∈_, here, there, some, every, count, bit, odd}
-use Rattle.whole.proofs.Logic.{true-is, refute, false-is, some-make, is-true, in-nil, in-cons, Sorted, sorted-nil, sorted-cons, rising-sorted}
+use Rattle.whole.specs.Count.{_∈_, here, there, some, count, bit, odd}
+use Rattle.whole.proofs.Logic.{true-is, refute, some-make, in-nil, in-cons, Sorted, sorted-nil, sorted-cons}
 
 infixl 32 _⊻_
 abbrev pub _⊻_ : Bool → Bool → Bool
@@ -198,9 +197,3 @@ module _ {A : Type 0} (eq : A → A → Bool) (eq-is : (a b : A) → T (eq a b) 
 
       later : a ∈ l → parity (eq a) l ≡ true → eq a b ⊻ parity (eq a) l ≡ true
       later k = ap₂ (λ x y. x ⊻ y) (refute (eq a b) (λ t. irr b here (subst (R b) (eq-is a b t) (first a k))))
-
-  -- where neighbours are so related, and R is a strict order on what P holds of
-  pub rising-once : (P : A → Type 0) → ((a : A) → P a → R a a → ⊥) → ((a b c : A) → P a → P b → P c → R a b → R b c → R a c)
-      → (l : List A) (d : A) → ((a : A) → a ∈ l → P a) → ((i : ℕ) → suc i < length l → R (getD l i d) (getD l (suc i) d))
-      → (a : A) → a ∈ l → parity (eq a) l ≡ true
-  rising-once P irr trans l d good next = sorted-once (rising-sorted P R trans l d good next) (λ a m. irr a (good a m))

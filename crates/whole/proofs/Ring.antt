@@ -1,6 +1,5 @@
 -- ℤ is a commutative ring: the laws that `lib.IntN` lacks, each by induction through successor and predecessor.
-use Prim.Native.Nat.{ℕ, zero, suc}
-use mathlib.Core.Path.{_≡_, refl, sym, ap, _∙_, subst}
+use mathlib.Core.Path.{_≡_, sym, ap, _∙_, subst}
 use lib.IntN.{ℤ, pos, negℤ, sucℤ, predℤ, one, _+ℤ_, _-ℤ_, _*ℤ_, ℤ-ind, +ℤ-one, -ℤ-one, +ℤ-idl, +ℤ-idr, +ℤ-assoc, +ℤ-comm, +ℤ-sucℤ, +ℤ-predℤ, +ℤ-invr, zero-*ℤ, *ℤ-one, *ℤ-comm, sucℤ-*ℤ, predℤ-*ℤ}
 
 pub by-steps : (A : ℤ → Type 0) → A (pos 0) → ((k : ℤ) → A k → A (sucℤ k)) → ((k : ℤ) → A k → A (predℤ k)) → (k : ℤ) → A k
@@ -10,10 +9,6 @@ by-steps A z up down =
 
 pub add-left-comm : (a b c : ℤ) → a +ℤ (b +ℤ c) ≡ b +ℤ (a +ℤ c)
 add-left-comm a b c = sym (+ℤ-assoc a b c) ∙ ap (λ x. x +ℤ c) (+ℤ-comm a b) ∙ +ℤ-assoc b a c
-
-pub add-swap : (a b c d : ℤ) → (a +ℤ b) +ℤ (c +ℤ d) ≡ (a +ℤ c) +ℤ (b +ℤ d)
-add-swap a b c d =
-    +ℤ-assoc a b (c +ℤ d) ∙ ap (λ x. a +ℤ x) (add-left-comm b c d) ∙ sym (+ℤ-assoc a c (b +ℤ d))
 
 -- (m + k) c = m c + k c
 pub distrib-right : (m k c : ℤ) → (m +ℤ k) *ℤ c ≡ m *ℤ c +ℤ k *ℤ c

@@ -3,8 +3,8 @@
 use Prim.Native.Nat.{ℕ, zero, suc, _+_, _*_, _≤_, _<_}
 use native.Mathlib.Omega.{arith}
 use mathlib.Core.Path.{_≡_, refl, sym, ap, _∙_, subst}
-use mathlib.Core.Bool.{Bool, true, false, not}
-use lib.Dec.{T, T-not, not-T, ltb, lt→ltb, leb, le→leb}
+use mathlib.Core.Bool.{Bool, not}
+use lib.Dec.{T, T-not, not-T}
 use lib.IntN.{ℤ, pos, negsuc, negℤ, _+ℤ_, _-ℤ_, _*ℤ_, zero-*ℤ, *ℤ-comm, negℤ-negℤ}
 use lib.Signed.{ltZ, leZ}
 use Rattle.whole.specs.Count.{eqZ}

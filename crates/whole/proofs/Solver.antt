@@ -1,12 +1,12 @@
 -- A ring solver: two expressions over numbered variables denote equal whole numbers if their difference, multiplied out and collected, has
 -- only zero coefficients. `solve ρ e₁ e₂ tt` proves an identity at the values ρ; only soundness is proved, and no more is needed.
-use Prim.Native.Nat.{ℕ, zero, suc}
-use mathlib.Core.Path.{_≡_, refl, sym, ap, _∙_, subst}
+use Prim.Native.Nat.{ℕ}
+use mathlib.Core.Path.{_≡_, refl, sym, ap, _∙_}
 use mathlib.Core.Bool.{Bool, true, false, _&&_}
 use mathlib.Core.List.{List, [], _∷_}
 use lib.Dec.{T, leb, ltb, eqb, eqb→eq}
 use lib.ListN.{getD}
-use lib.IntN.{ℤ, pos, negsuc, negℤ, _+ℤ_, _-ℤ_, _*ℤ_, +ℤ-idl, +ℤ-idr, +ℤ-assoc, +ℤ-comm, +ℤ-negℤ-cancel, -ℤ-+ℤ-cancel, +ℤ-invr, zero-*ℤ, *ℤ-zero, *ℤ-comm, negℤ-+ℤ}
+use lib.IntN.{ℤ, pos, negsuc, negℤ, _+ℤ_, _-ℤ_, _*ℤ_, +ℤ-idl, +ℤ-idr, +ℤ-assoc, -ℤ-+ℤ-cancel, zero-*ℤ, *ℤ-zero, *ℤ-comm, negℤ-+ℤ}
 use Rattle.whole.specs.Count.{eqZ}
 use Rattle.whole.proofs.Ring.{add-left-comm, distrib-right, distrib-left, mul-assoc, neg-mul, one-mul}
 

@@ -1,2 +1,3 @@
 -- What the other crates' definitions are written with.
 pub mod Count
+pub mod Decides

@@ -6,7 +6,7 @@ use lib.ListN.{length}
 use borrow.Author.Needs.{needs}
 use Rattle.scene.specs.declared.Scene.{Scene}
 use Rattle.scene.specs.declared.CheckedScene.{CheckedScene}
-use Rattle.listable.specs.Rules.{checkList}
+use Rattle.overlap.specs.Rules.{checkList}
 use Rattle.overlap.specs.declared.Overlap.{Overlap}
 use Rattle.overlap.specs.Overlap.{answer, lentAfter}
 use Rattle.overlap.proofs.overlap_list.Statement.{statement}
@@ -24,10 +24,10 @@ module _ (c : tie.After-write-arg) where
   z = k .before .before .before .before
 
   abbrev scene : Scene
-  scene = c .before .before .before .outcome2 .given .0 .0
+  scene = c .before .before .before .scene .given .0 .0
 
   taken : checkList (z .args .s .now) (length (z .args .list .now)) ≡ CheckedScene.Taken scene
-  taken = sym (k .check-list .ensures .1) ∙ c .before .before .before .outcome2 .given .1
+  taken = sym (k .check-list .ensures .1) ∙ c .before .before .before .scene .given .1
 
 slice-aggregate-check-list : tie.Need-slice-aggregate-check-list
 slice-aggregate-check-list c = search needs
@@ -35,24 +35,24 @@ slice-aggregate-check-list c = search needs
 check-list-requires : tie.Need-check-list-requires
 check-list-requires c κs = search needs
 
-enum-known-outcome : tie.Need-enum-known-outcome
-enum-known-outcome c = search needs
+enum-known-r : tie.Need-enum-known-r
+enum-known-r c = search needs
 
-enum-known-outcome-2 : tie.Need-enum-known-outcome-2
-enum-known-outcome-2 c = search needs
+enum-known-scene : tie.Need-enum-known-scene
+enum-known-scene c = search needs
 
 slice-aggregate-write : tie.Need-slice-aggregate-write
 slice-aggregate-write c = search needs
 
 write-requires : tie.Need-write-requires
 write-requires c κs =
-    (taken c, omega (arith, k c .check-list .ensures .0), k c .check-list .ensures .2 (scene c) (c .before .before .before .outcome2 .given .1))
+    (taken c, omega (arith, k c .check-list .ensures .0), k c .check-list .ensures .2 (scene c) (c .before .before .before .scene .given .1))
 
 returns : tie.Need-returns
 returns c =
     let k = c .before .before .before .before in
     let a = k .before .before .before .before .args in
-    let e = sym (k .check-list .ensures .1) ∙ c .before .outcome .given .1 in
+    let e = sym (k .check-list .ensures .1) ∙ c .before .r .given .1 in
     (sym (ap (answer (a .s .now)) e), sym (ap (λ (o : CheckedScene). lentAfter (a .s .now) o (a .list .now)) e))
 
 same-length : tie.Need-same-length
@@ -74,8 +74,8 @@ overlap-list-spec =
     (tie.spec
     slice-aggregate-check-list
     check-list-requires
-    enum-known-outcome
-    enum-known-outcome-2
+    enum-known-r
+    enum-known-scene
     slice-aggregate-write
     write-requires
     returns

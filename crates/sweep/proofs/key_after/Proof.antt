@@ -1,7 +1,7 @@
 -- `sweep::key_after` meets its contract: the element stands at its place.
 use native.Mathlib.Omega.{arith}
 use borrow.Author.Needs.{needs}
-use Rattle.segments.proofs.Walk.{object-fits, place-fits}
+use Rattle.scene_segments.proofs.Walk.{object-fits, place-fits}
 use Rattle.sweep.proofs.key_after.Statement.{statement}
 use Rattle.sweep.proofs.key_after.Tie as tie
 

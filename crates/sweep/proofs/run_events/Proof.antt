@@ -7,19 +7,27 @@ use mir.Val.{boolByte}
 use mathlib.Core.Path.{_≡_, refl, sym, ap, subst, _∙_}
 use mathlib.Core.Bool.{Bool, true, false, not, cond, true≢false}
 use mathlib.Core.List.{List, []}
-use lib.Dec.{T, eqb→eq}
+use lib.Dec.{eqb→eq}
 use lib.ListN.{length, take, set, length-set}
 use borrow.Author.Needs.{needs}
-use Rattle.keys.specs.Keyed.{nextKey}
+use Rattle.scene_keys.specs.Keyed.{nextKey}
 use Rattle.scene.specs.Read.{IsObject}
-use Rattle.strands.specs.Swept.{slot, objectOf, total, Taken}
-use Rattle.strands.proofs.Begun.{reached}
-use Rattle.strands.proofs.Run.{Run, Orderly, run-start, advance}
-use Rattle.strands.proofs.Notes.{AllNoted, noted-start, noted-next, slot-room}
-use Rattle.strands.proofs.Objects.{read, few-events}
-use Rattle.strands.proofs.Ordered.{orderly}
-use Rattle.strands.proofs.Final.{passes, notes-hold}
-use Rattle.strands.proofs.Chosen.{Chosen, chosen, further, next-by, both-within, entries-are}
+use Rattle.sweep_laws.specs.Swept.{slot, objectOf, isBeginning, total, Passes}
+use Rattle.sweep_laws.proofs.Begun.{reached}
+use Rattle.sweep_laws.specs.Event.{Taken, CanTake}
+use Rattle.sweep_laws.proofs.Run.{Run, Orderly, AllEndLater, run-start, advance}
+use Rattle.sweep_laws.proofs.EventOrder.{After, Earliest, rises, earliest, after-start, after-next}
+use Rattle.sweep_laws.proofs.Lasting.{none-left, at-end}
+use Rattle.sweep_laws.proofs.GoesOn
+use Rattle.sweep_laws.proofs.GoesOn.{goes-on, all-later}
+use Rattle.whole.proofs.Logic.{in-nil}
+use Rattle.whole.proofs.Deciding.{by-equality, no, same-as}
+use lib.Seq.{length-take-le}
+use Rattle.sweep_laws.proofs.Notes.{AllNoted, noted-start, noted-next, slot-room}
+use Rattle.sweep_laws.proofs.Objects.{read, few-events}
+use Rattle.sweep_laws.proofs.Ordered.{orderly}
+use Rattle.sweep_laws.proofs.Final.{passes, notes-hold}
+use Rattle.sweep_laws.proofs.Chosen.{Chosen, chosen, further, next-by, both-within, entries-are}
 use Rattle.sweep.proofs.Next.{total-within}
 use Rattle.sweep.proofs.run_events.Statement.{statement}
 use Rattle.sweep.proofs.run_events.Tie as tie
@@ -28,6 +36,7 @@ abbrev Inv-loop : tie.InvT-loop
 Inv-loop s scene status₀ notes₀ f g all i₀ j₀ n₀ hint₀ key-f₀ key-g₀ status notes i j n hint key-f key-g =
     (length status ≡ length status₀) × (length notes ≡ length notes₀) × (i ≤ total s scene true) × (j ≤ total s scene false) × (n ≤ length status)
     × Run s scene i j (take n status) × AllNoted s scene i j (take n status) notes × (key-f ≡ nextKey s (scene .f) i) × (key-g ≡ nextKey s (scene .g) j)
+    × After s scene i j × (Passes s scene → AllEndLater s scene i j (take n status))
 
 abbrev μ-loop : tie.MeasureT-loop
 μ-loop s scene status₀ notes₀ f g all i₀ j₀ n₀ hint₀ key-f₀ key-g₀ status notes i j n hint key-f key-g = total s scene true + total s scene false - (i + j)
@@ -37,7 +46,7 @@ module _ (d : tie.At-loop Inv-loop μ-loop) where
   abbrev z : tie.Start Inv-loop μ-loop
   z = d .before .before .before .before .before .before .before .before .before .before
 
-  start : Orderly (z .args .s .now) (z .args .scene)
+  abbrev start : Orderly (z .args .s .now) (z .args .scene)
   start = orderly (z .args .s .now) (z .args .scene) (z .pre .0) (z .pre .1)
 
   few : (first : Bool) → total (z .args .s .now) (z .args .scene) first ≤ 1024
@@ -47,7 +56,7 @@ module _ (d : tie.At-loop Inv-loop μ-loop) where
   reached-within = both-within (z .args .s .now) (z .args .scene) start (d .loop .i) (d .loop .j) (d .loop .inv .2) (d .loop .inv .3)
 
   room : 2048 ≤ length (d .loop .notes)
-  room = omega (arith, d .loop .inv .1, z .pre .2)
+  room = omega (arith, d .loop .inv .1, z .pre .4)
 
 -- an event is chosen
 module _ (c : tie.After-next-of Inv-loop μ-loop) where
@@ -72,6 +81,29 @@ module _ (c : tie.After-next-of Inv-loop μ-loop) where
       go true = refl
       go false = refl
 
+  first-one : Earliest (y .args .s .now) (y .args .scene) (d .loop .i) (d .loop .j) (c .before .takes-first .result)
+  first-one =
+      earliest (y .args .s .now) (y .args .scene) (start d) (rises (y .args .s .now) (y .args .scene) (y .pre .0) (y .pre .1)) (d .loop .i) (d .loop .j) (c .before .takes-first .result) (it .more)
+      (sym (c .before .takes-first .ensures))
+
+  -- where 11 to 15 find no fault, its tests hold, and there is room
+  module _ (pass : Passes (y .args .s .now) (y .args .scene)) where
+    can : CanTake (y .args .s .now) (y .args .scene) (c .before .takes-first .result) (c .next-of .result) (take (d .loop .n) (d .loop .status))
+    can =
+        subst (λ (k : ℕ). CanTake (y .args .s .now) (y .args .scene) (c .before .takes-first .result) k (take (d .loop .n) (d .loop .status))) its-index
+        (goes-on (y .args .s .now) (y .args .scene) (y .pre .0) (y .pre .1) pass (d .loop .inv .5) (d .loop .inv .10 pass) (c .before .takes-first .result) it (reached-within d) (d .loop .inv .9) first-one)
+
+    has-room : isBeginning (y .args .s .now) (y .args .scene) (c .before .takes-first .result) (c .next-of .result) ≡ true → d .loop .n < length (d .loop .status)
+    has-room e =
+        omega (
+          arith,
+          GoesOn.room (y .args .s .now) (y .args .scene) (y .pre .0) (y .pre .1) pass (d .loop .inv .5) (d .loop .inv .10 pass) (c .before .takes-first .result) it (reached-within d)
+              (subst (λ (k : ℕ). isBeginning (y .args .s .now) (y .args .scene) (c .before .takes-first .result) k ≡ true) (sym its-index) e),
+          length-take-le (d .loop .n) (d .loop .status) (d .loop .inv .4),
+          d .loop .inv .0,
+          y .pre .3,
+        )
+
   within : c .next-of .result < total (y .args .s .now) (y .args .scene) (c .before .takes-first .result)
   within = subst (λ (k : ℕ). k < total (y .args .s .now) (y .args .scene) (c .before .takes-first .result)) its-index (it .more)
 
@@ -94,7 +126,7 @@ module _ (c : tie.After-known-told Inv-loop μ-loop) where
 
   done : (m ≤ length new)
       × Taken (y e .args .s .now) (y e .args .scene) (e .before .takes-first .result) (e .next-of .result) (d e .loop .notes) (take (d e .loop .n) (d e .loop .status)) (take m new) v
-  done = c .before .before .before .before .before .take-event .ensures .1 m v (c .before .m .given .0 .1 .1 .0) (c .before .m .given .1)
+  done = c .before .before .before .before .before .take-event .ensures .1 .done m v (c .before .m .given .0 .1 .1 .0) (c .before .m .given .1)
 
   on : (d e .loop .i + boolByte (e .before .takes-first .result) ≤ total (y e .args .s .now) (y e .args .scene) true)
       × (d e .loop .j + boolByte (not (e .before .takes-first .result)) ≤ total (y e .args .s .now) (y e .args .scene) false)
@@ -128,6 +160,22 @@ module _ (c : tie.After-slot Inv-loop μ-loop) where
       (noted-next (y x .args .s .now) (y x .args .scene) (start (d x)) (d x .loop .inv .5) (x .before .takes-first .result) (it x .more) (it x .least)
       (next-by (y x .args .s .now) (y x .args .scene) (start (d x)) (d x .loop .i) (d x .loop .j) (x .before .takes-first .result)) (reached-within (d x)) (d x .loop .notes) (room (d x)) (d x .loop .inv .6) event)
 
+-- every segment that is active then ends later, too
+module _ (c : tie.After-slot Inv-loop μ-loop) where
+  abbrev n : tie.After-next-of Inv-loop μ-loop
+  n = x c
+
+  after-on : After (y n .args .s .now) (y n .args .scene) (d n .loop .i + boolByte (n .before .takes-first .result)) (d n .loop .j + boolByte (not (n .before .takes-first .result)))
+  after-on =
+      after-next (y n .args .s .now) (y n .args .scene) (d n .loop .inv .9) (first-one n)
+      (next-by (y n .args .s .now) (y n .args .scene) (start (d n)) (d n .loop .i) (d n .loop .j) (n .before .takes-first .result))
+
+  later-on : Passes (y n .args .s .now) (y n .args .scene)
+      → AllEndLater (y n .args .s .now) (y n .args .scene) (d n .loop .i + boolByte (n .before .takes-first .result)) (d n .loop .j + boolByte (not (n .before .takes-first .result))) (take (m (told c)) (new (told c)))
+  later-on pass =
+      all-later (y n .args .s .now) (y n .args .scene) (y n .pre .0) (y n .pre .1) pass (d n .loop .inv .5) (d n .loop .inv .10 pass) (n .before .takes-first .result) (it n)
+      (next-by (y n .args .s .now) (y n .args .scene) (start (d n)) (d n .loop .i) (d n .loop .j) (n .before .takes-first .result)) (event c)
+
 event-count-requires : tie.Need-event-count-requires Inv-loop μ-loop
 event-count-requires c κs = search needs
 
@@ -153,7 +201,7 @@ key-after-requires-2 c κs =
 loop-holds : tie.Need-loop-holds Inv-loop μ-loop
 loop-holds c =
     let a = c .before .before .before .before .before .before .before .before .before .args in
-    (refl, refl, omega arith, omega arith, omega arith, run-start (a .s .now) (a .scene), noted-start (a .s .now) (a .scene) (a .notes .now), c .before .key-after .ensures, c .key-after2 .ensures)
+    (refl, refl, omega arith, omega arith, omega arith, run-start (a .s .now) (a .scene), noted-start (a .s .now) (a .scene) (a .notes .now), c .before .key-after .ensures, c .key-after2 .ensures, after-start (a .s .now) (a .scene), λ pass e m. absurd (in-nil m))
 
 add-loop : tie.Need-add-loop Inv-loop μ-loop
 add-loop c = omega (arith, c .loop .inv .2, c .loop .inv .3, few c true, few c false)
@@ -169,8 +217,7 @@ take-event-requires c κs =
     let x = c .before .before in (
       y x .pre .0,
       within x,
-      d x .loop .inv .4,
-      entries-are (y x .args .s .now) (y x .args .scene) (start (d x)) (y x .pre .0) (d x .loop .inv .5) (reached-within (d x)),
+      record { room = d x .loop .inv .4; entries = entries-are (y x .args .s .now) (y x .args .scene) (start (d x)) (y x .pre .0) (d x .loop .inv .5) (reached-within (d x)) },
       room (d x),
     )
 
@@ -198,7 +245,13 @@ same-length-2 : tie.Need-same-length-2 Inv-loop μ-loop
 same-length-2 c = w c .loop .inv .1
 
 returns : tie.Need-returns Inv-loop μ-loop
-returns c = (still c, w c .loop .inv .1, λ no. absurd no)
+returns c =
+    let e = t c .before .before .before in (
+      still c,
+      w c .loop .inv .1,
+      no (λ pass. t c .take-event .ensures .1 .goes-on (has-room e pass, can e pass) (c .enum-told .given .1)),
+      λ t. absurd t,
+    )
 
 slot-requires : tie.Need-slot-requires Inv-loop μ-loop
 slot-requires c κs = short (e c)
@@ -262,6 +315,8 @@ loop-again c =
       noted-on t,
       c .before .key-after3 .ensures,
       c .key-after4 .ensures,
+      after-on t,
+      later-on t,
     )
 
 same-length-3 : tie.Need-same-length-3 Inv-loop μ-loop
@@ -284,23 +339,24 @@ module _ (c : tie.After-loop Inv-loop μ-loop) where
   of-g : b .loop .j ≡ all-of false
   of-g = omega (arith, b .loop .inv .2, b .loop .inv .3, b .before .before .before .before .event-count .ensures, b .before .before .before .event-count2 .ensures)
 
-  -- what holds of the elements and entries at the end
-  at-end : (P : ℕ → ℕ → List ℕ → Type 0) → b .loop .n ≡ 0 → P (b .loop .i) (b .loop .j) (take (b .loop .n) (b .loop .status)) → P (all-of true) (all-of false) []
-  at-end P e p =
-      subst (λ (i : ℕ). P i (all-of false) []) of-f
-      (subst (λ (j : ℕ). P (b .loop .i) j []) of-g (subst (λ (n : ℕ). P (b .loop .i) (b .loop .j) (take n (b .loop .status))) e p))
+  ends : (P : ℕ → ℕ → List ℕ → Type 0) → b .loop .n ≡ 0 → P (b .loop .i) (b .loop .j) (take (b .loop .n) (b .loop .status)) → P (all-of true) (all-of false) []
+  ends = at-end (z b .args .s .now) (z b .args .scene) (b .loop .status) of-f of-g
+
+  run-at-end : b .loop .n ≡ 0 → Run (z b .args .s .now) (z b .args .scene) (all-of true) (all-of false) []
+  run-at-end none = ends (Run (z b .args .s .now) (z b .args .scene)) none (b .loop .inv .5)
 
 returns-2 : tie.Need-returns-2 Inv-loop μ-loop
 returns-2 c =
     let b = c .before in
     let s = z b .args .s .now in
-    let sc = z b .args .scene in (
+    let sc = z b .args .scene in
+    let evenly = z b .pre .2 in (
       b .loop .inv .0,
       b .loop .inv .1,
-      λ t evenly.
-          let none = eqb→eq (b .loop .n) 0 t in
-          let run = at-end c (Run s sc) none (b .loop .inv .5) in
-          (passes s sc (start b) run evenly, notes-hold s sc (start b) run evenly (b .loop .notes) (at-end c (λ i j l. AllNoted s sc i j l (b .loop .notes)) none (b .loop .inv .6))),
+      same-as (λ none. passes s sc (start b) (run-at-end c none) evenly) (λ pass. none-left s sc (b .loop .status) (of-f c) (of-g c) (b .loop .inv .4) (b .loop .inv .10 pass))
+          (by-equality (b .loop .n) 0),
+      λ t. let none = eqb→eq (b .loop .n) 0 t in
+          notes-hold s sc (start b) (run-at-end c none) evenly (b .loop .notes) (ends c (λ i j l. AllNoted s sc i j l (b .loop .notes)) none (b .loop .inv .6)),
     )
 
 pub run-events-spec : {M : Type 1} → statement M

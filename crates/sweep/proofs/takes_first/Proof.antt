@@ -10,10 +10,10 @@ use Rattle.scene.specs.declared.Scene.{Scene}
 use Rattle.scene.specs.Read.{place}
 use Rattle.scene.specs.Conditions.{half}
 use Rattle.scene.proofs.Given.{GoodHalfsegment}
-use Rattle.segments.proofs.Elements.{half-is, half-in-range}
-use Rattle.strands.specs.Swept.{total}
-use Rattle.strands.proofs.Objects.{has, read, good}
-use Rattle.strands.proofs.Chosen.{none-left, one-left, both-left}
+use Rattle.scene_segments.proofs.Elements.{half-is, half-in-range}
+use Rattle.sweep_laws.specs.Swept.{total}
+use Rattle.sweep_laws.proofs.Objects.{has, read, good}
+use Rattle.sweep_laws.proofs.Chosen.{none-left, one-left, both-left}
 use Rattle.sweep.proofs.Next.{first-by-keys}
 use Rattle.sweep.proofs.takes_first.Statement.{statement}
 use Rattle.sweep.proofs.takes_first.Tie as tie

@@ -1,7 +1,7 @@
 -- `cells::question::explore` meets its contract: each case of the answer, and what it says of the cells.
 use borrow.Author.Needs.{needs}
 use Rattle.scene.specs.declared.CheckedScene.{CheckedScene}
-use Rattle.features.proofs.Answered.{all-refused, all-taken}
+use Rattle.flags_vectors.proofs.Answered.{all-refused, all-taken}
 use Rattle.cells.proofs.Taken.{as-explored}
 use Rattle.cells.proofs.question.explore.Statement.{statement}
 use Rattle.cells.proofs.question.explore.Tie as tie

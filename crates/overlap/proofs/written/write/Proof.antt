@@ -6,24 +6,24 @@ use mathlib.Core.Path.{sym, ap, subst}
 use mathlib.Core.List.{List, [], _∷_, map}
 use lib.ListN.{length}
 use borrow.Author.Needs.{needs}
-use Rattle.flags.specs.Walk.{edges}
-use Rattle.classes.proofs.Standing.{standing}
-use Rattle.adjoining.specs.Bytes.{byteOf}
-use Rattle.merging.specs.declared.ByteStep.{ByteStep}
-use Rattle.merging.specs.Walked.{Stands, NextByte, ByteStepped}
-use Rattle.merging.proofs.Listing.{allBytes, bytesFrom, bytes-start}
-use Rattle.listable.proofs.Checked.{Listable, listable}
+use Rattle.flags.specs.Elements.{edges}
+use Rattle.flags_classes.proofs.Standing.{Standing, standing}
+use Rattle.overlap.specs.Bytes.{byteOf}
+use Rattle.overlap.specs.declared.walk.ByteStep.{ByteStep}
+use Rattle.overlap.specs.Walked.{NextByte, ByteStepped}
+use Rattle.overlap.proofs.Listing.{allBytes, bytesFrom, bytes-start}
+use Rattle.overlap.proofs.Checked.{Listable, listable}
 use Rattle.overlap.proofs.Filled.{Filled, filled-none, filled-count, filled-length, filled-more, filled-all}
 use Rattle.overlap.proofs.written.write.Statement.{statement}
 use Rattle.overlap.proofs.written.write.Tie as tie
 
 abbrev Inv-loop : tie.InvT-loop
-Inv-loop s scene swept notes list₀ n₀ i₀ j₀ list n i j =
-    (i ≤ scene .f .count) × (j ≤ scene .g .count) × Stands swept s (scene .f) (scene .g) i j
+Inv-loop s scene notes list₀ n₀ i₀ j₀ list n i j =
+    (i ≤ scene .f .count) × (j ≤ scene .g .count) × Standing s (scene .f) (scene .g) i j
     × Filled (allBytes s (scene .f) (scene .g)) list₀ n (bytesFrom s (scene .f) (scene .g) i j) list
 
 abbrev μ-loop : tie.MeasureT-loop
-μ-loop s scene swept notes list₀ n₀ i₀ j₀ list n i j = scene .f .count + scene .g .count - (i + j)
+μ-loop s scene notes list₀ n₀ i₀ j₀ list n i j = scene .f .count + scene .g .count - (i + j)
 
 good : (z : tie.Start Inv-loop μ-loop) → Listable (z .args .s .now) (length (z .args .list .now)) (z .args .scene)
 good z = listable (z .args .s .now) (length (z .args .list .now)) (z .args .scene) (z .pre .0)
@@ -45,9 +45,9 @@ module _ (c : tie.After-known-told Inv-loop μ-loop) where
   abbrev m : ℕ
   m = c .before .byte .given .0 .1 .1 .0
 
-  next : NextByte (z .args .swept) (z .args .s .now) (z .args .scene .f) (z .args .scene .g) (d .loop .i) (d .loop .j) b k m
+  next : NextByte (z .args .s .now) (z .args .scene .f) (z .args .scene .g) (d .loop .i) (d .loop .j) b k m
   next =
-      subst (λ (r : ByteStep). ByteStepped (z .args .swept) (z .args .s .now) (z .args .scene .f) (z .args .scene .g) (d .loop .i) (d .loop .j) r) (c .before .byte .given .1)
+      subst (λ (r : ByteStep). ByteStepped (z .args .s .now) (z .args .scene .f) (z .args .scene .g) (d .loop .i) (d .loop .j) r) (c .before .byte .given .1)
       (c .before .before .before .next-byte .ensures)
 
   due : Filled (allBytes (z .args .s .now) (z .args .scene .f) (z .args .scene .g)) (z .args .list .now) (d .loop .n) (b ∷ bytesFrom (z .args .s .now) (z .args .scene .f) (z .args .scene .g) k m) (d .loop .list)
@@ -70,7 +70,7 @@ filled c =
     let a = d .before .before .before .before .args in
     subst (λ (r : List ℕ). Filled (allBytes (a .s .now) (a .scene .f) (a .scene .g)) (a .list .now) (d .loop .n) r (d .loop .list))
     (ap (map (byteOf (edges (a .s .now) (a .scene .f)) (edges (a .s .now) (a .scene .g))))
-    (subst (λ (r : ByteStep). ByteStepped (a .swept) (a .s .now) (a .scene .f) (a .scene .g) (d .loop .i) (d .loop .j) r) (c .enum-told .given .1) (c .before .before .next-byte .ensures)))
+    (subst (λ (r : ByteStep). ByteStepped (a .s .now) (a .scene .f) (a .scene .g) (d .loop .i) (d .loop .j) r) (c .enum-told .given .1) (c .before .before .next-byte .ensures)))
     (d .loop .inv .3)
 
 loop-holds : tie.Need-loop-holds Inv-loop μ-loop
@@ -78,7 +78,7 @@ loop-holds c =
     let a = c .before .before .before .args in (
       omega arith,
       omega arith,
-      (λ _. standing (a .s .now) (a .scene .f) (a .scene .g)),
+      standing (a .s .now) (a .scene .f) (a .scene .g),
       filled-none (allBytes (a .s .now) (a .scene .f) (a .scene .g)) (a .list .now) (bytes-start (a .s .now) (a .scene .f) (a .scene .g)),
     )
 

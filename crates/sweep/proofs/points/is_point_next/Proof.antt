@@ -10,11 +10,11 @@ use Rattle.scene.specs.declared.Scene.{Scene}
 use Rattle.scene.specs.Read.{place, pointAt}
 use Rattle.scene.specs.Conditions.{half}
 use Rattle.scene.proofs.Given.{GoodHalfsegment, GoodPoint}
-use Rattle.segments.proofs.Elements.{half-is}
-use Rattle.strands.specs.Swept.{total}
-use Rattle.strands.specs.Located.{pointBy}
-use Rattle.strands.proofs.Objects.{good, point-good}
-use Rattle.strands.proofs.Chosen.{none-left, one-left, both-left}
+use Rattle.scene_segments.proofs.Elements.{half-is}
+use Rattle.sweep_laws.specs.Swept.{total}
+use Rattle.sweep_laws.specs.Located.{pointBy}
+use Rattle.sweep_laws.proofs.Objects.{good, point-good}
+use Rattle.sweep_laws.proofs.Chosen.{none-left, one-left, both-left}
 use Rattle.sweep.proofs.points.is_point_next.Statement.{statement}
 use Rattle.sweep.proofs.points.is_point_next.Tie as tie
 

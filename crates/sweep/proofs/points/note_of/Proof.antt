@@ -2,14 +2,14 @@
 use native.Mathlib.Omega.{arith}
 use mathlib.Core.Path.{_≡_, sym, ap, _∙_, subst}
 use lib.Dec.{T}
-use lib.ListN.{getD, take}
+use lib.ListN.{take}
 use Rattle.plane.specs.declared.Point.{Point}
 use Rattle.plane.specs.Plane.{inRange}
 use Rattle.scene.specs.Read.{place, pointAt}
 use Rattle.scene.proofs.Given.{GoodPoint}
-use Rattle.strands.specs.Located.{NearNote, pointBy}
-use Rattle.strands.proofs.Entries.{entry-readable, member}
-use Rattle.strands.proofs.Objects.{point-good}
+use Rattle.sweep_laws.specs.Located.{NearNote, pointBy}
+use Rattle.sweep_laws.proofs.Entries.{held-readable}
+use Rattle.sweep_laws.proofs.Objects.{point-good}
 use Rattle.sweep.proofs.points.note_of.Statement.{statement}
 use Rattle.sweep.proofs.points.note_of.Tie as tie
 
@@ -32,14 +32,8 @@ point-requires c κs = omega (arith, good-f (c .before .before .before .before) 
 
 locate-requires : tie.Need-locate-requires
 locate-requires c κs =
-    let a = z c .args in
-    let p = z c .pre in (
-      record {
-        room = p .3;
-        entries = λ i h. entry-readable (a .s .now) (a .scene) (p .0) (p .4 (getD (a .status .now) i 0) (member (a .status .now) (a .n) i (p .3) h));
-      },
-      subst (λ (v : Point). T (inRange v)) (sym (point-is c)) (good-f (z c) .in-range),
-    )
+    let p = z c .pre in
+    (held-readable (p .3) (p .0), subst (λ (v : Point). T (inRange v)) (sym (point-is c)) (good-f (z c) .in-range))
 
 returns : tie.Need-returns
 returns c =

@@ -6,8 +6,8 @@ use mathlib.Core.Path.{sym, _∙_}
 use lib.Dec.{T}
 use lib.ListN.{length, take}
 use Rattle.whole.proofs.Logic.{is-true}
-use Rattle.strands.specs.Located.{isPointNext, PointsTaken}
-use Rattle.strands.proofs.PointRun.{next-within, points-none, points-more}
+use Rattle.sweep_laws.specs.Located.{isPointNext, PointsTaken}
+use Rattle.sweep_laws.proofs.PointRun.{next-within, points-none, points-more}
 use Rattle.sweep.proofs.points.note_points.Statement.{statement}
 use Rattle.sweep.proofs.points.note_points.Tie as tie
 
@@ -32,7 +32,7 @@ module _ (c : tie.Then1 Inv-loop μ-loop) where
   within = next-within (z .args .s .now) (z .args .scene) (d .loop .k) (z .args .j) next
 
   room : d .loop .k < length (d .loop .notes)
-  room = omega (arith, within, d .loop .inv .1 .same-length, z .pre .6)
+  room = omega (arith, within, d .loop .inv .1 .same-length, z .pre .5)
 
 loop-holds : tie.Need-loop-holds Inv-loop μ-loop
 loop-holds c =
@@ -44,7 +44,7 @@ is-point-next-requires : tie.Need-is-point-next-requires Inv-loop μ-loop
 is-point-next-requires c κs = let p = c .before .before .before .before .pre in (p .0, p .1, c .loop .inv .0, p .3)
 
 note-of-requires : tie.Need-note-of-requires Inv-loop μ-loop
-note-of-requires c κs = let p = z c .pre in (p .0, p .1, within c, p .4, p .5)
+note-of-requires c κs = let p = z c .pre in (p .0, p .1, within c, p .4)
 
 slice-write-notes : tie.Need-slice-write-notes Inv-loop μ-loop
 slice-write-notes c = room (c .before)

@@ -1,0 +1,31 @@
+-- The lines of document 01's scenes a and l, a few numbers, and the longest line, computed.
+use mathlib.Core.Path.{_≡_, refl}
+use mathlib.Core.Bool.{true, false}
+use mathlib.Core.List.{[], _∷_}
+use lib.ListN.{length}
+use Rattle.answer_line.specs.Line.{digits, decimal, okLine, noLine, lineOf}
+
+-- "ok 1 2 5 1 011000111"
+scene-a : lineOf 0 0 1 2 5 1 ((false ∷ true ∷ true ∷ []) ∷ (false ∷ false ∷ false ∷ []) ∷ (true ∷ true ∷ true ∷ []) ∷ [])
+    ≡ 111 ∷ 107 ∷ 32 ∷ 49 ∷ 32 ∷ 50 ∷ 32 ∷ 53 ∷ 32 ∷ 49 ∷ 32 ∷ 48 ∷ 49 ∷ 49 ∷ 48 ∷ 48 ∷ 48 ∷ 49 ∷ 49 ∷ 49 ∷ 10 ∷ []
+unfolding lineOf okLine decimal digits
+scene-a = refl
+
+-- "no 4 2"
+scene-l : lineOf 4 2 0 0 0 0 [] ≡ 110 ∷ 111 ∷ 32 ∷ 52 ∷ 32 ∷ 50 ∷ 10 ∷ []
+unfolding lineOf noLine decimal digits
+scene-l = refl
+
+-- "0" and "2040"
+zero-digits : decimal 0 ≡ 48 ∷ []
+unfolding decimal digits
+zero-digits = refl
+
+four-digits : decimal 2040 ≡ 50 ∷ 48 ∷ 52 ∷ 48 ∷ []
+unfolding decimal digits
+four-digits = refl
+
+-- the longest line of a program's numbers
+longest : length (lineOf 0 0 255 255 65535 65535 ((true ∷ true ∷ true ∷ []) ∷ (true ∷ true ∷ true ∷ []) ∷ (true ∷ true ∷ true ∷ []) ∷ [])) ≡ 33
+unfolding lineOf okLine decimal digits
+longest = refl

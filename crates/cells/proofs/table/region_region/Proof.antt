@@ -1,0 +1,52 @@
+-- `cells::table::region_region` meets its contract.
+use Rattle.flags.specs.Flags.{hasBit}
+use Rattle.cells_matrix.specs.Matrix.{matrixOf}
+use borrow.Author.Needs.{needs}
+use Rattle.cells.proofs.table.region_region.Statement.{statement}
+use Rattle.cells.proofs.table.region_region.Tie as tie
+
+has-requires : tie.Need-has-requires
+has-requires c κs = search needs
+
+both-interiors-requires : tie.Need-both-interiors-requires
+both-interiors-requires c κs = search needs
+
+own-interior-requires : tie.Need-own-interior-requires
+own-interior-requires c κs = search needs
+
+own-interior-requires-2 : tie.Need-own-interior-requires-2
+own-interior-requires-2 c κs = search needs
+
+has-either-requires : tie.Need-has-either-requires
+has-either-requires c κs = search needs
+
+has-either-requires-2 : tie.Need-has-either-requires-2
+has-either-requires-2 c κs = search needs
+
+has-either-requires-3 : tie.Need-has-either-requires-3
+has-either-requires-3 c κs = search needs
+
+has-either-requires-4 : tie.Need-has-either-requires-4
+has-either-requires-4 c κs = search needs
+
+both-boundaries-requires : tie.Need-both-boundaries-requires
+both-boundaries-requires c κs = search needs
+
+returns : tie.Need-returns
+unfolding matrixOf hasBit
+returns c = cc
+
+pub region-region-spec : {M : Type 1} → statement M
+region-region-spec =
+    tie.close
+    (tie.spec
+    has-requires
+    both-interiors-requires
+    own-interior-requires
+    own-interior-requires-2
+    has-either-requires
+    has-either-requires-2
+    has-either-requires-3
+    has-either-requires-4
+    both-boundaries-requires
+    returns)

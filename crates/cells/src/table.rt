@@ -1,0 +1,153 @@
+// The nine-intersection matrix of two objects, from their types, vectors and emptiness alone.
+use scene::Shape;
+ghost use mathlib.Core.Path.{_≡_};
+ghost use mathlib.Core.Bool.{_||_, not, true};
+ghost use Prim.Native.Nat.{_/_, _<_};
+ghost use Rattle.whole.specs.Count.{odd};
+ghost use Rattle.cells_matrix.specs.Matrix.{matrixOf};
+
+// Is the bit with this place value set in a vector?
+fn has(v: u16, unit: u16) -> bool
+    requires { ⌜ 0 < unit ⌝ }
+    ensures { λ r. ⌜ r ≡ odd (v / unit) ⌝ }
+{
+    v / unit % 2 == 1
+}
+
+fn either(a: bool, b: bool) -> bool
+    ensures { λ r. ⌜ r ≡ (a || b) ⌝ }
+{
+    if a { true } else { b }
+}
+
+// Is one of two bits set?
+fn has_either(v: u16, one: u16, other: u16) -> bool
+    requires { ⌜ (0 < one) × (0 < other) ⌝ }
+    ensures { λ r. ⌜ r ≡ (odd (v / one) || odd (v / other)) ⌝ }
+{
+    either(has(v, one), has(v, other))
+}
+
+fn negate(b: bool) -> bool
+    ensures { λ r. ⌜ r ≡ not b ⌝ }
+{
+    !b
+}
+
+// One matrix for each pair of types that a scene can have: rows are interior, boundary, exterior of F, columns the same of G.
+fn points_points(v: u16, w: u16) -> [[bool; 3]; 3]
+    ensures { λ r. ⌜ r ≡ matrixOf Shape.Points Shape.Points v w true true ⌝ }
+{
+    [
+        [has(v, 2), false, has(v, 1)],
+        [false, false, false],
+        [has(w, 1), false, true],
+    ]
+}
+
+fn points_line(v: u16, w: u16, g_empty: bool) -> [[bool; 3]; 3]
+    ensures { λ r. ⌜ r ≡ matrixOf Shape.Points Shape.Line v w true «g_empty» ⌝ }
+{
+    [
+        [has(v, 2), has(v, 4), has(v, 1)],
+        [false, false, false],
+        [negate(g_empty), has(w, 1), true],
+    ]
+}
+
+fn points_region(v: u16, g_empty: bool) -> [[bool; 3]; 3]
+    ensures { λ r. ⌜ r ≡ matrixOf Shape.Points Shape.Region v 0 true «g_empty» ⌝ }
+{
+    let filled = negate(g_empty);
+    [
+        [has(v, 1), has(v, 2), has(v, 4)],
+        [false, false, false],
+        [filled, filled, true],
+    ]
+}
+
+fn line_line(v: u16, w: u16) -> [[bool; 3]; 3]
+    ensures { λ r. ⌜ r ≡ matrixOf Shape.Line Shape.Line v w true true ⌝ }
+{
+    [
+        [has_either(v, 1, 2), has(w, 2), has(v, 4)],
+        [has(v, 8), has(v, 16), has(v, 32)],
+        [has(w, 1), has(w, 4), true],
+    ]
+}
+
+fn line_region(v: u16, w: u16, g_empty: bool) -> [[bool; 3]; 3]
+    ensures { λ r. ⌜ r ≡ matrixOf Shape.Line Shape.Region v w true «g_empty» ⌝ }
+{
+    [
+        [has(v, 1), has_either(v, 2, 8), has(v, 4)],
+        [has(v, 16), has(v, 32), has(v, 64)],
+        [negate(g_empty), has(w, 1), true],
+    ]
+}
+
+// (1/2) or (2/1) of either, or (0/2) or (2/0): a segment with both interiors on one side.
+fn both_interiors(v: u16, w: u16) -> bool
+    ensures { λ r. ⌜ r ≡ (odd (v / 4) || odd (v / 8) || odd (w / 4) || odd (w / 8) || odd (v / 16) || odd (v / 32)) ⌝ }
+{
+    let inside = either(either(has_either(v, 4, 8), has(w, 4)), has(w, 8));
+    either(either(inside, has(v, 16)), has(v, 32))
+}
+
+// (0/1) or (1/0) of one's own, (1/1), or (1/2) or (2/1) of the other: a segment with one's own interior alone on one side.
+fn own_interior(own: u16, other: u16, opposite: bool) -> bool
+    ensures { λ r. ⌜ r ≡ (odd (own / 1) || odd (own / 2) || opposite || odd (other / 4) || odd (other / 8)) ⌝ }
+{
+    either(
+        either(either(has_either(own, 1, 2), opposite), has(other, 4)),
+        has(other, 8),
+    )
+}
+
+// (0/2), (2/0), (1/1) or bound_poi_shared.
+fn both_boundaries(v: u16) -> bool
+    ensures { λ r. ⌜ r ≡ (odd (v / 16) || odd (v / 32) || odd (v / 64) || odd (v / 128)) ⌝ }
+{
+    either(either(has_either(v, 16, 32), has(v, 64)), has(v, 128))
+}
+
+fn region_region(v: u16, w: u16) -> [[bool; 3]; 3]
+    ensures { λ r. ⌜ r ≡ matrixOf Shape.Region Shape.Region v w true true ⌝ }
+{
+    let opposite = has(v, 64);
+    let inner = both_interiors(v, w);
+    let only_f = own_interior(v, w, opposite);
+    let only_g = own_interior(w, v, opposite);
+    let f_in = has_either(v, 4, 8);
+    let g_in = has_either(w, 4, 8);
+    let f_out = has_either(v, 1, 2);
+    let g_out = has_either(w, 1, 2);
+    [
+        [inner, g_in, only_f],
+        [f_in, both_boundaries(v), f_out],
+        [only_g, g_out, true],
+    ]
+}
+
+// The matrix: a function of the types, the vectors and the emptiness of the two objects, and of nothing else.
+pub fn matrix(f: Shape, g: Shape, v: u16, w: u16, f_empty: bool, g_empty: bool) -> [[bool; 3]; 3]
+    ensures { λ r. ⌜ r ≡ matrixOf f g v w «f_empty» «g_empty» ⌝ }
+{
+    match f {
+        Shape::Points => match g {
+            Shape::Points => points_points(v, w),
+            Shape::Line => points_line(v, w, g_empty),
+            Shape::Region => points_region(v, g_empty),
+        },
+        Shape::Line => match g {
+            Shape::Points => [[false; 3]; 3],
+            Shape::Line => line_line(v, w),
+            Shape::Region => line_region(v, w, g_empty),
+        },
+        Shape::Region => match g {
+            Shape::Points => [[false; 3]; 3],
+            Shape::Line => [[false; 3]; 3],
+            Shape::Region => region_region(v, w),
+        },
+    }
+}

@@ -1,0 +1,3 @@
+-- What the functions over a read scene promise.
+pub mod Refusals
+pub mod SharedPoints

@@ -1,3 +1,0 @@
--- Laws of the conditions that the proofs of the functions and of other crates cite.
-pub mod Verdicts
-pub mod Laws

@@ -1,2 +1,0 @@
--- What the functions over a read scene promise.
-pub mod Refusals

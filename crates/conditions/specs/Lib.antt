@@ -1,2 +1,0 @@
--- What the functions promise of the elements of an object.
-pub mod Faults

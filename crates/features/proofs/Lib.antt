@@ -1,3 +1,0 @@
--- What belongs to no one function: the vectors from the flags, and the answer.
-pub mod Packed
-pub mod Answered

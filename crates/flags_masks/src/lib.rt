@@ -1,0 +1,69 @@
+// The wanted masks: which flags each pair of types has, which of them are wanted, and whether a wanted bit has no flag.
+use scene::Scene;
+use scene::Shape;
+use scene::records;
+ghost use mathlib.Core.Path.{_≡_};
+ghost use Rattle.scene.specs.Read.{shapeNumber};
+ghost use Rattle.flags_masks.specs.Wanted.{maskOfF, maskOfG, wanted, hasStray, anyStray};
+
+// The flags that F and G have, a bit for each.
+pub struct FlagMasks {
+    pub f: u16,
+    pub g: u16,
+}
+
+// A row for each type of F, a column for each type of G. A pair with F's type above G's has no flags.
+const FLAG_MASKS: [[FlagMasks; 3]; 3] = [
+    [
+        FlagMasks { f: 3, g: 1 },
+        FlagMasks { f: 7, g: 1 },
+        FlagMasks { f: 7, g: 0 },
+    ],
+    [
+        FlagMasks { f: 0, g: 0 },
+        FlagMasks { f: 63, g: 7 },
+        FlagMasks { f: 127, g: 1 },
+    ],
+    [
+        FlagMasks { f: 0, g: 0 },
+        FlagMasks { f: 0, g: 0 },
+        FlagMasks { f: 255, g: 15 },
+    ],
+];
+
+pub fn masks_of(f: Shape, g: Shape) -> FlagMasks
+    ensures { λ r. ⌜ (r .f ≡ maskOfF (shapeNumber f) (shapeNumber g)) × (r .g ≡ maskOfG (shapeNumber f) (shapeNumber g)) ⌝ }
+{
+    let row = (records::shape_number(f) - 1) as usize;
+    let column = (records::shape_number(g) - 1) as usize;
+    FLAG_MASKS[row][column]
+}
+
+// The flags of an object, of all that it has, that its own mask and the other's want: two zero masks want all.
+pub fn wanted(all: u16, own: u16, other: u16) -> u16
+    ensures { λ r. ⌜ r ≡ wanted all own other ⌝ }
+{
+    if own == 0 {
+        if other == 0 { all } else { own }
+    } else {
+        own
+    }
+}
+
+fn has_stray(all: u16, mask: u16) -> bool
+    ensures { λ r. ⌜ r ≡ hasStray all mask ⌝ }
+{
+    mask & all != mask
+}
+
+// 9: is a bit wanted that has no flag?
+pub fn any_stray(scene: Scene, f: u16, g: u16) -> bool
+    ensures { λ r. ⌜ r ≡ anyStray (shapeNumber (scene .f .shape)) (shapeNumber (scene .g .shape)) f g ⌝ }
+{
+    let of_f = scene.f;
+    let of_g = scene.g;
+    let first = of_f.shape;
+    let second = of_g.shape;
+    let masks = masks_of(first, second);
+    has_stray(masks.f, f) | has_stray(masks.g, g)
+}

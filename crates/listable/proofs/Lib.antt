@@ -1,2 +1,0 @@
--- The laws of the check before the list.
-pub mod Checked

@@ -1,1 +1,0 @@
-// The nine-intersection matrix and the theorem that no cell is wrong: lemmas only. The code that computes it is the crate table.

@@ -1,2 +1,0 @@
--- What the walk over the different segments of two regions promises.
-pub mod Walked

@@ -1,2 +1,0 @@
--- What the loops over points and over halfsegments have in common.
-pub mod Pass

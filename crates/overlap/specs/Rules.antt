@@ -1,0 +1,40 @@
+-- What the overlap list question turns away after all others, 16 and 17, and what the check of a scene promises of the sweep's notes.
+use Prim.Native.Nat.{ℕ}
+use mathlib.Core.Path.{_≡_}
+use mathlib.Core.List.{List, [], _∷_}
+use lib.ListN.{length}
+use lib.Dec.{leb}
+use Rattle.scene.specs.declared.Scene.{Scene}
+use Rattle.scene.specs.declared.Fault.{Fault}
+use Rattle.scene.specs.declared.CheckedScene.{CheckedScene}
+use Rattle.scene.specs.Read.{unless, judge}
+use Rattle.scene.specs.Conditions.{isRegion, Rule, rule, orElse, conditions, sceneRules, checkSceneBy}
+use Rattle.flags.specs.Elements.{edges}
+use Rattle.overlap.specs.Bytes.{overlapBytes}
+use Rattle.sweep_laws.specs.Noted.{Noted}
+
+abbrev pub listOf : List ℕ → Scene → List ℕ
+listOf s sc = overlapBytes (edges s (sc .f)) (edges s (sc .g))
+
+-- 16: "overlap list, a type is not 3"; "for 16 the first such type record"
+abbrev pub notRegions : List ℕ → Scene → Fault
+notRegions s sc = orElse (unless (isRegion (sc .f .shape)) (sc .f .start)) (unless (isRegion (sc .g .shape)) (sc .g .start))
+
+-- 17: "overlap list, buffer shorter than the count"; "For 9 and 17 it is 0"
+abbrev pub shorter : ℕ → List ℕ → Scene → Fault
+shorter room s sc = unless (leb (length (listOf s sc)) room) 0
+
+abbrev pub listRules : ℕ → List (Rule Scene)
+listRules room = rule 16 notRegions ∷ rule 17 (shorter room) ∷ []
+
+-- the two, of a scene that passes all others
+abbrev pub judged : List ℕ → Scene → ℕ → CheckedScene
+judged s sc room = judge CheckedScene.Refused (CheckedScene.Taken sc) (conditions (listRules room) s sc)
+
+unfoldable pub checkList : List ℕ → ℕ → CheckedScene
+checkList s room = checkSceneBy (sceneRules [] (listRules room)) s
+
+-- the notes are left where the scene is taken
+module _ (s : List ℕ) where
+  abbrev pub NotedWhere : CheckedScene → List ℕ → Type 0
+  NotedWhere checked notes = (sc : Scene) → checked ≡ CheckedScene.Taken sc → Noted s sc notes

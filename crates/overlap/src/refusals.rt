@@ -1,0 +1,69 @@
+// Whether a scene has an overlap list that fits a buffer: the scene's bytes checked whole, with 16 and 17 last.
+use crate::walk;
+use check_verdict::Verdict;
+use scene::CheckedScene;
+use scene::Fault;
+use scene::Refusal;
+use scene::Scene;
+ghost use mathlib.Core.Path.{_≡_};
+ghost use mathlib.Core.List.{List};
+ghost use Prim.Native.Nat.{ℕ, _≤_};
+ghost use lib.ListN.{length};
+ghost use Rattle.scene.specs.Read.{IsObject};
+ghost use Rattle.overlap.specs.Rules.{notRegions, judged, checkList, NotedWhere};
+
+// 16: the first type record that is not 3.
+fn regions_fault(scene: Scene) -> Fault
+    ensures { λ r. ⌜ ((s : List ℕ) → r ≡ notRegions s scene) ⌝ }
+{
+    let f = scene.f;
+    let g = scene.g;
+    let of_f = f.shape;
+    let of_g = g.shape;
+    if !scene_segments::is_region(of_f) {
+        return Fault::At(f.start);
+    }
+    if scene_segments::is_region(of_g) {
+        Fault::Nothing
+    } else {
+        Fault::At(g.start)
+    }
+}
+
+// 16, and 17 for a buffer of so many bytes.
+fn judge(s: &[u8], scene: Scene, room: usize) -> CheckedScene
+    requires { ⌜ IsObject (now s) (scene .f) × IsObject (now s) (scene .g) ⌝ }
+    ensures { λ r. ⌜ r ≡ judged (now (s .entry)) scene room ⌝ }
+{
+    match regions_fault(scene) {
+        Fault::At(place) => CheckedScene::Refused(Refusal { number: 16, place }),
+        Fault::Nothing => {
+            let f = scene.f;
+            let g = scene.g;
+            if room < walk::count(s, f, g) {
+                return CheckedScene::Refused(Refusal {
+                    number: 17,
+                    place: 0,
+                });
+            }
+            CheckedScene::Taken(scene)
+        }
+    }
+}
+
+// A scene's bytes, checked whole, with 16 and 17 last.
+pub fn check_list(s: &[u8], room: usize, notes: &mut [u8]) -> CheckedScene
+    requires { ⌜ 2048 ≤ length (now notes) ⌝ }
+    ensures { λ r. ⌜ (length (now (notes .exit)) ≡ length (now (notes .entry))) × (r ≡ checkList (now (s .entry)) room) × NotedWhere (now (s .entry)) r (now (notes .exit)) ⌝ }
+{
+    match scene_reading::read_scene(s) {
+        CheckedScene::Refused(r) => CheckedScene::Refused(r),
+        CheckedScene::Taken(scene) => match check_verdict::types_fault(scene) {
+            Fault::At(place) => CheckedScene::Refused(Refusal { number: 8, place }),
+            Fault::Nothing => match check_verdict::noted_verdict(s, scene, notes) {
+                Verdict::Sound => judge(s, scene, room),
+                Verdict::Refused(r) => CheckedScene::Refused(r),
+            },
+        },
+    }
+}

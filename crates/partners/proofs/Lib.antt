@@ -1,2 +1,0 @@
--- Laws of the search for a place in the order.
-pub mod Halving

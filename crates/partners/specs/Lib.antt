@@ -1,2 +1,0 @@
--- What the tests promise of the elements of an object.
-pub mod Partners

@@ -1,2 +1,0 @@
--- What belongs to no one function: the flags of a segment from the answers of its searches.
-pub mod OfElement

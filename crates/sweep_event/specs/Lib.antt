@@ -1,0 +1,2 @@
+-- What the answer of an event says.
+pub mod Steps
