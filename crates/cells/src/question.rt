@@ -2,7 +2,7 @@
 use crate::Explored;
 use crate::Row;
 use crate::table;
-use flags_vectors::Answer;
+use flags_vectors::SceneAnswer;
 use flags_vectors::Vectors;
 use flags_vectors::question;
 use scene::Refusal;
@@ -57,7 +57,7 @@ pub fn explore(s: &[u8]) -> Explored
     ensures { λ r. ⌜ (r ≡ exploredOf (now (s .entry))) × NoCellWrong (now (s .entry)) (cellsOf r) ⌝ }
 {
     match question::answer(s, 0, 0) {
-        Answer::Refused(r) => refused(r),
-        Answer::Taken { scene, vectors } => taken(scene, vectors),
+        SceneAnswer::Refused(r) => refused(r),
+        SceneAnswer::Taken { scene, vectors } => taken(scene, vectors),
     }
 }

@@ -8,8 +8,8 @@ use Rattle.scene.specs.declared.Fault.{Fault}
 use Rattle.scene.specs.Read.{shapeNumber, unless}
 use Rattle.scene.specs.Conditions.{Rule, rule, sceneRules, checkSceneBy}
 use Rattle.flags_vectors.specs.declared.Vectors.{Vectors}
-use Rattle.flags_vectors.specs.declared.Explored.{Explored}
-use Rattle.flags_vectors.specs.declared.Answer.{Answer}
+use Rattle.flags_vectors.specs.declared.VectorsAnswer.{VectorsAnswer}
+use Rattle.flags_vectors.specs.declared.SceneAnswer.{SceneAnswer}
 use Rattle.flags.specs.Elements.{elementsOf}
 use Rattle.flags_masks.specs.Wanted.{anyStray, vectorOfF, vectorOfG}
 
@@ -30,19 +30,19 @@ abbrev pub vectorsRules : ℕ → ℕ → List (Rule Scene)
 vectorsRules wantF wantG = sceneRules (rule 9 (strayWanted wantF wantG) ∷ []) []
 
 -- the answer with the scene that was read, and the vectors alone
-abbrev pub answered : List ℕ → ℕ → ℕ → CheckedScene → Answer
-answered s wantF wantG (CheckedScene.Refused r) = Answer.Refused r
-answered s wantF wantG (CheckedScene.Taken sc) = Answer.Taken sc (sceneVectors s sc wantF wantG)
+abbrev pub answered : List ℕ → ℕ → ℕ → CheckedScene → SceneAnswer
+answered s wantF wantG (CheckedScene.Refused r) = SceneAnswer.Refused r
+answered s wantF wantG (CheckedScene.Taken sc) = SceneAnswer.Taken sc (sceneVectors s sc wantF wantG)
 
-unfoldable pub answerOf : List ℕ → ℕ → ℕ → Answer
+unfoldable pub answerOf : List ℕ → ℕ → ℕ → SceneAnswer
 answerOf s wantF wantG = answered s wantF wantG (checkSceneBy (vectorsRules wantF wantG) s)
 
-abbrev pub explored : Answer → Explored
-explored (Answer.Refused r) = Explored.Refused r
-explored (Answer.Taken sc v) = Explored.Taken v
+abbrev pub vectorsAlone : SceneAnswer → VectorsAnswer
+vectorsAlone (SceneAnswer.Refused r) = VectorsAnswer.Refused r
+vectorsAlone (SceneAnswer.Taken sc v) = VectorsAnswer.Taken v
 
-unfoldable pub vectorsOf : List ℕ → ℕ → ℕ → Explored
-vectorsOf s wantF wantG = explored (answerOf s wantF wantG)
+unfoldable pub vectorsOf : List ℕ → ℕ → ℕ → VectorsAnswer
+vectorsOf s wantF wantG = vectorsAlone (answerOf s wantF wantG)
 
 -- "Where an answer is an enum, a definition states this paper's number and values for every one of its cases." What is taken has number 0;
 -- "Every refusal has vectors .. 0".
@@ -52,6 +52,6 @@ pub record VectorsValues : Type 0 where
   pub f : ℕ
   pub g : ℕ
 
-abbrev pub vectorsValues : Explored → VectorsValues
-vectorsValues (Explored.Taken v) = record { number = 0; place = 0; f = v .f; g = v .g }
-vectorsValues (Explored.Refused r) = record { number = r .number; place = r .place; f = 0; g = 0 }
+abbrev pub vectorsValues : VectorsAnswer → VectorsValues
+vectorsValues (VectorsAnswer.Taken v) = record { number = 0; place = 0; f = v .f; g = v .g }
+vectorsValues (VectorsAnswer.Refused r) = record { number = r .number; place = r .place; f = 0; g = 0 }

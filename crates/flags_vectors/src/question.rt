@@ -1,6 +1,6 @@
 // The vectors question.
-use crate::Answer;
-use crate::Explored;
+use crate::SceneAnswer;
+use crate::VectorsAnswer;
 use crate::Vectors;
 use check_verdict::Verdict;
 use scene::CheckedScene;
@@ -36,27 +36,27 @@ fn swept_vectors(s: &[u8], scene: Scene, want_f: u16, want_g: u16, notes: &[u8])
 }
 
 // A scene and two wanted masks: taken, with the scene and a vector for each object, or refused with one number and one place.
-pub fn answer(s: &[u8], want_f: u16, want_g: u16) -> Answer
+pub fn answer(s: &[u8], want_f: u16, want_g: u16) -> SceneAnswer
     ensures { λ r. ⌜ r ≡ answerOf (now (s .entry)) «want_f» «want_g» ⌝ }
 {
     match scene_reading::read_scene(s) {
-        CheckedScene::Refused(r) => Answer::Refused(r),
+        CheckedScene::Refused(r) => SceneAnswer::Refused(r),
         CheckedScene::Taken(scene) => match check_verdict::types_fault(scene) {
-            Fault::At(place) => Answer::Refused(Refusal { number: 8, place }),
+            Fault::At(place) => SceneAnswer::Refused(Refusal { number: 8, place }),
             Fault::Nothing => {
                 if flags_masks::any_stray(scene, want_f, want_g) {
-                    return Answer::Refused(Refusal {
+                    return SceneAnswer::Refused(Refusal {
                         number: 9,
                         place: 0,
                     });
                 }
                 let mut notes = [0u8; 2048];
                 match check_verdict::noted_verdict(s, scene, &mut notes) {
-                    Verdict::Sound => Answer::Taken {
+                    Verdict::Sound => SceneAnswer::Taken {
                         scene,
                         vectors: swept_vectors(s, scene, want_f, want_g, &notes),
                     },
-                    Verdict::Refused(r) => Answer::Refused(r),
+                    Verdict::Refused(r) => SceneAnswer::Refused(r),
                 }
             }
         },
@@ -64,11 +64,11 @@ pub fn answer(s: &[u8], want_f: u16, want_g: u16) -> Answer
 }
 
 // The same without the scene.
-pub fn vectors(s: &[u8], want_f: u16, want_g: u16) -> Explored
+pub fn vectors(s: &[u8], want_f: u16, want_g: u16) -> VectorsAnswer
     ensures { λ r. ⌜ r ≡ vectorsOf (now (s .entry)) «want_f» «want_g» ⌝ }
 {
     match answer(s, want_f, want_g) {
-        Answer::Refused(r) => Explored::Refused(r),
-        Answer::Taken { scene: _, vectors } => Explored::Taken(vectors),
+        SceneAnswer::Refused(r) => VectorsAnswer::Refused(r),
+        SceneAnswer::Taken { scene: _, vectors } => VectorsAnswer::Taken(vectors),
     }
 }

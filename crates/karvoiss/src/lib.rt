@@ -1,11 +1,11 @@
 // What C programs call: every function is total, keeps no state and allocates nothing. include/karvoiss.h is for those who call them.
-use flags_vectors::Explored;
+use flags_vectors::VectorsAnswer;
 use flags_vectors::question;
 ghost use mathlib.Core.Path.{_≡_};
 ghost use Rattle.flags_vectors.specs.Vectors.{vectorsOf};
 ghost use Rattle.cells.specs.Explored.{exploredOf, NoCellWrong};
 ghost use Rattle.overlap.specs.Overlap.{overlapOf, bufferAfter};
-ghost use Rattle.karvoiss.specs.Answer.{vectorsAnswer, cellsAnswer, cellsOf, overlapAnswer};
+ghost use Rattle.karvoiss.specs.Answer.{vectorsForC, cellsForC, cellsOf, overlapForC};
 
 #[repr(C)]
 pub struct KarvoissVectors {
@@ -18,16 +18,16 @@ pub struct KarvoissVectors {
 // The vectors question.
 #[no_mangle]
 pub extern "C" fn karvoiss_vectors(scene: &[u8], want_f: u16, want_g: u16) -> KarvoissVectors
-    ensures { λ r. ⌜ r ≡ vectorsAnswer (vectorsOf (now (scene .entry)) «want_f» «want_g») ⌝ }
+    ensures { λ r. ⌜ r ≡ vectorsForC (vectorsOf (now (scene .entry)) «want_f» «want_g») ⌝ }
 {
     match question::vectors(scene, want_f, want_g) {
-        Explored::Taken(v) => KarvoissVectors {
+        VectorsAnswer::Taken(v) => KarvoissVectors {
             number: 0,
             place: 0,
             f: v.f,
             g: v.g,
         },
-        Explored::Refused(r) => KarvoissVectors {
+        VectorsAnswer::Refused(r) => KarvoissVectors {
             number: r.number as u32,
             place: r.place,
             f: 0,
@@ -49,7 +49,7 @@ pub struct KarvoissCells {
 // The cells question.
 #[no_mangle]
 pub extern "C" fn karvoiss_cells(scene: &[u8]) -> KarvoissCells
-    ensures { λ r. ⌜ (r ≡ cellsAnswer (exploredOf (now (scene .entry)))) × NoCellWrong (now (scene .entry)) (cellsOf r) ⌝ }
+    ensures { λ r. ⌜ (r ≡ cellsForC (exploredOf (now (scene .entry)))) × NoCellWrong (now (scene .entry)) (cellsOf r) ⌝ }
 {
     let answer = cells::question::explore(scene);
     let interior = answer.interior.c;
@@ -74,7 +74,7 @@ pub struct KarvoissOverlap {
 // The overlap list question, into a lent buffer.
 #[no_mangle]
 pub extern "C" fn karvoiss_overlap(scene: &[u8], list: &mut [u8]) -> KarvoissOverlap
-    ensures { λ r. ⌜ (r ≡ overlapAnswer (overlapOf (now (scene .entry)) (now (list .entry))))
+    ensures { λ r. ⌜ (r ≡ overlapForC (overlapOf (now (scene .entry)) (now (list .entry))))
         × (now (list .exit) ≡ bufferAfter (now (scene .entry)) (now (list .entry))) ⌝ }
 {
     let answer = overlap::overlap_list(scene, list);

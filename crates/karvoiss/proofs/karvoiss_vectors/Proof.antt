@@ -1,7 +1,7 @@
 -- `karvoiss::karvoiss_vectors` meets its contract: each case of the answer, in its fields.
 use mathlib.Core.Path.{_≡_, sym, ap, _∙_}
 use borrow.Author.Needs.{needs}
-use Rattle.karvoiss.specs.Answer.{vectorsAnswer}
+use Rattle.karvoiss.specs.Answer.{vectorsForC}
 use Rattle.karvoiss.proofs.karvoiss_vectors.Statement.{statement}
 use Rattle.karvoiss.proofs.karvoiss_vectors.Tie as tie
 
@@ -18,10 +18,10 @@ cast-t8 : tie.Need-cast-t8
 cast-t8 c = search needs
 
 returns : tie.Need-returns
-returns c = ap vectorsAnswer (sym (c .before .v .given .1) ∙ c .before .before .before .vectors .ensures)
+returns c = ap vectorsForC (sym (c .before .v .given .1) ∙ c .before .before .before .vectors .ensures)
 
 returns-2 : tie.Need-returns-2
-returns-2 c = ap vectorsAnswer (sym (c .before .before .r .given .1) ∙ c .before .before .before .before .vectors .ensures)
+returns-2 c = ap vectorsForC (sym (c .before .before .r .given .1) ∙ c .before .before .before .before .vectors .ensures)
 
 pub karvoiss-vectors-spec : {M : Type 1} → statement M
 karvoiss-vectors-spec =
