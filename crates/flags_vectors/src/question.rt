@@ -13,7 +13,8 @@ ghost use Rattle.scene.specs.Conditions.{checkScene};
 ghost use Prim.Native.Nat.{_≤_};
 ghost use lib.ListN.{length};
 ghost use Rattle.sweep_laws.specs.Noted.{Noted};
-ghost use Rattle.flags_vectors.specs.Vectors.{sceneVectors, answerOf, vectorsOf};
+ghost use Rattle.check_verdict.specs.SharedPoints.{CheckedMeans};
+ghost use Rattle.flags_vectors.specs.Vectors.{sceneVectors, checkVectors, answerOf, vectorsOf, vectorsValues, NoFlagWrong};
 
 // The wanted flags of both objects of a scene that is taken, from what the sweep noted.
 fn swept_vectors(s: &[u8], scene: Scene, want_f: u16, want_g: u16, notes: &[u8]) -> Vectors
@@ -63,9 +64,11 @@ pub fn answer(s: &[u8], want_f: u16, want_g: u16) -> SceneAnswer
     }
 }
 
-// The same without the scene.
+// The same without the scene; no flag is wrong, and what the verdict says in points.
 pub fn vectors(s: &[u8], want_f: u16, want_g: u16) -> VectorsAnswer
-    ensures { λ r. ⌜ r ≡ vectorsOf (now (s .entry)) «want_f» «want_g» ⌝ }
+    ensures { λ r. ⌜ (r ≡ vectorsOf (now (s .entry)) «want_f» «want_g»)
+        × NoFlagWrong (now (s .entry)) «want_f» «want_g» (vectorsValues r .f) (vectorsValues r .g)
+        × CheckedMeans (now (s .entry)) (checkVectors (now (s .entry)) «want_f» «want_g») ⌝ }
 {
     match answer(s, want_f, want_g) {
         SceneAnswer::Refused(r) => VectorsAnswer::Refused(r),

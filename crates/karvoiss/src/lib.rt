@@ -2,8 +2,11 @@
 use flags_vectors::VectorsAnswer;
 use flags_vectors::question;
 ghost use mathlib.Core.Path.{_≡_};
-ghost use Rattle.flags_vectors.specs.Vectors.{vectorsOf};
+ghost use Rattle.check_verdict.specs.SharedPoints.{CheckedMeans};
+ghost use Rattle.flags_vectors.specs.Vectors.{checkVectors, vectorsOf, NoFlagWrong};
 ghost use Rattle.cells.specs.Explored.{exploredOf, NoCellWrong};
+ghost use lib.ListN.{length};
+ghost use Rattle.overlap.specs.Rules.{checkList};
 ghost use Rattle.overlap.specs.Overlap.{overlapOf, bufferAfter};
 ghost use Rattle.karvoiss.specs.Answer.{vectorsForC, cellsForC, cellsOf, overlapForC};
 
@@ -15,10 +18,12 @@ pub struct KarvoissVectors {
     pub g: u16,
 }
 
-// The vectors question.
+// The vectors question: for every byte string and every two masks the whole answer; no flag is wrong; and what the verdict says in points.
 #[no_mangle]
 pub extern "C" fn karvoiss_vectors(scene: &[u8], want_f: u16, want_g: u16) -> KarvoissVectors
-    ensures { λ r. ⌜ r ≡ vectorsForC (vectorsOf (now (scene .entry)) «want_f» «want_g») ⌝ }
+    ensures { λ r. ⌜ (r ≡ vectorsForC (vectorsOf (now (scene .entry)) «want_f» «want_g»))
+        × NoFlagWrong (now (scene .entry)) «want_f» «want_g» (r .f) (r .g)
+        × CheckedMeans (now (scene .entry)) (checkVectors (now (scene .entry)) «want_f» «want_g») ⌝ }
 {
     match question::vectors(scene, want_f, want_g) {
         VectorsAnswer::Taken(v) => KarvoissVectors {
@@ -75,7 +80,8 @@ pub struct KarvoissOverlap {
 #[no_mangle]
 pub extern "C" fn karvoiss_overlap(scene: &[u8], list: &mut [u8]) -> KarvoissOverlap
     ensures { λ r. ⌜ (r ≡ overlapForC (overlapOf (now (scene .entry)) (now (list .entry))))
-        × (now (list .exit) ≡ bufferAfter (now (scene .entry)) (now (list .entry))) ⌝ }
+        × (now (list .exit) ≡ bufferAfter (now (scene .entry)) (now (list .entry)))
+        × CheckedMeans (now (scene .entry)) (checkList (now (scene .entry)) (length (now (list .entry)))) ⌝ }
 {
     let answer = overlap::overlap_list(scene, list);
     KarvoissOverlap {
