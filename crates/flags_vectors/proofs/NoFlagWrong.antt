@@ -2,10 +2,9 @@
 use Prim.Native.Nat.{ℕ}
 use native.Mathlib.Omega.{arith}
 use mathlib.Core.Path.{_≡_, sym, subst}
-use mathlib.Core.List.{List}
-use lib.Dec.{T}
-use Rattle.whole.specs.Decides.{Decides}
+use mathlib.Core.List.{List, [], _∷_}
 use Rattle.scene.specs.declared.CheckedScene.{CheckedScene}
+use Rattle.scene.specs.Conditions.{rule}
 use Rattle.check_verdict.specs.SharedPoints.{CheckedMeans}
 use Rattle.check_verdict.proofs.CheckedMeans.{checked-means-by}
 use Rattle.flags.specs.Flags.{Elements}
@@ -31,7 +30,7 @@ module _ (s : List ℕ) (wantF wantG : ℕ) where
       (sym e) (both-right (elementsOf s (sc .f)) (elementsOf s (sc .g)) wantF wantG)
 
   vectors-mean : CheckedMeans s (checkVectors s wantF wantG)
-  vectors-mean = checked-means-by _ _ s (λ _. (omega arith, tt)) (λ _. tt)
+  vectors-mean = checked-means-by (rule 9 (strayWanted wantF wantG) ∷ []) [] s (λ _. (omega arith, tt)) (λ _. tt)
 
   -- as the contract says it of its result
   pub with-meaning : {r : VectorsAnswer} → r ≡ vectorsOf s wantF wantG

@@ -1,7 +1,7 @@
 // The vectors question.
 use crate::SceneAnswer;
-use crate::VectorsAnswer;
 use crate::Vectors;
+use crate::VectorsAnswer;
 use check_verdict::Verdict;
 use scene::CheckedScene;
 use scene::Fault;

@@ -116,4 +116,4 @@ listable s room sc e = record {
 
 pub list-means : (s : List ℕ) (room : ℕ) → CheckedMeans s (checkList s room)
 unfolding checkList
-list-means s room = checked-means-by [] (listRules room) s (λ _. tt) (λ _. (omega arith, omega arith, tt))
+list-means s room = checked-means-by [] (listRules room) s (λ _. tt) (λ _. (omega arith, (omega arith, tt)))

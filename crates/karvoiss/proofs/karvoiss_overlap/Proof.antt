@@ -15,7 +15,7 @@ same-length : tie.Need-same-length
 same-length c = search needs
 
 returns : tie.Need-returns
-returns c = let answer = c .before .before .before .overlap-list .ensures in (ap overlapForC (answer .0), answer .1)
+returns c = let answer = c .before .before .before .overlap-list .ensures in (ap overlapForC (answer .0), answer .1, answer .2)
 
 pub karvoiss-overlap-spec : {M : Type 1} → statement M
 karvoiss-overlap-spec = tie.close (tie.spec overlap-list-requires cast-t6 same-length returns)
