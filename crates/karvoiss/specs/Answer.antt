@@ -1,9 +1,13 @@
 -- What C gets for each answer: number 0 means taken; a refusal has its number and place, no flag, and no cell.
+use Prim.Native.Nat.{ℕ}
 use mathlib.Core.Bool.{Bool}
 use mathlib.Core.List.{List, [], _∷_}
+use lib.ListN.{getD}
 use Rattle.flags_vectors.specs.declared.VectorsAnswer.{VectorsAnswer}
 use Rattle.flags_vectors.specs.Vectors.{vectorsValues}
-use Rattle.cells.specs.declared.Explored as C
+use Rattle.cells_matrix.specs.Matrix.{Part, index}
+use Rattle.cells.specs.declared.CellsAnswer.{CellsAnswer}
+use Rattle.cells.specs.Explored.{cellsValues}
 use Rattle.karvoiss.specs.declared.KarvoissVectors.{KarvoissVectors}
 use Rattle.overlap.specs.declared.Overlap.{Overlap}
 use Rattle.karvoiss.specs.declared.KarvoissOverlap.{KarvoissOverlap}
@@ -14,8 +18,21 @@ vectorsForC e =
     let values = vectorsValues e in
     record { number = values .number; place = values .place; f = values .f; g = values .g }
 
-abbrev pub cellsForC : C.Explored → KarvoissCells
-cellsForC e = record { number = e .number; place = e .place; interior = e .interior .c; boundary = e .boundary .c; exterior = e .exterior .c }
+-- the rows of the matrix, in their order
+abbrev pub withCells : ℕ → ℕ → List (List Bool) → KarvoissCells
+withCells number place m =
+    record {
+      number = number;
+      place = place;
+      interior = getD m (index Part.interior) [];
+      boundary = getD m (index Part.boundary) [];
+      exterior = getD m (index Part.exterior) [];
+    }
+
+abbrev pub cellsForC : CellsAnswer → KarvoissCells
+cellsForC e =
+    let values = cellsValues e in
+    withCells (values .number) (values .place) (values .cells)
 
 -- the matrix that C gets
 abbrev pub cellsOf : KarvoissCells → List (List Bool)

@@ -1,14 +1,16 @@
 // What C programs call: every function is total, keeps no state and allocates nothing. include/karvoiss.h is for those who call them.
+use cells::CellsAnswer;
 use flags_vectors::VectorsAnswer;
 use flags_vectors::question;
 ghost use mathlib.Core.Path.{_≡_};
 ghost use Rattle.check_verdict.specs.SharedPoints.{CheckedMeans};
 ghost use Rattle.flags_vectors.specs.Vectors.{checkVectors, vectorsOf, NoFlagWrong};
-ghost use Rattle.cells.specs.Explored.{exploredOf, NoCellWrong};
+ghost use Rattle.scene.specs.Conditions.{checkScene};
+ghost use Rattle.cells.specs.Explored.{cellsAnswerOf, NoCellWrong};
 ghost use lib.ListN.{length};
 ghost use Rattle.overlap.specs.Rules.{checkList};
 ghost use Rattle.overlap.specs.Overlap.{overlapOf, bufferAfter};
-ghost use Rattle.karvoiss.specs.Answer.{vectorsForC, cellsForC, cellsOf, overlapForC};
+ghost use Rattle.karvoiss.specs.Answer.{vectorsForC, withCells, cellsForC, cellsOf, overlapForC};
 
 #[repr(C)]
 pub struct KarvoissVectors {
@@ -51,21 +53,30 @@ pub struct KarvoissCells {
     pub exterior: [bool; 3],
 }
 
-// The cells question.
+fn with_cells(number: u32, place: usize, cells: [[bool; 3]; 3]) -> KarvoissCells
+    ensures { λ r. ⌜ r ≡ withCells number place cells ⌝ }
+{
+    KarvoissCells {
+        number,
+        place,
+        interior: cells[0],
+        boundary: cells[1],
+        exterior: cells[2],
+    }
+}
+
+// The cells question: for every byte string the whole answer; no cell is wrong; and what the verdict says in points.
 #[no_mangle]
 pub extern "C" fn karvoiss_cells(scene: &[u8]) -> KarvoissCells
-    ensures { λ r. ⌜ (r ≡ cellsForC (exploredOf (now (scene .entry)))) × NoCellWrong (now (scene .entry)) (cellsOf r) ⌝ }
+    ensures { λ r. ⌜ (r ≡ cellsForC (cellsAnswerOf (now (scene .entry))))
+        × NoCellWrong (now (scene .entry)) (cellsOf r)
+        × CheckedMeans (now (scene .entry)) (checkScene (now (scene .entry))) ⌝ }
 {
     let answer = cells::question::explore(scene);
-    let interior = answer.interior.c;
-    let boundary = answer.boundary.c;
-    let exterior = answer.exterior.c;
-    KarvoissCells {
-        number: answer.number as u32,
-        place: answer.place,
-        interior,
-        boundary,
-        exterior,
+    let matrix = cells::question::cells(answer);
+    match answer {
+        CellsAnswer::Taken(_) => with_cells(0, 0, matrix),
+        CellsAnswer::Refused(r) => with_cells(r.number as u32, r.place, matrix),
     }
 }
 
