@@ -1,12 +1,11 @@
 -- Demand 3 over bytes: what a taken scene gives the theorem, and the theorem's statement for every accepted scene.
 use Prim.Native.Nat.{ℕ, zero, suc, _<_}
 use native.Mathlib.Omega.{arith}
-use mathlib.Core.Path.{_≡_, refl, sym, ap, ap₂, _∙_, subst}
+use mathlib.Core.Path.{_≡_, refl, sym, ap, _∙_, subst}
 use mathlib.Core.Logic.{_↔_}
-use mathlib.Core.Bool.{Bool, true, false, not, _&&_, cond}
+use mathlib.Core.Bool.{Bool, true, false, not}
 use mathlib.Core.List.{List, [], _∷_}
 use lib.Dec.{T, leb, eqb, le→leb, eqb·suc-zero}
-use lib.ListN.{getD}
 use Rattle.whole.specs.Count.{_∈_, here}
 use Rattle.whole.proofs.Logic.{true-is, in-nil, in-map, map-in}
 use Rattle.whole.proofs.Parity.{parity}

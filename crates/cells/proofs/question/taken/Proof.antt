@@ -1,5 +1,4 @@
 -- `cells::question::taken` meets its contract.
-use borrow.Author.Needs.{needs}
 use Rattle.cells.proofs.Taken.{taken-by}
 use Rattle.cells.proofs.question.taken.Statement.{statement}
 use Rattle.cells.proofs.question.taken.Tie as tie
