@@ -10,7 +10,7 @@ ghost use Rattle.cells.specs.Explored.{cellsAnswerOf, NoCellWrong};
 ghost use lib.ListN.{length};
 ghost use Rattle.overlap.specs.Rules.{checkList};
 ghost use Rattle.overlap.specs.Overlap.{overlapOf, bufferAfter};
-ghost use Rattle.karvoiss.specs.Answer.{vectorsForC, withCells, cellsForC, cellsOf, overlapForC};
+ghost use Rattle.karvoiss.specs.Answer.{vectorsForC, cellsForC, overlapForC};
 
 #[repr(C)]
 pub struct KarvoissVectors {
@@ -43,25 +43,21 @@ pub extern "C" fn karvoiss_vectors(scene: &[u8], want_f: u16, want_g: u16) -> Ka
     }
 }
 
-// The three rows lie as C's `bool cell[3][3]` does.
 #[repr(C)]
 pub struct KarvoissCells {
     pub number: u32,
     pub place: usize,
-    pub interior: [bool; 3],
-    pub boundary: [bool; 3],
-    pub exterior: [bool; 3],
+    pub cell: [[bool; 3]; 3],
 }
 
-fn with_cells(number: u32, place: usize, cells: [[bool; 3]; 3]) -> KarvoissCells
-    ensures { λ r. ⌜ r ≡ withCells number place cells ⌝ }
+// The answer as C gets it. The literal is proved by hand, so it stands in a function of its own.
+fn handed(number: u32, place: usize, cell: [[bool; 3]; 3]) -> KarvoissCells
+    ensures { λ r. ⌜ r ≡ record { number = number; place = place; cell = cell } ⌝ }
 {
     KarvoissCells {
         number,
         place,
-        interior: cells[0],
-        boundary: cells[1],
-        exterior: cells[2],
+        cell,
     }
 }
 
@@ -69,14 +65,14 @@ fn with_cells(number: u32, place: usize, cells: [[bool; 3]; 3]) -> KarvoissCells
 #[no_mangle]
 pub extern "C" fn karvoiss_cells(scene: &[u8]) -> KarvoissCells
     ensures { λ r. ⌜ (r ≡ cellsForC (cellsAnswerOf (now (scene .entry))))
-        × NoCellWrong (now (scene .entry)) (cellsOf r)
+        × NoCellWrong (now (scene .entry)) (r .cell)
         × CheckedMeans (now (scene .entry)) (checkScene (now (scene .entry))) ⌝ }
 {
     let answer = cells::question::explore(scene);
     let matrix = cells::question::cells(answer);
     match answer {
-        CellsAnswer::Taken(_) => with_cells(0, 0, matrix),
-        CellsAnswer::Refused(r) => with_cells(r.number as u32, r.place, matrix),
+        CellsAnswer::Taken(_) => handed(0, 0, matrix),
+        CellsAnswer::Refused(r) => handed(r.number as u32, r.place, matrix),
     }
 }
 
