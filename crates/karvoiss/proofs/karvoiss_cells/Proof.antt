@@ -11,16 +11,16 @@ use Rattle.karvoiss.specs.Answer.{cellsForC}
 use Rattle.karvoiss.proofs.karvoiss_cells.Statement.{statement}
 use Rattle.karvoiss.proofs.karvoiss_cells.Tie as tie
 
+-- the fields, from an answer and its matrix
+abbrev given : CellsAnswer → List (List Bool) → KarvoissCells
+given a m = record { number = cellsValues a .number; place = cellsValues a .place; cell = m }
+
 module _ (s : List ℕ) {M : Type 0} {a b : CellsAnswer} {m : List (List Bool)} {x : KarvoissCells} where
-  in-fields : (a ≡ cellsAnswerOf s) × NoCellWrong s (cellsValues a .cells) × M → m ≡ cellsValues a .cells → a ≡ b
-      → x ≡ record { number = cellsValues b .number; place = cellsValues b .place; cell = m } → (x ≡ cellsForC (cellsAnswerOf s)) × NoCellWrong s (x .cell) × M
+  in-fields : (a ≡ cellsAnswerOf s) × NoCellWrong s (cellsValues a .cells) × M → m ≡ cellsValues a .cells → a ≡ b → x ≡ given b m
+      → (x ≡ cellsForC (cellsAnswerOf s)) × NoCellWrong s (x .cell) × M
   in-fields e cells q is = (whole ∙ ap cellsForC (e .0), subst (λ (x : KarvoissCells). NoCellWrong s (x .cell)) (sym whole) (e .1), e .2)
     where
-      given : CellsAnswer → List (List Bool) → KarvoissCells
-      given b m = record { number = cellsValues b .number; place = cellsValues b .place; cell = m }
-
       whole : x ≡ cellsForC a
-      unfolding given
       whole = is ∙ ap (λ (b : CellsAnswer). given b m) (sym q) ∙ ap (given a) cells
 
 explore-requires : tie.Need-explore-requires
