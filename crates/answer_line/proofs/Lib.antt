@@ -3,3 +3,4 @@ pub mod Decimal
 pub mod Written
 pub mod Cells
 pub mod Line
+pub mod FirstBytes

@@ -1,6 +1,6 @@
 -- Laws of writing into a lent buffer: one byte, one piece after another, a copy, and what a caller learns of its buffer.
 use Prim.Native.Nat.{ℕ, _+_, _≤_, _<_}
-use mathlib.Core.Path.{_≡_, refl, sym, ap, _∙_}
+use mathlib.Core.Path.{_≡_, refl, sym, ap, subst, _∙_}
 use mathlib.Core.Bool.{Bool, true, false}
 use mathlib.Core.List.{List, [], _∷_, _++_, append-assoc}
 use native.Mathlib.Nat.{add-zero, add-assoc}
@@ -11,6 +11,9 @@ use lib.Dec.{leb}
 use lib.Seq.{length-take-le, take-at, take-append-seam, take-suc, drop-append-add, drop-drop, set-split}
 use borrow.Author.Tests.{leb-true, leb-false}
 use Rattle.answer_line.specs.Line.{Written, Lent}
+
+pub written-same : {l : List ℕ} {at : ℕ} {xs ys : List ℕ} {k : ℕ} {m : List ℕ} → xs ≡ ys → Written l at xs k m → Written l at ys k m
+written-same {l} {at} {k = k} {m} e p = subst (λ (xs : List ℕ). Written l at xs k m) e p
 
 pub written-byte : (l : List ℕ) (at b : ℕ) → at < length l → Written l at (b ∷ []) (at + 1) (set l at b)
 written-byte l at b h = record { ends = refl; within = omega arith; holds = rw (add-one, set-split l at b h) }

@@ -1,18 +1,23 @@
--- The lines of document 01's scenes a and l, a few numbers, and the longest line, computed.
+-- The lines of the values of document 01's scenes a and l, a few numbers, and the longest line, computed.
 use mathlib.Core.Path.{_≡_, refl}
-use mathlib.Core.Bool.{true, false}
-use mathlib.Core.List.{[], _∷_}
+use Prim.Native.Nat.{ℕ}
+use mathlib.Core.Bool.{Bool, true, false}
+use mathlib.Core.List.{List, [], _∷_}
 use lib.ListN.{length}
+use Rattle.cells.specs.Explored.{CellsValues}
 use Rattle.answer_line.specs.Line.{digits, decimal, okLine, noLine, lineOf}
 
+abbrev values : ℕ → ℕ → ℕ → ℕ → ℕ → ℕ → List (List Bool) → CellsValues
+values number place f g v w cells = record { number = number; place = place; f = f; g = g; v = v; w = w; cells = cells }
+
 -- "ok 1 2 5 1 011000111"
-scene-a : lineOf 0 0 1 2 5 1 ((false ∷ true ∷ true ∷ []) ∷ (false ∷ false ∷ false ∷ []) ∷ (true ∷ true ∷ true ∷ []) ∷ [])
+scene-a : lineOf (values 0 0 1 2 5 1 ((false ∷ true ∷ true ∷ []) ∷ (false ∷ false ∷ false ∷ []) ∷ (true ∷ true ∷ true ∷ []) ∷ []))
     ≡ 111 ∷ 107 ∷ 32 ∷ 49 ∷ 32 ∷ 50 ∷ 32 ∷ 53 ∷ 32 ∷ 49 ∷ 32 ∷ 48 ∷ 49 ∷ 49 ∷ 48 ∷ 48 ∷ 48 ∷ 49 ∷ 49 ∷ 49 ∷ 10 ∷ []
 unfolding lineOf okLine decimal digits
 scene-a = refl
 
 -- "no 4 2"
-scene-l : lineOf 4 2 0 0 0 0 [] ≡ 110 ∷ 111 ∷ 32 ∷ 52 ∷ 32 ∷ 50 ∷ 10 ∷ []
+scene-l : lineOf (values 4 2 0 0 0 0 []) ≡ 110 ∷ 111 ∷ 32 ∷ 52 ∷ 32 ∷ 50 ∷ 10 ∷ []
 unfolding lineOf noLine decimal digits
 scene-l = refl
 
@@ -26,6 +31,6 @@ unfolding decimal digits
 four-digits = refl
 
 -- the longest line of a program's numbers
-longest : length (lineOf 0 0 255 255 65535 65535 ((true ∷ true ∷ true ∷ []) ∷ (true ∷ true ∷ true ∷ []) ∷ (true ∷ true ∷ true ∷ []) ∷ [])) ≡ 33
+longest : length (lineOf (values 0 0 255 255 65535 65535 ((true ∷ true ∷ true ∷ []) ∷ (true ∷ true ∷ true ∷ []) ∷ (true ∷ true ∷ true ∷ []) ∷ []))) ≡ 33
 unfolding lineOf okLine decimal digits
 longest = refl

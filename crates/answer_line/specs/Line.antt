@@ -2,10 +2,12 @@
 -- into a lent buffer.
 use Prim.Native.Nat.{ℕ, zero, suc, _+_, _-_, _*_, _/_, _%_, _≤_, _<_}
 use mathlib.Core.Path.{_≡_}
-use mathlib.Core.Bool.{Bool, true, false}
+use mathlib.Core.Bool.{Bool, true, false, cond}
 use mathlib.Core.List.{List, [], _∷_, _++_, map}
-use lib.Dec.{ltb}
+use lib.Dec.{eqb, ltb}
 use lib.ListN.{length, getD, take, drop}
+use Rattle.cells.specs.declared.CellsAnswer.{CellsAnswer}
+use Rattle.cells.specs.Explored.{CellsValues, cellsValues, cellsAnswerOf}
 
 -- ---- a number in decimal
 
@@ -75,10 +77,22 @@ okLine f g v w cells = fields okWord (decimal f ∷ decimal g ∷ decimal v ∷ 
 unfoldable pub noLine : ℕ → ℕ → List ℕ
 noLine number place = fields noWord (decimal number ∷ decimal place ∷ [])
 
--- the line of a whole answer, whose number is 0 where the scene is taken
-unfoldable pub lineOf : ℕ → ℕ → ℕ → ℕ → ℕ → ℕ → List (List Bool) → List ℕ
-lineOf zero place f g v w cells = okLine f g v w cells
-lineOf (suc n) place f g v w cells = noLine (suc n) place
+-- the line of an answer's number and values: number 0 where the scene is taken
+unfoldable pub lineOf : CellsValues → List ℕ
+lineOf a = cond (eqb (a .number) 0) (okLine (a .f) (a .g) (a .v) (a .w) (a .cells)) (noLine (a .number) (a .place))
+
+-- "`explore` reads a scene .. and writes one line": that of the scene's bytes
+unfoldable pub lineOfScene : List ℕ → List ℕ
+lineOfScene s = lineOf (cellsValues (cellsAnswerOf s))
+
+-- a longer input has the line of its first 38,919 bytes: one more than the longest scene has
+abbrev pub OnlyFirstBytes : Type 0
+OnlyFirstBytes = (s : List ℕ) → lineOfScene s ≡ lineOfScene (take 38919 s)
+
+-- no refusal has the number of a scene that is taken
+abbrev pub Numbered : CellsAnswer → Type 0
+Numbered (CellsAnswer.Taken e) = Unit {0}
+Numbered (CellsAnswer.Refused r) = 0 < r .number
 
 -- ---- writing into a lent buffer
 

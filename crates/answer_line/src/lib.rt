@@ -1,8 +1,13 @@
 // The one line that answers a scene, written into a lent buffer.
 // Each function but `write_line` writes at 0 and answers the offset after what it wrote.
+use cells::CellsAnswer;
+use cells::question;
+use cells::table;
+use scene::records;
 ghost use Prim.Native.Nat.{_≤_};
 ghost use lib.ListN.{length};
-ghost use Rattle.answer_line.specs.Line.{okLine, noLine, lineOf, Written, Lent};
+ghost use Rattle.cells.specs.Explored.{cellsValues};
+ghost use Rattle.answer_line.specs.Line.{okLine, noLine, lineOf, lineOfScene, Numbered, Written, Lent};
 
 pub mod fields;
 
@@ -10,7 +15,7 @@ pub mod fields;
 pub const LINE_LIMIT: usize = 33;
 
 fn write_ok(out: &mut [u8], f: u8, g: u8, v: u16, w: u16, cells: [[bool; 3]; 3]) -> usize
-    requires { ⌜ length (okLine f g v w cells) ≤ length (now out) ⌝ }
+    requires { do ⌜ (← ⟦LINE_LIMIT⟧) ≤ length (now out) ⌝ }
     ensures { λ r. ⌜ Written (now (out .entry)) 0 (okLine f g v w cells) r (now (out .exit)) ⌝ }
 {
     let first = fields::write_bytes(out, 0, b"ok");
@@ -24,7 +29,7 @@ fn write_ok(out: &mut [u8], f: u8, g: u8, v: u16, w: u16, cells: [[bool; 3]; 3])
 }
 
 fn write_no(out: &mut [u8], number: u8, place: usize) -> usize
-    requires { ⌜ length (noLine number place) ≤ length (now out) ⌝ }
+    requires { do ⌜ (← ⟦LINE_LIMIT⟧) ≤ length (now out) ⌝ }
     ensures { λ r. ⌜ Written (now (out .entry)) 0 (noLine number place) r (now (out .exit)) ⌝ }
 {
     let first = fields::write_bytes(out, 0, b"no");
@@ -33,42 +38,30 @@ fn write_no(out: &mut [u8], number: u8, place: usize) -> usize
     fields::write_byte(out, end, b'\n')
 }
 
-fn write_answer(
-    out: &mut [u8],
-    number: u8,
-    place: usize,
-    f: u8,
-    g: u8,
-    v: u16,
-    w: u16,
-    cells: [[bool; 3]; 3],
-) -> usize
-    requires { ⌜ length (lineOf number place f g v w cells) ≤ length (now out) ⌝ }
-    ensures { λ r. ⌜ Written (now (out .entry)) 0 (lineOf number place f g v w cells) r (now (out .exit)) ⌝ }
+fn write_answer(out: &mut [u8], answer: CellsAnswer) -> usize
+    requires { ⌜ Numbered answer ⌝ }
+    requires { do ⌜ (← ⟦LINE_LIMIT⟧) ≤ length (now out) ⌝ }
+    ensures { λ r. ⌜ Written (now (out .entry)) 0 (lineOf (cellsValues answer)) r (now (out .exit)) ⌝ }
 {
-    if number == 0 {
-        write_ok(out, f, g, v, w, cells)
-    } else {
-        write_no(out, number, place)
+    match answer {
+        CellsAnswer::Taken(e) => {
+            let of_f = e.f;
+            let of_g = e.g;
+            let f = records::shape_number(of_f);
+            let g = records::shape_number(of_g);
+            write_ok(out, f, g, e.v, e.w, table::matrix(e))
+        }
+        CellsAnswer::Refused(r) => write_no(out, r.number, r.place),
     }
 }
 
-// Writes the whole line and answers its length; or, if there is no room for it, writes nothing and answers 0.
-pub fn write_line(
-    out: &mut [u8],
-    number: u8,
-    place: usize,
-    f: u8,
-    g: u8,
-    v: u16,
-    w: u16,
-    cells: [[bool; 3]; 3],
-) -> usize
-    ensures { λ r. ⌜ Lent (lineOf number place f g v w cells) (now (out .entry)) r (now (out .exit)) ⌝ }
-    ensures { λ _. do ⌜ length (lineOf number place f g v w cells) ≤ (← ⟦LINE_LIMIT⟧ .entry) ⌝ }
+// Writes the line of a scene's bytes and answers its length; or, if there is no room for it, writes nothing and answers 0.
+pub fn write_line(s: &[u8], out: &mut [u8]) -> usize
+    ensures { λ r. ⌜ Lent (lineOfScene (now (s .entry))) (now (out .entry)) r (now (out .exit)) ⌝ }
+    ensures { λ _. do ⌜ length (lineOfScene (now (s .entry))) ≤ (← ⟦LINE_LIMIT⟧ .entry) ⌝ }
 {
     let mut line = [0u8; LINE_LIMIT];
-    let length = write_answer(&mut line, number, place, f, g, v, w, cells);
+    let length = write_answer(&mut line, question::explore(s));
     if out.len() < length {
         return 0;
     }

@@ -1,12 +1,11 @@
 -- Demand 3 over bytes: what a taken scene gives the theorem, and the theorem's statement for every accepted scene.
 use Prim.Native.Nat.{ℕ, zero, suc, _<_}
 use native.Mathlib.Omega.{arith}
-use mathlib.Core.Path.{_≡_, refl, sym, ap, ap₂, _∙_, subst}
+use mathlib.Core.Path.{_≡_, refl, sym, ap, _∙_, subst}
 use mathlib.Core.Logic.{_↔_}
-use mathlib.Core.Bool.{Bool, true, false, not, _&&_, cond}
+use mathlib.Core.Bool.{Bool, true, false, not}
 use mathlib.Core.List.{List, [], _∷_}
 use lib.Dec.{T, leb, eqb, le→leb, eqb·suc-zero}
-use lib.ListN.{getD}
 use Rattle.whole.specs.Count.{_∈_, here}
 use Rattle.whole.proofs.Logic.{true-is, in-nil, in-map, map-in}
 use Rattle.whole.proofs.Parity.{parity}
@@ -21,6 +20,8 @@ use Rattle.scene.specs.declared.CheckedScene.{CheckedScene}
 use Rattle.scene.specs.Read.{shapeNumber}
 use Rattle.scene.specs.Conditions as C
 use Rattle.scene.specs.Conditions.{half, isLeft, hasSegments, segments, elements, keep, checkScene}
+use Rattle.check_verdict.specs.SharedPoints.{CheckedMeans}
+use Rattle.check_verdict.proofs.CheckedMeans.{checked-means}
 use Rattle.check_verdict.proofs.Laws.{SoundObject, SoundScene, sound-scene, split, regular, ia-is, across, segment-in, left-in, in-left}
 use Rattle.scene_segments.proofs.Indices.{keep-in, element-in, in-element}
 use Rattle.flags.specs.Flags as F
@@ -31,9 +32,10 @@ use Rattle.flags_vectors.specs.Vectors.{sceneVectors}
 use Rattle.flags.proofs.Elements.{outline-edges}
 use Rattle.flags_masks.proofs.Masks.{vector-all-F, vector-all-G}
 use Rattle.cells.specs.declared.Explored.{Explored}
-use Rattle.cells_matrix.specs.Matrix.{Part, interior, boundary, exterior, Meet, matrixOf, cellAt}
+use Rattle.cells.specs.declared.CellsAnswer.{CellsAnswer}
+use Rattle.cells_matrix.specs.Matrix.{Part, Meet, matrixOf, cellAt}
 use Rattle.cells.specs.Explored as E
-use Rattle.cells.specs.Explored.{sceneMatrix, row, takenAs, exploredOf, answered, cellsOf, NoCellWrong}
+use Rattle.cells.specs.Explored.{exploredIn, matrixFrom, answered, cellsAnswerOf, cellsValues, NoCellWrong}
 use Rattle.cells_matrix.proofs.Common.{filled, filled-of}
 use Rattle.cells_matrix.proofs.RegionRegion.{Sound}
 use Rattle.cells_matrix.proofs.Theorem.{Accepted, Good, shapeOf, isEmpty, no-cell-wrong}
@@ -139,7 +141,7 @@ module _ (s : List ℕ) (sc : Scene) (o : SoundScene s sc) where
           subst (λ (a : Shape). T (leb (shapeNumber a) (shapeNumber b))) (sym e)
           (subst (λ (b : Shape). T (leb (shapeNumber (sc .f .shape)) (shapeNumber b))) (sym q) (le→leb (shapeNumber (sc .f .shape)) (shapeNumber (sc .g .shape)) (o .ascending)))
 
-  matrix-is : sceneMatrix s sc ≡ matrixOf (shapeOf of-f) (shapeOf of-g) (pack (flagsOfF of-f of-g)) (pack (flagsOfG of-f of-g)) (isEmpty of-f) (isEmpty of-g)
+  matrix-is : matrixFrom (exploredIn s sc) ≡ matrixOf (shapeOf of-f) (shapeOf of-g) (pack (flagsOfF of-f of-g)) (pack (flagsOfG of-f of-g)) (isEmpty of-f) (isEmpty of-g)
   matrix-is =
       let a = shape-as s (sc .f) (sc .f .shape) in
       let b = shape-as s (sc .g) (sc .g .shape) in
@@ -149,7 +151,7 @@ module _ (s : List ℕ) (sc : Scene) (o : SoundScene s sc) where
       let y = empty-as s (sc .g) (o .g-sound) (sc .g .shape) refl in
       cc
 
-  cells-right : (r c : Part) → T (cellAt (sceneMatrix s sc) r c) ↔ Meet r (C.object s (sc .f)) c (C.object s (sc .g))
+  cells-right : (r c : Part) → T (cellAt (matrixFrom (exploredIn s sc)) r c) ↔ Meet r (C.object s (sc .f)) c (C.object s (sc .g))
   cells-right r c =
       subst (λ (m : List (List Bool)). T (cellAt m r c) ↔ Meet r (C.object s (sc .f)) c (C.object s (sc .g))) (sym matrix-is)
       (subst (λ (a : Object). T (cellAt m r c) ↔ Meet r a c (C.object s (sc .g))) (object-is s (sc .f))
@@ -158,35 +160,26 @@ module _ (s : List ℕ) (sc : Scene) (o : SoundScene s sc) where
       m : List (List Bool)
       m = matrixOf (shapeOf of-f) (shapeOf of-g) (pack (flagsOfF of-f of-g)) (pack (flagsOfG of-f of-g)) (isEmpty of-f) (isEmpty of-g)
 
--- a cell of the rows is that of the matrix
-cell-of-rows : (m : List (List Bool)) (r c : Part) → cellAt (getD m 0 [] ∷ getD m 1 [] ∷ getD m 2 [] ∷ []) r c ≡ cellAt m r c
-cell-of-rows m interior c = refl
-cell-of-rows m boundary c = refl
-cell-of-rows m exterior c = refl
-
 -- Demand 3, of every byte string
-pub scene-cells : (s : List ℕ) → NoCellWrong s (cellsOf (exploredOf s))
-unfolding exploredOf checkScene
+pub scene-cells : (s : List ℕ) → NoCellWrong s (cellsValues (cellsAnswerOf s) .cells)
+unfolding cellsAnswerOf checkScene
 scene-cells s sc e r c =
-    subst (λ (x : CheckedScene). T (cellAt (cellsOf (answered s x)) r c) ↔ Meet r (C.object s (sc .f)) c (C.object s (sc .g))) (sym e)
-    (subst (λ (b : Bool). T b ↔ Meet r (C.object s (sc .f)) c (C.object s (sc .g))) (sym (cell-of-rows (sceneMatrix s sc) r c)) (cells-right s sc (sound-scene [] [] s sc e) r c))
+    subst (λ (x : CheckedScene). T (cellAt (cellsValues (answered s x) .cells) r c) ↔ Meet r (C.object s (sc .f)) c (C.object s (sc .g))) (sym e)
+    (cells-right s sc (sound-scene [] [] s sc e) r c)
 
-pub as-explored : (s : List ℕ) (k : CheckedScene) → checkScene s ≡ k → {x : Explored} → x ≡ answered s k → (x ≡ exploredOf s) × NoCellWrong s (cellsOf x)
-unfolding exploredOf
+-- as the contract says it of its result
+pub as-explored : (s : List ℕ) (k : CheckedScene) → checkScene s ≡ k → {x : CellsAnswer} → x ≡ answered s k
+    → (x ≡ cellsAnswerOf s) × NoCellWrong s (cellsValues x .cells) × CheckedMeans s (checkScene s)
+unfolding cellsAnswerOf
 as-explored s k e {x} q =
-    let p : x ≡ exploredOf s = q ∙ ap (answered s) (sym e) in
-    (p, subst (λ (x : Explored). NoCellWrong s (cellsOf x)) (sym p) (scene-cells s))
+    let p : x ≡ cellsAnswerOf s = q ∙ ap (answered s) (sym e) in
+    (p, subst (λ (x : CellsAnswer). NoCellWrong s (cellsValues x .cells)) (sym p) (scene-cells s), checked-means s)
 
--- what is handed back of a scene that is taken, from its parts
-abbrev shown : ℕ → ℕ → Vectors → List (List Bool) → Explored
-shown f g both m =
-    record { number = 0; place = 0; f = f; g = g; v = both .f; w = both .g; interior = row m interior; boundary = row m boundary; exterior = row m exterior }
-
+-- a scene that is taken, from its parts
 module _ (s : List ℕ) (sc : Scene) where
-  abbrev matrixBeside : Vectors → List (List Bool)
-  matrixBeside both = matrixOf (sc .f .shape) (sc .g .shape) (both .f) (both .g) (E.isEmpty (sc .f)) (E.isEmpty (sc .g))
+  abbrev exploredBy : Vectors → Explored
+  exploredBy both =
+      record { f = sc .f .shape; g = sc .g .shape; v = both .f; w = both .g; «f_empty» = E.isEmpty (sc .f); «g_empty» = E.isEmpty (sc .g) }
 
-  pub shown-taken : {f g : ℕ} {both : Vectors} {m : List (List Bool)} → both ≡ sceneVectors s sc 0 0 → m ≡ matrixBeside both → f ≡ shapeNumber (sc .f .shape) → g ≡ shapeNumber (sc .g .shape)
-      → shown f g both m ≡ takenAs s sc
-  shown-taken {both = both} {m} v cells f g =
-      ap₂ (λ (f g : ℕ). shown f g both m) f g ∙ ap₂ (shown (shapeNumber (sc .f .shape)) (shapeNumber (sc .g .shape))) v (cells ∙ ap matrixBeside v)
+  pub taken-by : {both : Vectors} → both ≡ sceneVectors s sc 0 0 → exploredBy both ≡ exploredIn s sc
+  taken-by e = ap exploredBy e

@@ -2,21 +2,19 @@
 use Prim.Native.Nat.{ℕ}
 use mathlib.Core.Path.{_≡_}
 use mathlib.Core.Logic.{_↔_}
-use mathlib.Core.Bool.{Bool, true, false}
-use mathlib.Core.List.{List, [], _∷_}
+use mathlib.Core.Bool.{Bool}
+use mathlib.Core.List.{List}
 use lib.Dec.{T, eqb}
-use lib.ListN.{getD}
 use Rattle.scene.specs.declared.Layout.{Layout}
 use Rattle.scene.specs.declared.Scene.{Scene}
-use Rattle.scene.specs.declared.Refusal.{Refusal}
 use Rattle.scene.specs.declared.CheckedScene.{CheckedScene}
 use Rattle.scene.specs.Read.{shapeNumber}
 use Rattle.scene.specs.Conditions.{object, checkScene}
 use Rattle.flags.specs.Elements.{elementsOf}
 use Rattle.flags_masks.specs.Wanted.{vectorOfF, vectorOfG}
-use Rattle.cells.specs.declared.Row.{Row}
 use Rattle.cells.specs.declared.Explored.{Explored}
-use Rattle.cells_matrix.specs.Matrix.{Part, interior, boundary, exterior, Meet, matrixOf, noCells, index, cellAt}
+use Rattle.cells.specs.declared.CellsAnswer.{CellsAnswer}
+use Rattle.cells_matrix.specs.Matrix.{Part, Meet, matrixOf, noCells, cellAt}
 
 -- "an object is empty when it has no elements"
 abbrev pub isEmpty : Layout → Bool
@@ -30,52 +28,47 @@ module _ (s : List ℕ) (sc : Scene) where
   abbrev pub wholeVectorG : ℕ
   wholeVectorG = vectorOfG (elementsOf s (sc .f)) (elementsOf s (sc .g)) 0 0
 
-  abbrev pub sceneMatrix : List (List Bool)
-  sceneMatrix = matrixOf (sc .f .shape) (sc .g .shape) wholeVectorF wholeVectorG (isEmpty (sc .f)) (isEmpty (sc .g))
+  abbrev pub exploredIn : Explored
+  exploredIn =
+      record {
+        f = sc .f .shape;
+        g = sc .g .shape;
+        v = wholeVectorF;
+        w = wholeVectorG;
+        «f_empty» = isEmpty (sc .f);
+        «g_empty» = isEmpty (sc .g);
+      }
 
--- the rows of a matrix, as they are handed back
-abbrev pub row : List (List Bool) → Part → Row
-row m r = record { c = getD m (index r) [] }
+-- the matrix of what was explored: from the two vectors, the two types and emptiness alone
+abbrev pub matrixFrom : Explored → List (List Bool)
+matrixFrom e = matrixOf (e .f) (e .g) (e .v) (e .w) (e .«f_empty») (e .«g_empty»)
 
--- number and values of every case: a taken scene has number 0; "Every refusal has vectors, .. and all other results 0, cells no"
-abbrev pub takenAs : List ℕ → Scene → Explored
-takenAs s sc =
-    record {
-      number = 0;
-      place = 0;
-      f = shapeNumber (sc .f .shape);
-      g = shapeNumber (sc .g .shape);
-      v = wholeVectorF s sc;
-      w = wholeVectorG s sc;
-      interior = row (sceneMatrix s sc) interior;
-      boundary = row (sceneMatrix s sc) boundary;
-      exterior = row (sceneMatrix s sc) exterior;
-    }
+-- ---- the answer
 
-abbrev pub refusedAs : Refusal → Explored
-refusedAs r =
-    record {
-      number = r .number;
-      place = r .place;
-      f = 0;
-      g = 0;
-      v = 0;
-      w = 0;
-      interior = row noCells interior;
-      boundary = row noCells boundary;
-      exterior = row noCells exterior;
-    }
+abbrev pub answered : List ℕ → CheckedScene → CellsAnswer
+answered s (CheckedScene.Taken sc) = CellsAnswer.Taken (exploredIn s sc)
+answered s (CheckedScene.Refused r) = CellsAnswer.Refused r
 
-abbrev pub answered : List ℕ → CheckedScene → Explored
-answered s (CheckedScene.Taken sc) = takenAs s sc
-answered s (CheckedScene.Refused r) = refusedAs r
+unfoldable pub cellsAnswerOf : List ℕ → CellsAnswer
+cellsAnswerOf s = answered s (checkScene s)
 
-unfoldable pub exploredOf : List ℕ → Explored
-exploredOf s = answered s (checkScene s)
+-- "Where an answer is an enum, a definition states this paper's number and values for every one of its cases." What is taken has number 0;
+-- "Every refusal has vectors .. and all other results 0, cells no".
+pub record CellsValues : Type 0 where
+  pub number : ℕ
+  pub place : ℕ
+  pub f : ℕ
+  pub g : ℕ
+  pub v : ℕ
+  pub w : ℕ
+  pub cells : List (List Bool)
 
--- the matrix that is handed back
-abbrev pub cellsOf : Explored → List (List Bool)
-cellsOf e = e .interior .c ∷ e .boundary .c ∷ e .exterior .c ∷ []
+abbrev pub cellsValues : CellsAnswer → CellsValues
+cellsValues (CellsAnswer.Taken e) =
+    record { number = 0; place = 0; f = shapeNumber (e .f); g = shapeNumber (e .g); v = e .v; w = e .w; cells = matrixFrom e }
+cellsValues (CellsAnswer.Refused r) = record { number = r .number; place = r .place; f = 0; g = 0; v = 0; w = 0; cells = noCells }
+
+-- ---- what it means
 
 -- Demand 3, of the bytes: for a scene that is taken, each cell is yes if and only if some point with fraction coordinates lies in the row's part of F and in
 -- the column's part of G

@@ -1,21 +1,20 @@
 // The cells question: the nine-intersection matrix of the two objects of a scene.
+use scene::Refusal;
+use scene::Shape;
 
-// A row of the matrix: interior, boundary and exterior of G.
-pub struct Row {
-    pub c: [bool; 3],
-}
-
-// What the bytes of a scene say: number 0 and what `explore` prints of it, or the refusal's number and place and nothing else.
+// What a taken scene's cells follow from: the two types, the two vectors with every flag wanted, and which objects are empty.
 pub struct Explored {
-    pub number: u8,
-    pub place: usize,
-    pub f: u8,
-    pub g: u8,
+    pub f: Shape,
+    pub g: Shape,
     pub v: u16,
     pub w: u16,
-    pub interior: Row,
-    pub boundary: Row,
-    pub exterior: Row,
+    pub f_empty: bool,
+    pub g_empty: bool,
+}
+
+pub enum CellsAnswer {
+    Taken(Explored),
+    Refused(Refusal),
 }
 
 pub mod question;

@@ -1,63 +1,55 @@
 // The cells question over a scene's bytes.
+use crate::CellsAnswer;
 use crate::Explored;
-use crate::Row;
 use crate::table;
-use flags_vectors::Answer;
+use flags_vectors::SceneAnswer;
 use flags_vectors::Vectors;
 use flags_vectors::question;
-use scene::Refusal;
 use scene::Scene;
-use scene::records;
 ghost use mathlib.Core.Path.{_≡_};
 ghost use mathlib.Core.List.{List};
 ghost use Prim.Native.Nat.{ℕ};
+ghost use Rattle.scene.specs.Conditions.{checkScene};
+ghost use Rattle.check_verdict.specs.SharedPoints.{CheckedMeans};
 ghost use Rattle.flags_vectors.specs.Vectors.{sceneVectors};
-ghost use Rattle.cells.specs.Explored.{takenAs, refusedAs, exploredOf, cellsOf, NoCellWrong};
+ghost use Rattle.cells.specs.Explored.{exploredIn, cellsAnswerOf, cellsValues, NoCellWrong};
 
-fn refused(refusal: Refusal) -> Explored
-    ensures { λ r. ⌜ r ≡ refusedAs refusal ⌝ }
-{
-    Explored {
-        number: refusal.number,
-        place: refusal.place,
-        f: 0,
-        g: 0,
-        v: 0,
-        w: 0,
-        interior: Row { c: [false; 3] },
-        boundary: Row { c: [false; 3] },
-        exterior: Row { c: [false; 3] },
-    }
-}
-
-// What is said of a scene with the two vectors that have every flag wanted.
+// A scene that is taken, with the two vectors that have every flag wanted.
 fn taken(scene: Scene, both: Vectors) -> Explored
-    ensures { λ r. ⌜ ((s : List ℕ) → both ≡ sceneVectors s scene 0 0 → r ≡ takenAs s scene) ⌝ }
+    ensures { λ r. ⌜ ((s : List ℕ) → both ≡ sceneVectors s scene 0 0 → r ≡ exploredIn s scene) ⌝ }
 {
     let f = scene.f;
     let g = scene.g;
     let of_f = f.shape;
     let of_g = g.shape;
-    let cells = table::matrix(of_f, of_g, both.f, both.g, f.count == 0, g.count == 0);
     Explored {
-        number: 0,
-        place: 0,
-        f: records::shape_number(of_f),
-        g: records::shape_number(of_g),
+        f: of_f,
+        g: of_g,
         v: both.f,
         w: both.g,
-        interior: Row { c: cells[0] },
-        boundary: Row { c: cells[1] },
-        exterior: Row { c: cells[2] },
+        f_empty: f.count == 0,
+        g_empty: g.count == 0,
     }
 }
 
-// What a scene's bytes say: for a scene that is taken, no cell is wrong.
-pub fn explore(s: &[u8]) -> Explored
-    ensures { λ r. ⌜ (r ≡ exploredOf (now (s .entry))) × NoCellWrong (now (s .entry)) (cellsOf r) ⌝ }
+// What a scene's bytes are answered: for a scene that is taken, no cell is wrong; and what the verdict says in points.
+pub fn explore(s: &[u8]) -> CellsAnswer
+    ensures { λ r. ⌜ (r ≡ cellsAnswerOf (now (s .entry)))
+        × NoCellWrong (now (s .entry)) (cellsValues r .cells)
+        × CheckedMeans (now (s .entry)) (checkScene (now (s .entry))) ⌝ }
 {
     match question::answer(s, 0, 0) {
-        Answer::Refused(r) => refused(r),
-        Answer::Taken { scene, vectors } => taken(scene, vectors),
+        SceneAnswer::Refused(r) => CellsAnswer::Refused(r),
+        SceneAnswer::Taken { scene, vectors } => CellsAnswer::Taken(taken(scene, vectors)),
+    }
+}
+
+// The nine cells of an answer: a refusal has none.
+pub fn cells(answer: CellsAnswer) -> [[bool; 3]; 3]
+    ensures { λ r. ⌜ r ≡ cellsValues answer .cells ⌝ }
+{
+    match answer {
+        CellsAnswer::Taken(e) => table::matrix(e),
+        CellsAnswer::Refused(_) => [[false; 3]; 3],
     }
 }

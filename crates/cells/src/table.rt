@@ -1,10 +1,12 @@
 // The nine-intersection matrix of two objects, from their types, vectors and emptiness alone.
+use crate::Explored;
 use scene::Shape;
 ghost use mathlib.Core.Path.{_≡_};
 ghost use mathlib.Core.Bool.{_||_, not, true};
 ghost use Prim.Native.Nat.{_/_, _<_};
 ghost use Rattle.whole.specs.Count.{odd};
 ghost use Rattle.cells_matrix.specs.Matrix.{matrixOf};
+ghost use Rattle.cells.specs.Explored.{matrixFrom};
 
 // Is the bit with this place value set in a vector?
 fn has(v: u16, unit: u16) -> bool
@@ -130,24 +132,26 @@ fn region_region(v: u16, w: u16) -> [[bool; 3]; 3]
 }
 
 // The matrix: a function of the types, the vectors and the emptiness of the two objects, and of nothing else.
-pub fn matrix(f: Shape, g: Shape, v: u16, w: u16, f_empty: bool, g_empty: bool) -> [[bool; 3]; 3]
-    ensures { λ r. ⌜ r ≡ matrixOf f g v w «f_empty» «g_empty» ⌝ }
+pub fn matrix(e: Explored) -> [[bool; 3]; 3]
+    ensures { λ r. ⌜ r ≡ matrixFrom e ⌝ }
 {
+    let f = e.f;
+    let g = e.g;
     match f {
         Shape::Points => match g {
-            Shape::Points => points_points(v, w),
-            Shape::Line => points_line(v, w, g_empty),
-            Shape::Region => points_region(v, g_empty),
+            Shape::Points => points_points(e.v, e.w),
+            Shape::Line => points_line(e.v, e.w, e.g_empty),
+            Shape::Region => points_region(e.v, e.g_empty),
         },
         Shape::Line => match g {
             Shape::Points => [[false; 3]; 3],
-            Shape::Line => line_line(v, w),
-            Shape::Region => line_region(v, w, g_empty),
+            Shape::Line => line_line(e.v, e.w),
+            Shape::Region => line_region(e.v, e.w, e.g_empty),
         },
         Shape::Region => match g {
             Shape::Points => [[false; 3]; 3],
             Shape::Line => [[false; 3]; 3],
-            Shape::Region => region_region(v, w),
+            Shape::Region => region_region(e.v, e.w),
         },
     }
 }

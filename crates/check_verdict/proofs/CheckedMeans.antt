@@ -190,3 +190,6 @@ checked-object-means s = go (readAlone s) refl
 -- as a contract says it of its result
 pub with-meaning : (s : List ℕ) {r : CheckedScene} → r ≡ checkScene s → (r ≡ checkScene s) × CheckedMeans s r
 with-meaning s e = (e, subst (CheckedMeans s) (sym e) (checked-means s))
+
+pub object-with-meaning : (s : List ℕ) {r : CheckedObject} → r ≡ checkObject s → (r ≡ checkObject s) × CheckedObjectMeans s r
+object-with-meaning s e = (e, subst (CheckedObjectMeans s) (sym e) (checked-object-means s))

@@ -1,12 +1,13 @@
 -- Answers by the conditions that lead to them: what is so of a refusal with each condition's number, and of what follows them, is so of the answer. And so
--- reading refuses with the numbers 1 to 7 alone.
-use Prim.Native.Nat.{ℕ, zero, suc, _+_, _≤_}
+-- reading refuses with the numbers 1 to 7 alone, and no refusal has number 0.
+use Prim.Native.Nat.{ℕ, zero, suc, _+_, _≤_, _<_}
 use native.Mathlib.Omega.{arith}
 use mathlib.Core.Path.{_≡_, refl}
 use mathlib.Core.Bool.{Bool, true, false, cond}
 use mathlib.Core.List.{List, [], _∷_}
 use Rattle.scene.specs.declared.Kind.{Kind}
 use Rattle.scene.specs.declared.Layout.{Layout}
+use Rattle.scene.specs.declared.Scene.{Scene}
 use Rattle.scene.specs.declared.Refusal.{Refusal}
 use Rattle.scene.specs.declared.Fault.{Fault}
 use Rattle.scene.specs.declared.Fault.the-variants.{At, Nothing}
@@ -15,6 +16,7 @@ use Rattle.scene.specs.declared.Record.the-variants.{Good, Bad}
 use Rattle.scene.specs.declared.CheckedObject.{CheckedObject}
 use Rattle.scene.specs.declared.CheckedScene.{CheckedScene}
 use Rattle.scene.specs.Read.{Condition, decide, judge, byte, kindAt, shapeOf, startsObject, standsIn, isEnd, recordConditions, recordAt, endPlace, after, most, oneMore, next, elementsFrom, begun, readObject, endsWith, withG, withF, readScene, alone, readAlone}
+use Rattle.scene.specs.Conditions.{Rule, conditions, sceneRules, checkedScene, checkSceneBy, checkScene}
 
 -- ---- a list of conditions
 
@@ -29,17 +31,17 @@ abbrev pub Numbers : (ℕ → Type 0) → List Condition → Type 0
 Numbers P [] = Unit {0}
 Numbers P (c ∷ cs) = P (c .number) × Numbers P cs
 
+module _ {B : Type 0} (P : ℕ → Type 0) (refuse : Refusal → B) (Means : B → Type 0) (refused : (r : Refusal) → P (r .number) → Means (refuse r)) where
+  judged : (b : B) → Means b → (cs : List Condition) → Numbers P cs → Means (judge refuse b cs)
+  judged b q [] h = q
+  judged b q (c ∷ cs) h =
+      decided refuse Means (λ n p. P n) (λ n p. refused (record { number = n; place = p })) (c .number) (c .fault) (judge refuse b cs) (λ p e. h .0)
+      (λ e. judged b q cs (h .1))
+
 -- ---- reading
 
 abbrev Small : ℕ → Type 0
-Small n = n ≤ 7
-
-judged-small : {B : Type 0} (refuse : Refusal → B) (Means : B → Type 0) → ((r : Refusal) → Small (r .number) → Means (refuse r))
-    → (b : B) → Means b → (cs : List Condition) → Numbers Small cs → Means (judge refuse b cs)
-judged-small refuse Means refused b q [] h = q
-judged-small refuse Means refused b q (c ∷ cs) h =
-    decided refuse Means (λ n p. Small n) (λ n p. refused (record { number = n; place = p })) (c .number) (c .fault) (judge refuse b cs) (λ p e. h .0)
-    (λ e. judged-small refuse Means refused b q cs (h .1))
+Small n = (0 < n) × (n ≤ 7)
 
 abbrev SmallRecord : Record → Type 0
 SmallRecord (Good k) = Unit {0}
@@ -57,7 +59,7 @@ module _ (s : List ℕ) where
   small-record : (at : ℕ) (allowed : Kind → Bool) (full : Bool) → SmallRecord (recordAt s at allowed full)
   unfolding recordAt
   small-record at allowed full =
-      judged-small Bad SmallRecord (λ r h. h) (Good (kindAt s at)) tt (recordConditions s at allowed full (kindAt s at))
+      judged Small Bad SmallRecord (λ r h. h) (Good (kindAt s at)) tt (recordConditions s at allowed full (kindAt s at))
       (omega arith, (omega arith, (omega arith, (omega arith, (omega arith, (omega arith, (omega arith, tt)))))))
 
   small-next : (r : Record) (l : Layout) (rest : CheckedObject) → SmallRecord r → SmallObject rest → SmallObject (next r l rest)
@@ -89,7 +91,7 @@ module _ (s : List ℕ) where
     where
       go : (o : CheckedObject) → SmallObject o → SmallObject (alone s o)
       go (CheckedObject.Refused r) h = h
-      go (CheckedObject.Taken l) h = judged-small CheckedObject.Refused SmallObject (λ r h. h) (CheckedObject.Taken l) tt (endsWith s l ∷ []) (omega arith, tt)
+      go (CheckedObject.Taken l) h = judged Small CheckedObject.Refused SmallObject (λ r h. h) (CheckedObject.Taken l) tt (endsWith s l ∷ []) (omega arith, tt)
 
   pub small-scene : SmallScene (readScene s)
   unfolding readScene
@@ -98,8 +100,29 @@ module _ (s : List ℕ) where
       with-g : (f : Layout) (o : CheckedObject) → SmallObject o → SmallScene (withG s f o)
       with-g f (CheckedObject.Refused r) h = h
       with-g f (CheckedObject.Taken g) h =
-          judged-small CheckedScene.Refused SmallScene (λ r h. h) (CheckedScene.Taken (record { f = f; g = g })) tt (endsWith s g ∷ []) (omega arith, tt)
+          judged Small CheckedScene.Refused SmallScene (λ r h. h) (CheckedScene.Taken (record { f = f; g = g })) tt (endsWith s g ∷ []) (omega arith, tt)
 
       with-f : (o : CheckedObject) → SmallObject o → SmallScene (withF s o)
       with-f (CheckedObject.Refused r) h = h
       with-f (CheckedObject.Taken f) h = with-g f (readObject s (after f)) (small-object (after f))
+
+-- ---- no refusal has number 0
+
+abbrev pub Numbered : CheckedScene → Type 0
+Numbered (CheckedScene.Taken sc) = Unit {0}
+Numbered (CheckedScene.Refused r) = 0 < r .number
+
+module _ (rules : List (Rule Scene)) (s : List ℕ) (above : (sc : Scene) → Numbers (λ n. 0 < n) (conditions rules s sc)) where
+  pub numbered-by : Numbered (checkSceneBy rules s)
+  unfolding checkSceneBy
+  numbered-by = go (readScene s) (small-scene s)
+    where
+      go : (o : CheckedScene) → SmallScene o → Numbered (checkedScene rules s o)
+      go (CheckedScene.Refused r) h = h .0
+      go (CheckedScene.Taken sc) h = judged (λ n. 0 < n) CheckedScene.Refused Numbered (λ r h. h) (CheckedScene.Taken sc) tt (conditions rules s sc) (above sc)
+
+pub numbered : (s : List ℕ) → Numbered (checkScene s)
+unfolding checkScene
+numbered s =
+    numbered-by (sceneRules [] []) s
+    (λ sc. (omega arith, (omega arith, (omega arith, (omega arith, (omega arith, (omega arith, (omega arith, tt))))))))

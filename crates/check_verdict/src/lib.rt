@@ -18,7 +18,7 @@ ghost use Rattle.scene.specs.Read.{IsObject, IsScene};
 ghost use Rattle.scene.specs.Conditions.{typesDescend, checkScene, checkObject};
 ghost use Rattle.sweep_laws.specs.Noted.{Noted};
 ghost use Rattle.check_verdict.specs.Refusals.{sceneFaultUnder, objectVerdict, geometryVerdict};
-ghost use Rattle.check_verdict.specs.SharedPoints.{CheckedMeans};
+ghost use Rattle.check_verdict.specs.SharedPoints.{CheckedMeans, CheckedObjectMeans};
 
 // The first refusal under several conditions, if any.
 pub enum Verdict {
@@ -145,9 +145,9 @@ pub fn check_scene(s: &[u8]) -> CheckedScene
     }
 }
 
-// One object's bytes alone.
+// One object's bytes alone, and what the verdict says of the points that its segments share.
 pub fn check_object(s: &[u8]) -> CheckedObject
-    ensures { λ r. ⌜ r ≡ checkObject (now (s .entry)) ⌝ }
+    ensures { λ r. ⌜ (r ≡ checkObject (now (s .entry))) × CheckedObjectMeans (now (s .entry)) r ⌝ }
 {
     match scene_reading::read_alone(s) {
         CheckedObject::Refused(r) => CheckedObject::Refused(r),

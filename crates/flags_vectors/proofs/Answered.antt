@@ -18,7 +18,7 @@ use Rattle.check_verdict.specs.Refusals.{geometryVerdict}
 use Rattle.check_verdict.proofs.Laws.{SoundScene, sound-scene}
 use Rattle.check_verdict.proofs.Verdicts.{check-refused, check-read}
 use Rattle.flags_vectors.specs.declared.Vectors.{Vectors}
-use Rattle.flags_vectors.specs.declared.Answer.{Answer}
+use Rattle.flags_vectors.specs.declared.SceneAnswer.{SceneAnswer}
 use Rattle.flags.specs.Flags.{flagsOfF, flagsOfG, pack}
 use Rattle.flags_masks.specs.Wanted.{hasStray, anyStray, only, typeOf, maskOfF, maskOfG, wanted, vectorOfF, vectorOfG}
 use Rattle.flags.specs.Elements.{elementsAs, elementsOf}
@@ -56,7 +56,7 @@ module _ (s : List ℕ) (sc : Scene) (wantF wantG : ℕ) {all mask flags : ℕ} 
 
 -- ---- the answer
 
-pub unread : (s : List ℕ) (wantF wantG : ℕ) (r : Refusal) → readScene s ≡ CheckedScene.Refused r → Answer.Refused r ≡ answerOf s wantF wantG
+pub unread : (s : List ℕ) (wantF wantG : ℕ) (r : Refusal) → readScene s ≡ CheckedScene.Refused r → SceneAnswer.Refused r ≡ answerOf s wantF wantG
 unfolding answerOf
 unread s wantF wantG r e = rw (check-refused (vectorsRules wantF wantG) s r e)
 
@@ -66,23 +66,23 @@ module _ (s : List ℕ) (sc : Scene) (is : IsScene s sc) where
   sound d g = rw (check-read [] [] s sc is, d, g)
 
   module _ (wantF wantG : ℕ) where
-    pub descending : (p : ℕ) → typesDescend s sc ≡ At p → Answer.Refused (record { number = 8; place = p }) ≡ answerOf s wantF wantG
+    pub descending : (p : ℕ) → typesDescend s sc ≡ At p → SceneAnswer.Refused (record { number = 8; place = p }) ≡ answerOf s wantF wantG
     unfolding answerOf
     descending p d = rw (check-read (rule 9 (strayWanted wantF wantG) ∷ []) [] s sc is, d)
 
     module _ (rising : typesDescend s sc ≡ Nothing) where
-      pub stray : anyStray (shapeNumber (sc .f .shape)) (shapeNumber (sc .g .shape)) wantF wantG ≡ true → Answer.Refused (record { number = 9; place = 0 }) ≡ answerOf s wantF wantG
+      pub stray : anyStray (shapeNumber (sc .f .shape)) (shapeNumber (sc .g .shape)) wantF wantG ≡ true → SceneAnswer.Refused (record { number = 9; place = 0 }) ≡ answerOf s wantF wantG
       unfolding answerOf
       stray e = rw (check-read (rule 9 (strayWanted wantF wantG) ∷ []) [] s sc is, rising, e)
 
       module _ (tidy : anyStray (shapeNumber (sc .f .shape)) (shapeNumber (sc .g .shape)) wantF wantG ≡ false) where
-        pub at-fault : (r : Refusal) → geometryVerdict s sc ≡ Refused r → Answer.Refused r ≡ answerOf s wantF wantG
+        pub at-fault : (r : Refusal) → geometryVerdict s sc ≡ Refused r → SceneAnswer.Refused r ≡ answerOf s wantF wantG
         unfolding answerOf
         at-fault r g = rw (check-read (rule 9 (strayWanted wantF wantG) ∷ []) [] s sc is, rising, tidy, g)
 
-        pub taken : geometryVerdict s sc ≡ Sound → {v : Vectors} → v ≡ sceneVectors s sc wantF wantG → Answer.Taken sc v ≡ answerOf s wantF wantG
+        pub taken : geometryVerdict s sc ≡ Sound → {v : Vectors} → v ≡ sceneVectors s sc wantF wantG → SceneAnswer.Taken sc v ≡ answerOf s wantF wantG
         unfolding answerOf
-        taken g e = ap (Answer.Taken sc) e ∙ rw (check-read (rule 9 (strayWanted wantF wantG) ∷ []) [] s sc is, rising, tidy, g)
+        taken g e = ap (SceneAnswer.Taken sc) e ∙ rw (check-read (rule 9 (strayWanted wantF wantG) ∷ []) [] s sc is, rising, tidy, g)
 
 -- ---- two zero masks, "If both masks are 0, all flags are wanted": 9 asks nothing
 
@@ -106,22 +106,22 @@ all-wanted s = go (readScene s) refl
     go (CheckedScene.Refused r) e = check-refused (vectorsRules 0 0) s r e ∙ sym (check-refused (sceneRules [] []) s r e)
     go (CheckedScene.Taken sc) e = rw (check-read (rule 9 (strayWanted 0 0) ∷ []) [] s sc e, check-read [] [] s sc e, none-stray (sc .f .shape) (sc .g .shape))
 
-module _ (s : List ℕ) {a : Answer} (is : a ≡ answerOf s 0 0) where
+module _ (s : List ℕ) {a : SceneAnswer} (is : a ≡ answerOf s 0 0) where
   by-check : a ≡ answered s 0 0 (checkScene s)
   unfolding answerOf
   by-check = is ∙ ap (answered s 0 0) (all-wanted s)
 
-  pub all-refused : (r : Refusal) → a ≡ Answer.Refused r → checkScene s ≡ CheckedScene.Refused r
+  pub all-refused : (r : Refusal) → a ≡ SceneAnswer.Refused r → checkScene s ≡ CheckedScene.Refused r
   all-refused r e = go (checkScene s) (sym by-check ∙ e)
     where
-      go : (k : CheckedScene) → answered s 0 0 k ≡ Answer.Refused r → k ≡ CheckedScene.Refused r
+      go : (k : CheckedScene) → answered s 0 0 k ≡ SceneAnswer.Refused r → k ≡ CheckedScene.Refused r
       go (CheckedScene.Refused q) h = let x : q ≡ r = cc in ap CheckedScene.Refused x
       go (CheckedScene.Taken sc) h = absurd (let x : _≡_ {A = ℕ} 0 1 = cc in omega arith)
 
-  pub all-taken : (sc : Scene) (v : Vectors) → a ≡ Answer.Taken sc v → (checkScene s ≡ CheckedScene.Taken sc) × (v ≡ sceneVectors s sc 0 0)
+  pub all-taken : (sc : Scene) (v : Vectors) → a ≡ SceneAnswer.Taken sc v → (checkScene s ≡ CheckedScene.Taken sc) × (v ≡ sceneVectors s sc 0 0)
   all-taken sc v e = go (checkScene s) (sym by-check ∙ e)
     where
-      go : (k : CheckedScene) → answered s 0 0 k ≡ Answer.Taken sc v → (k ≡ CheckedScene.Taken sc) × (v ≡ sceneVectors s sc 0 0)
+      go : (k : CheckedScene) → answered s 0 0 k ≡ SceneAnswer.Taken sc v → (k ≡ CheckedScene.Taken sc) × (v ≡ sceneVectors s sc 0 0)
       go (CheckedScene.Refused q) h = absurd (let x : _≡_ {A = ℕ} 0 1 = cc in omega arith)
       go (CheckedScene.Taken k) h =
           let x : k ≡ sc = cc in

@@ -8,13 +8,13 @@ pub struct Vectors {
     pub g: u16,
 }
 
-pub enum Explored {
+pub enum VectorsAnswer {
     Taken(Vectors),
     Refused(Refusal),
 }
 
 // The same with the scene that was read.
-pub enum Answer {
+pub enum SceneAnswer {
     Taken { scene: Scene, vectors: Vectors },
     Refused(Refusal),
 }

@@ -1,7 +1,7 @@
 // The vectors question.
-use crate::Answer;
-use crate::Explored;
+use crate::SceneAnswer;
 use crate::Vectors;
+use crate::VectorsAnswer;
 use check_verdict::Verdict;
 use scene::CheckedScene;
 use scene::Fault;
@@ -13,7 +13,8 @@ ghost use Rattle.scene.specs.Conditions.{checkScene};
 ghost use Prim.Native.Nat.{_≤_};
 ghost use lib.ListN.{length};
 ghost use Rattle.sweep_laws.specs.Noted.{Noted};
-ghost use Rattle.flags_vectors.specs.Vectors.{sceneVectors, answerOf, vectorsOf};
+ghost use Rattle.check_verdict.specs.SharedPoints.{CheckedMeans};
+ghost use Rattle.flags_vectors.specs.Vectors.{sceneVectors, checkVectors, answerOf, vectorsOf, vectorsValues, NoFlagWrong};
 
 // The wanted flags of both objects of a scene that is taken, from what the sweep noted.
 fn swept_vectors(s: &[u8], scene: Scene, want_f: u16, want_g: u16, notes: &[u8]) -> Vectors
@@ -36,39 +37,41 @@ fn swept_vectors(s: &[u8], scene: Scene, want_f: u16, want_g: u16, notes: &[u8])
 }
 
 // A scene and two wanted masks: taken, with the scene and a vector for each object, or refused with one number and one place.
-pub fn answer(s: &[u8], want_f: u16, want_g: u16) -> Answer
+pub fn answer(s: &[u8], want_f: u16, want_g: u16) -> SceneAnswer
     ensures { λ r. ⌜ r ≡ answerOf (now (s .entry)) «want_f» «want_g» ⌝ }
 {
     match scene_reading::read_scene(s) {
-        CheckedScene::Refused(r) => Answer::Refused(r),
+        CheckedScene::Refused(r) => SceneAnswer::Refused(r),
         CheckedScene::Taken(scene) => match check_verdict::types_fault(scene) {
-            Fault::At(place) => Answer::Refused(Refusal { number: 8, place }),
+            Fault::At(place) => SceneAnswer::Refused(Refusal { number: 8, place }),
             Fault::Nothing => {
                 if flags_masks::any_stray(scene, want_f, want_g) {
-                    return Answer::Refused(Refusal {
+                    return SceneAnswer::Refused(Refusal {
                         number: 9,
                         place: 0,
                     });
                 }
                 let mut notes = [0u8; 2048];
                 match check_verdict::noted_verdict(s, scene, &mut notes) {
-                    Verdict::Sound => Answer::Taken {
+                    Verdict::Sound => SceneAnswer::Taken {
                         scene,
                         vectors: swept_vectors(s, scene, want_f, want_g, &notes),
                     },
-                    Verdict::Refused(r) => Answer::Refused(r),
+                    Verdict::Refused(r) => SceneAnswer::Refused(r),
                 }
             }
         },
     }
 }
 
-// The same without the scene.
-pub fn vectors(s: &[u8], want_f: u16, want_g: u16) -> Explored
-    ensures { λ r. ⌜ r ≡ vectorsOf (now (s .entry)) «want_f» «want_g» ⌝ }
+// The same without the scene; no flag is wrong, and what the verdict says in points.
+pub fn vectors(s: &[u8], want_f: u16, want_g: u16) -> VectorsAnswer
+    ensures { λ r. ⌜ (r ≡ vectorsOf (now (s .entry)) «want_f» «want_g»)
+        × NoFlagWrong (now (s .entry)) «want_f» «want_g» (vectorsValues r .f) (vectorsValues r .g)
+        × CheckedMeans (now (s .entry)) (checkVectors (now (s .entry)) «want_f» «want_g») ⌝ }
 {
     match answer(s, want_f, want_g) {
-        Answer::Refused(r) => Explored::Refused(r),
-        Answer::Taken { scene: _, vectors } => Explored::Taken(vectors),
+        SceneAnswer::Refused(r) => VectorsAnswer::Refused(r),
+        SceneAnswer::Taken { scene: _, vectors } => VectorsAnswer::Taken(vectors),
     }
 }

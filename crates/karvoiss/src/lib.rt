@@ -1,11 +1,16 @@
 // What C programs call: every function is total, keeps no state and allocates nothing. include/karvoiss.h is for those who call them.
-use flags_vectors::Explored;
+use cells::CellsAnswer;
+use flags_vectors::VectorsAnswer;
 use flags_vectors::question;
 ghost use mathlib.Core.Path.{_≡_};
-ghost use Rattle.flags_vectors.specs.Vectors.{vectorsOf};
-ghost use Rattle.cells.specs.Explored.{exploredOf, NoCellWrong};
+ghost use Rattle.check_verdict.specs.SharedPoints.{CheckedMeans};
+ghost use Rattle.flags_vectors.specs.Vectors.{checkVectors, vectorsOf, NoFlagWrong};
+ghost use Rattle.scene.specs.Conditions.{checkScene};
+ghost use Rattle.cells.specs.Explored.{cellsAnswerOf, NoCellWrong};
+ghost use lib.ListN.{length};
+ghost use Rattle.overlap.specs.Rules.{checkList};
 ghost use Rattle.overlap.specs.Overlap.{overlapOf, bufferAfter};
-ghost use Rattle.karvoiss.specs.Answer.{vectorsAnswer, cellsAnswer, cellsOf, overlapAnswer};
+ghost use Rattle.karvoiss.specs.Answer.{vectorsForC, cellsForC, overlapForC};
 
 #[repr(C)]
 pub struct KarvoissVectors {
@@ -15,19 +20,21 @@ pub struct KarvoissVectors {
     pub g: u16,
 }
 
-// The vectors question.
+// The vectors question: for every byte string and every two masks the whole answer; no flag is wrong; and what the verdict says in points.
 #[no_mangle]
 pub extern "C" fn karvoiss_vectors(scene: &[u8], want_f: u16, want_g: u16) -> KarvoissVectors
-    ensures { λ r. ⌜ r ≡ vectorsAnswer (vectorsOf (now (scene .entry)) «want_f» «want_g») ⌝ }
+    ensures { λ r. ⌜ (r ≡ vectorsForC (vectorsOf (now (scene .entry)) «want_f» «want_g»))
+        × NoFlagWrong (now (scene .entry)) «want_f» «want_g» (r .f) (r .g)
+        × CheckedMeans (now (scene .entry)) (checkVectors (now (scene .entry)) «want_f» «want_g») ⌝ }
 {
     match question::vectors(scene, want_f, want_g) {
-        Explored::Taken(v) => KarvoissVectors {
+        VectorsAnswer::Taken(v) => KarvoissVectors {
             number: 0,
             place: 0,
             f: v.f,
             g: v.g,
         },
-        Explored::Refused(r) => KarvoissVectors {
+        VectorsAnswer::Refused(r) => KarvoissVectors {
             number: r.number as u32,
             place: r.place,
             f: 0,
@@ -36,31 +43,36 @@ pub extern "C" fn karvoiss_vectors(scene: &[u8], want_f: u16, want_g: u16) -> Ka
     }
 }
 
-// The three rows lie as C's `bool cell[3][3]` does.
 #[repr(C)]
 pub struct KarvoissCells {
     pub number: u32,
     pub place: usize,
-    pub interior: [bool; 3],
-    pub boundary: [bool; 3],
-    pub exterior: [bool; 3],
+    pub cell: [[bool; 3]; 3],
 }
 
-// The cells question.
+// The answer as C gets it. The literal is proved by hand, so it stands in a function of its own.
+fn handed(number: u32, place: usize, cell: [[bool; 3]; 3]) -> KarvoissCells
+    ensures { λ r. ⌜ r ≡ record { number = number; place = place; cell = cell } ⌝ }
+{
+    KarvoissCells {
+        number,
+        place,
+        cell,
+    }
+}
+
+// The cells question: for every byte string the whole answer; no cell is wrong; and what the verdict says in points.
 #[no_mangle]
 pub extern "C" fn karvoiss_cells(scene: &[u8]) -> KarvoissCells
-    ensures { λ r. ⌜ (r ≡ cellsAnswer (exploredOf (now (scene .entry)))) × NoCellWrong (now (scene .entry)) (cellsOf r) ⌝ }
+    ensures { λ r. ⌜ (r ≡ cellsForC (cellsAnswerOf (now (scene .entry))))
+        × NoCellWrong (now (scene .entry)) (r .cell)
+        × CheckedMeans (now (scene .entry)) (checkScene (now (scene .entry))) ⌝ }
 {
     let answer = cells::question::explore(scene);
-    let interior = answer.interior.c;
-    let boundary = answer.boundary.c;
-    let exterior = answer.exterior.c;
-    KarvoissCells {
-        number: answer.number as u32,
-        place: answer.place,
-        interior,
-        boundary,
-        exterior,
+    let matrix = cells::question::cells(answer);
+    match answer {
+        CellsAnswer::Taken(_) => handed(0, 0, matrix),
+        CellsAnswer::Refused(r) => handed(r.number as u32, r.place, matrix),
     }
 }
 
@@ -74,8 +86,9 @@ pub struct KarvoissOverlap {
 // The overlap list question, into a lent buffer.
 #[no_mangle]
 pub extern "C" fn karvoiss_overlap(scene: &[u8], list: &mut [u8]) -> KarvoissOverlap
-    ensures { λ r. ⌜ (r ≡ overlapAnswer (overlapOf (now (scene .entry)) (now (list .entry))))
-        × (now (list .exit) ≡ bufferAfter (now (scene .entry)) (now (list .entry))) ⌝ }
+    ensures { λ r. ⌜ (r ≡ overlapForC (overlapOf (now (scene .entry)) (now (list .entry))))
+        × (now (list .exit) ≡ bufferAfter (now (scene .entry)) (now (list .entry)))
+        × CheckedMeans (now (scene .entry)) (checkList (now (scene .entry)) (length (now (list .entry)))) ⌝ }
 {
     let answer = overlap::overlap_list(scene, list);
     KarvoissOverlap {

@@ -18,7 +18,9 @@ use Rattle.scene.proofs.Taken.{never-taken, same-scene}
 use Rattle.scene.proofs.Given.{NoFault, checked-scene}
 use Rattle.check_verdict.specs.declared.Verdict.the-variants.{Sound, Refused}
 use Rattle.check_verdict.specs.Refusals.{geometryVerdict}
+use Rattle.check_verdict.specs.SharedPoints.{CheckedMeans}
 use Rattle.check_verdict.proofs.Verdicts.{check-refused, check-read}
+use Rattle.check_verdict.proofs.CheckedMeans.{checked-means-by}
 use Rattle.check_verdict.proofs.Laws.{sound-scene}
 use Rattle.overlap.specs.Walked.{TwoRegions}
 use Rattle.sweep_laws.specs.Noted.{Noted}
@@ -109,3 +111,9 @@ listable s room sc e = record {
 
     regions : T (isRegion (sc .f .shape)) × T (isRegion (sc .g .shape))
     regions = both-regions s sc (faults .1 .1 .1 .1 .1 .1 .1 .0)
+
+-- ---- the check in points
+
+pub list-means : (s : List ℕ) (room : ℕ) → CheckedMeans s (checkList s room)
+unfolding checkList
+list-means s room = checked-means-by [] (listRules room) s (λ _. tt) (λ _. (omega arith, (omega arith, tt)))

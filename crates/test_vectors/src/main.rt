@@ -1,6 +1,6 @@
 // Asks for the vectors of the scenes of standard input, each `label: bytes;` on lines of its own, with the bytes as document 01 writes them, and writes
 // both vectors of each, or `no`, number and place. All flags are wanted, or those of two masks, F's and G's, before the bytes: `label: [4,0] bytes;`.
-use flags_vectors::Explored;
+use flags_vectors::VectorsAnswer;
 use flags_vectors::question;
 use libc::STDIN_FILENO;
 use libc::STDOUT_FILENO;
@@ -20,8 +20,8 @@ fn answer(label: &[u8], want_f: u16, want_g: u16, text: &[u8]) {
     let mut space = [0u8; 16384];
     let n = test_notation::write(&mut space, text);
     match question::vectors(&space[..n], want_f, want_g) {
-        Explored::Taken(v) => report(label, b": ", v.f as u64, v.g as u64),
-        Explored::Refused(r) => report(label, b": no ", r.number as u64, r.place as u64),
+        VectorsAnswer::Taken(v) => report(label, b": ", v.f as u64, v.g as u64),
+        VectorsAnswer::Refused(r) => report(label, b": no ", r.number as u64, r.place as u64),
     }
 }
 

@@ -12,10 +12,9 @@ use Rattle.scene.specs.Conditions.{segments, inOrder, outOfOrder, partner, unpa
 use Rattle.flags.specs.Flags.{hasBit}
 use Rattle.flags_masks.specs.Wanted.{wanted, vectorOfF, vectorOfG}
 use Rattle.flags.specs.Elements.{pointsOf, edges}
-use Rattle.cells.specs.declared.Explored.{Explored}
 use Rattle.cells_matrix.specs.Matrix.{matrixOf}
-use Rattle.cells.specs.Explored.{exploredOf}
-use Rattle.answer_line.specs.Line.{digits, decimal, okLine, noLine, lineOf}
+use Rattle.cells.specs.Explored.{cellsAnswerOf}
+use Rattle.answer_line.specs.Line.{digits, decimal, okLine, noLine, lineOf, lineOfScene}
 
 -- ---- records, as document 01 writes them
 
@@ -97,10 +96,7 @@ table =
 
 -- ---- the statement
 
-pub lineFor : Explored → List ℕ
-lineFor e = lineOf (e .number) (e .place) (e .f) (e .g) (e .v) (e .w) (e .interior .c ∷ e .boundary .c ∷ e .exterior .c ∷ [])
-
 -- every scene of the table gives its line
-pub twelve-scenes : map (λ r. lineFor (exploredOf (r .scene))) table ≡ map (λ r. r .answer) table
-unfolding word P L R points line region box square text _gives_ table lineFor exploredOf matrixOf hasBit wanted vectorOfF vectorOfG pointsOf edges digits decimal okLine noLine lineOf odd within before samePoint sameSegment ordered side dominating farEnd comesBefore sideAt isAt notBefore notAfter on isEnd countsBelow countsBelowLeft onSome inside interiorAbove isBoundary endsAt opposite cross endWithin touch signed coordinate kindOf shapeOf recordAt elementsFrom readObject readScene segments inOrder outOfOrder partner unpaired touching touchingItself oddEnd wrongIa checkSceneBy checkScene
+pub twelve-scenes : map (λ r. lineOfScene (r .scene)) table ≡ map (λ r. r .answer) table
+unfolding word P L R points line region box square text _gives_ table lineOfScene cellsAnswerOf matrixOf hasBit wanted vectorOfF vectorOfG pointsOf edges digits decimal okLine noLine lineOf odd within before samePoint sameSegment ordered side dominating farEnd comesBefore sideAt isAt notBefore notAfter on isEnd countsBelow countsBelowLeft onSome inside interiorAbove isBoundary endsAt opposite cross endWithin touch signed coordinate kindOf shapeOf recordAt elementsFrom readObject readScene segments inOrder outOfOrder partner unpaired touching touchingItself oddEnd wrongIa checkSceneBy checkScene
 twelve-scenes = refl

@@ -6,12 +6,14 @@ use lib.ListN.{length}
 use denote.Ref.{now}
 use Rattle.answer_line.specs.Line.{decimal, noLine}
 use Rattle.answer_line.proofs.Written.{followed}
-use Rattle.answer_line.proofs.Line.{no-length}
+use Rattle.answer_line.proofs.Line.{no-length, no-limit}
 use Rattle.answer_line.proofs.write_no.Statement.{statement}
 use Rattle.answer_line.proofs.write_no.Tie as tie
 
 room : (c : tie.Start) → length (decimal (c .args .number)) + length (decimal (c .args .place)) + 5 ≤ length (now (c .args .out))
-room c = omega (arith, no-length (c .args .number) (c .args .place), c .pre)
+room c =
+    omega
+    (arith, no-length (c .args .number) (c .args .place), no-limit (c .args .number) (c .args .place) (c .fits .number .fits) (c .fits .place .fits), c .pre)
 
 slice-aggregate-write-bytes : tie.Need-slice-aggregate-write-bytes
 slice-aggregate-write-bytes c = search needs

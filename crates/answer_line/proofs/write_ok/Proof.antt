@@ -1,12 +1,14 @@
 -- `answer_line::write_ok` meets its contract.
 use borrow.Author.Needs.{needs}
 use Prim.Native.Nat.{_+_, _≤_}
+use mathlib.Core.Path.{_≡_}
 use native.Mathlib.Omega.{arith}
 use lib.ListN.{length}
 use denote.Ref.{now}
 use Rattle.answer_line.specs.Line.{decimal, cellBytes, okLine}
 use Rattle.answer_line.proofs.Written.{followed}
-use Rattle.answer_line.proofs.Line.{ok-length}
+use Rattle.answer_line.proofs.Cells.{nine}
+use Rattle.answer_line.proofs.Line.{ok-length, ok-limit}
 use Rattle.answer_line.proofs.write_ok.Statement.{statement}
 use Rattle.answer_line.proofs.write_ok.Tie as tie
 
@@ -14,7 +16,16 @@ room : (c : tie.Start)
     → length (decimal (c .args .f)) + length (decimal (c .args .g)) + length (decimal (c .args .v)) + length (decimal (c .args .w))
     + length (cellBytes (c .args .cells)) + 8
     ≤ length (now (c .args .out))
-room c = omega (arith, ok-length (c .args .f) (c .args .g) (c .args .v) (c .args .w) (c .args .cells), c .pre)
+room c =
+    omega (
+      arith,
+      ok-length (c .args .f) (c .args .g) (c .args .v) (c .args .w) (c .args .cells),
+      ok-limit (c .args .f) (c .args .g) (c .args .v) (c .args .w) (c .args .cells) (c .fits .f .fits) (c .fits .g .fits) (c .fits .v .fits) (c .fits .w .fits) whole,
+      c .pre,
+    )
+  where
+    whole : length (cellBytes (c .args .cells)) ≡ 9
+    whole = nine (c .args .cells) _ (c .good .1 .1 .1 .1 .1 .0)
 
 -- back to the start, from after each call
 abbrev start-1 : tie.After-slice-known2 → tie.Start

@@ -12,6 +12,7 @@ use Rattle.scene.proofs.Taken.{taken-alone}
 use Rattle.check_verdict.specs.declared.Verdict.the-variants.{Sound, Refused}
 use Rattle.check_verdict.specs.Refusals.{objectVerdict}
 use Rattle.check_verdict.proofs.Verdicts.{object-refused, object-read}
+use Rattle.check_verdict.proofs.CheckedMeans.{object-with-meaning}
 use Rattle.check_verdict.proofs.check_object.Statement.{statement}
 use Rattle.check_verdict.proofs.check_object.Tie as tie
 
@@ -55,19 +56,20 @@ enum-told c = search needs
 returns : tie.Need-returns
 returns c =
     let d = c .before .before .before in
-    sym (object-refused (d .before .before .args .s .now) (c .before .r .given .0 .0) (sym (d .read-alone .ensures) ∙ c .before .r .given .1))
+    let s = d .before .before .args .s .now in
+    object-with-meaning s (sym (object-refused s (c .before .r .given .0 .0) (sym (d .read-alone .ensures) ∙ c .before .r .given .1)))
 
 returns-2 : tie.Need-returns-2
 returns-2 c =
     let v = c .before .before .before in
     let d = v .before in
-    at-fault (bytes d) (layout d) (read d) (c .before .r2 .given .0 .0) (sym (v .object-verdict .ensures) ∙ c .before .r2 .given .1)
+    object-with-meaning (bytes d) (at-fault (bytes d) (layout d) (read d) (c .before .r2 .given .0 .0) (sym (v .object-verdict .ensures) ∙ c .before .r2 .given .1))
 
 returns-3 : tie.Need-returns-3
 returns-3 c =
     let v = c .before .before in
     let d = v .before in
-    taken (bytes d) (layout d) (read d) (sym (v .object-verdict .ensures) ∙ c .enum-told .given .1)
+    object-with-meaning (bytes d) (taken (bytes d) (layout d) (read d) (sym (v .object-verdict .ensures) ∙ c .enum-told .given .1))
 
 pub check-object-spec : {M : Type 1} → statement M
 check-object-spec =

@@ -9,8 +9,8 @@ use Rattle.answer_line.proofs.Written.{lent-within}
 use Rattle.explore.proofs.main.Statement.{statement}
 use Rattle.explore.proofs.main.Tie as tie
 
-written : (c : tie.After-write-line) → c .write-line .result ≤ length (c .write-line .last .0)
-written c = omega (arith, lent-within (c .write-line .ensures .0), c .write-line .kept .0)
+written : (c : tie.After-write-line) → c .write-line .result ≤ length (c .write-line .last .1 .0)
+written c = omega (arith, lent-within (c .write-line .ensures .0), c .write-line .kept .1 .0)
 
 slice-aggregate-read-full : tie.Need-slice-aggregate-read-full
 slice-aggregate-read-full c = search needs
@@ -21,14 +21,11 @@ read-full-requires c κs = search needs
 array-share-prefix-input : tie.Need-array-share-prefix-input
 array-share-prefix-input c = search needs
 
-slice-aggregate-explore : tie.Need-slice-aggregate-explore
-slice-aggregate-explore c = search needs
-
-explore-requires : tie.Need-explore-requires
-explore-requires c κs = search needs
-
 slice-aggregate-write-line : tie.Need-slice-aggregate-write-line
 slice-aggregate-write-line c = search needs
+
+slice-aggregate-write-line-2 : tie.Need-slice-aggregate-write-line-2
+slice-aggregate-write-line-2 c = search needs
 
 write-line-requires : tie.Need-write-line-requires
 write-line-requires c κs = search needs
@@ -52,9 +49,8 @@ main-spec =
     slice-aggregate-read-full
     read-full-requires
     array-share-prefix-input
-    slice-aggregate-explore
-    explore-requires
     slice-aggregate-write-line
+    slice-aggregate-write-line-2
     write-line-requires
     array-share-prefix-line
     slice-aggregate-write-all

@@ -9,6 +9,7 @@ use Rattle.scene.specs.declared.CheckedScene.{CheckedScene}
 use Rattle.overlap.specs.Rules.{checkList}
 use Rattle.overlap.specs.declared.Overlap.{Overlap}
 use Rattle.overlap.specs.Overlap.{answer, lentAfter}
+use Rattle.overlap.proofs.Checked.{list-means}
 use Rattle.overlap.proofs.overlap_list.Statement.{statement}
 use Rattle.overlap.proofs.overlap_list.Tie as tie
 
@@ -53,7 +54,7 @@ returns c =
     let k = c .before .before .before .before in
     let a = k .before .before .before .before .args in
     let e = sym (k .check-list .ensures .1) ∙ c .before .r .given .1 in
-    (sym (ap (answer (a .s .now)) e), sym (ap (λ (o : CheckedScene). lentAfter (a .s .now) o (a .list .now)) e))
+    (sym (ap (answer (a .s .now)) e), sym (ap (λ (o : CheckedScene). lentAfter (a .s .now) o (a .list .now)) e), list-means (a .s .now) _)
 
 same-length : tie.Need-same-length
 same-length c = search needs
@@ -66,6 +67,7 @@ returns-2 c =
     let a = z d .args in (
       ap listed (w .write .ensures .0) ∙ sym (ap (answer (a .s .now)) (taken d)),
       w .write .ensures .1 ∙ sym (ap (λ (o : CheckedScene). lentAfter (a .s .now) o (a .list .now)) (taken d)),
+      list-means (a .s .now) _,
     )
 
 pub overlap-list-spec : {M : Type 1} → statement M

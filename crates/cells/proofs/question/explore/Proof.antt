@@ -1,7 +1,9 @@
--- `cells::question::explore` meets its contract: each case of the answer, and what it says of the cells.
+-- `cells::question::explore` meets its contract: each case of the answer, and what it says.
+use mathlib.Core.Path.{refl, ap}
 use borrow.Author.Needs.{needs}
 use Rattle.scene.specs.declared.CheckedScene.{CheckedScene}
 use Rattle.flags_vectors.proofs.Answered.{all-refused, all-taken}
+use Rattle.cells.specs.declared.CellsAnswer.{CellsAnswer}
 use Rattle.cells.proofs.Taken.{as-explored}
 use Rattle.cells.proofs.question.explore.Statement.{statement}
 use Rattle.cells.proofs.question.explore.Tie as tie
@@ -12,9 +14,6 @@ answer-requires c κs = search needs
 enum-known-r : tie.Need-enum-known-r
 enum-known-r c = search needs
 
-refused-requires : tie.Need-refused-requires
-refused-requires c κs = search needs
-
 enum-known-scene : tie.Need-enum-known-scene
 enum-known-scene c = search needs
 
@@ -23,11 +22,11 @@ taken-requires c κs = search needs
 
 returns : tie.Need-returns
 returns c =
-    let k = c .before .before in
+    let k = c .before in
     let d = k .before .before in
     let s = d .before .before .args .s .now in
     let r = k .r .given .0 .0 in
-    as-explored s (CheckedScene.Refused r) (all-refused s (d .answer .ensures) r (k .r .given .1)) (c .refused .ensures)
+    as-explored s (CheckedScene.Refused r) (all-refused s (d .answer .ensures) r (k .r .given .1)) refl
 
 returns-2 : tie.Need-returns-2
 returns-2 c =
@@ -36,7 +35,7 @@ returns-2 c =
     let s = d .before .before .args .s .now in
     let sc = k .scene .given .0 .0 in
     let w = all-taken s (d .answer .ensures) sc (k .scene .given .0 .1 .0) (k .scene .given .1) in
-    as-explored s (CheckedScene.Taken sc) (w .0) (c .taken .ensures s (w .1))
+    as-explored s (CheckedScene.Taken sc) (w .0) (ap CellsAnswer.Taken (c .taken .ensures s (w .1)))
 
 pub explore-spec : {M : Type 1} → statement M
 explore-spec =
@@ -44,7 +43,6 @@ explore-spec =
     (tie.spec
     answer-requires
     enum-known-r
-    refused-requires
     enum-known-scene
     taken-requires
     returns

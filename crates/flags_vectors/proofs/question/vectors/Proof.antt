@@ -3,14 +3,17 @@ use Prim.Native.Nat.{ℕ}
 use mathlib.Core.Path.{_≡_, sym, ap, _∙_}
 use mathlib.Core.List.{List}
 use borrow.Author.Needs.{needs}
-use Rattle.flags_vectors.specs.declared.Answer.{Answer}
-use Rattle.flags_vectors.specs.Vectors.{explored, answerOf, vectorsOf}
+use Rattle.flags_vectors.specs.declared.SceneAnswer.{SceneAnswer}
+use Rattle.check_verdict.specs.SharedPoints.{CheckedMeans}
+use Rattle.flags_vectors.specs.Vectors.{checkVectors, vectorsAlone, answerOf, vectorsOf, vectorsValues, NoFlagWrong}
+use Rattle.flags_vectors.proofs.NoFlagWrong.{with-meaning}
 use Rattle.flags_vectors.proofs.question.vectors.Statement.{statement}
 use Rattle.flags_vectors.proofs.question.vectors.Tie as tie
 
-shown-as : (s : List ℕ) (f g : ℕ) {a b : Answer} → a ≡ answerOf s f g → a ≡ b → explored b ≡ vectorsOf s f g
+shown-as : (s : List ℕ) (f g : ℕ) {a b : SceneAnswer} → a ≡ answerOf s f g → a ≡ b
+    → (vectorsAlone b ≡ vectorsOf s f g) × NoFlagWrong s f g (vectorsValues (vectorsAlone b) .f) (vectorsValues (vectorsAlone b) .g) × CheckedMeans s (checkVectors s f g)
 unfolding vectorsOf
-shown-as s f g e q = ap explored (sym q ∙ e)
+shown-as s f g e q = with-meaning s f g (ap vectorsAlone (sym q ∙ e))
 
 answer-requires : tie.Need-answer-requires
 answer-requires c κs = search needs

@@ -1,0 +1,2 @@
+-- A struct's literal with a field that is an array of arrays.
+pub mod Rows
