@@ -28,8 +28,8 @@ Flags = Meetings → Classes → List Bool
 abbrev ReadOff : Flags → List Bool → ℕ → Type 0
 ReadOff flags these k =
     (m n : Meetings) (c d : Classes)
-    → (getD these k false ≡ true) × (getD (flags m c) k false ≡ getD (flags n c) k false)
-    ⊎ (getD these k false ≡ false) × (getD (flags m c) k false ≡ getD (flags m d) k false)
+    → ((getD these k false ≡ true) × (getD (flags m c) k false ≡ getD (flags n c) k false))
+    ⊎ ((getD these k false ≡ false) × (getD (flags m c) k false ≡ getD (flags m d) k false))
 
 read-off-f : (f g : Shape) (k : ℕ) → ReadOff (flagsOfFBy f g) (offClassesF f g) k
 read-off-f Points Points k m n c d = inr (refl, refl)
@@ -92,8 +92,8 @@ module _ (flags : Flags) (these : List Bool) (read-off : (k : ℕ) → ReadOff f
   same-flag : (k : ℕ) → hasBit want k ≡ true → getD (flags n d) k false ≡ getD (flags m c) k false
   same-flag k w = go (read-off k n m d c)
     where
-      go : (getD these k false ≡ true) × (getD (flags n d) k false ≡ getD (flags m d) k false)
-          ⊎ (getD these k false ≡ false) × (getD (flags n d) k false ≡ getD (flags n c) k false)
+      go : ((getD these k false ≡ true) × (getD (flags n d) k false ≡ getD (flags m d) k false))
+          ⊎ ((getD these k false ≡ false) × (getD (flags n d) k false ≡ getD (flags n c) k false))
           → getD (flags n d) k false ≡ getD (flags m c) k false
       go (inl (one, e)) = e ∙ ap (λ (c : Classes). getD (flags m c) k false) (same-classes (wants-some these want k w one))
       go (inr (none, e)) = e ∙ ap (λ (m : Meetings). getD (flags m c) k false) (same-meetings (wants-other these want k w none))
