@@ -32,7 +32,9 @@ fn wanted_meetings(s: &[u8], scene: Scene, masks: FlagMasks, notes: &[u8]) -> Me
 {
     let f = scene.f;
     let g = scene.g;
-    if walks::reads_meetings(f.shape, g.shape, masks.f, masks.g) {
+    let of_f = f.shape;
+    let of_g = g.shape;
+    if walks::reads_meetings(of_f, of_g, masks.f, masks.g) {
         flags_meetings::meetings_of(s, scene, notes)
     } else {
         flags_meetings::named(0)
@@ -47,7 +49,9 @@ fn wanted_classes(s: &[u8], scene: Scene, masks: FlagMasks, notes: &[u8]) -> Cla
 {
     let f = scene.f;
     let g = scene.g;
-    if walks::reads_classes(f.shape, g.shape, masks.f, masks.g) {
+    let of_f = f.shape;
+    let of_g = g.shape;
+    if walks::reads_classes(of_f, of_g, masks.f, masks.g) {
         flags_classes::classes_of(s, scene, notes)
     } else {
         ClassesOfBoth {
@@ -85,7 +89,9 @@ pub fn answer(s: &[u8], wanted: Wanted) -> SceneAnswer
             Fault::Nothing => {
                 let f = scene.f;
                 let g = scene.g;
-                let masks = flags_masks::masks_for(wanted, f.shape, g.shape);
+                let of_f = f.shape;
+                let of_g = g.shape;
+                let masks = flags_masks::masks_for(wanted, of_f, of_g);
                 if flags_masks::any_stray(scene, masks.f, masks.g) {
                     return SceneAnswer::Refused(Refusal {
                         number: 9,
