@@ -2,7 +2,7 @@
 -- wanted and its sentence holds; and what one mask wants is a part of the vector with every flag.
 use Prim.Native.Nat.{ℕ, _-_, _^_, _≤_}
 use native.Mathlib.Nat.{mod-eq-of-lt}
-use mathlib.Core.Path.{_≡_, refl, sym, ap, _∙_}
+use mathlib.Core.Path.{_≡_, refl, sym, ap, ap₂, _∙_}
 use mathlib.Core.Logic.{_⊎_}
 use mathlib.Core.Bool.{Bool, false, not}
 use mathlib.Core.List.{List}
@@ -14,7 +14,9 @@ use Rattle.whole.specs.Decides.{Decides}
 use Rattle.whole.proofs.Deciding.{test-is, retest, by-equality, same-as, not-is, and-is, or-is}
 use Rattle.scene.specs.declared.Shape.{Shape}
 use Rattle.scene.specs.declared.Shape.the-variants.{Points, Line, Region}
+use Rattle.scene.specs.declared.Layout.{Layout}
 use Rattle.scene.specs.Read.{shapeNumber}
+use Rattle.flags.specs.Elements.{elementsAs, elementsOf}
 use Rattle.flags.specs.Flags.{Elements, points, line, region, flagsOfF, flagsOfG, pack, hasBit}
 use Rattle.flags.specs.Sentences.{sentencesOfF, sentencesOfG, sentence}
 use Rattle.flags_masks.specs.Wanted.{maskOfF, maskOfG, only, hasStray, anyStray, Stray, typeOf, vectorOfF, vectorOfG}
@@ -81,22 +83,52 @@ module _ (F G : Elements) where
   vector-G want k = only-bit want (pack (flagsOfG F G)) k (bit-G F G k)
 
   -- all flags wanted
-  pub vector-all-F : vectorOfF F G allF ≡ pack (flagsOfF F G)
+  vector-all-F : vectorOfF F G allF ≡ pack (flagsOfF F G)
   unfolding vectorOfF
   vector-all-F = whole allF (flagsOfF F G) (masks F G .0)
 
-  pub vector-all-G : vectorOfG F G allG ≡ pack (flagsOfG F G)
+  vector-all-G : vectorOfG F G allG ≡ pack (flagsOfG F G)
   unfolding vectorOfG
   vector-all-G = whole allG (flagsOfG F G) (masks F G .1)
 
-  -- the flags of one mask are those of all flags wanted, masked
-  pub masked-F : (want : ℕ) → vectorOfF F G want ≡ only want (vectorOfF F G allF)
-  unfolding vectorOfF
-  masked-F want = ap (only want) (sym vector-all-F)
+-- ---- the same of the objects of a scene, whose types are told by their layouts
 
-  pub masked-G : (want : ℕ) → vectorOfG F G want ≡ only want (vectorOfG F G allG)
+type-of : (s : List ℕ) (l : Layout) → typeOf (elementsOf s l) ≡ shapeNumber (l .shape)
+type-of s l = go (l .shape)
+  where
+    go : (k : Shape) → typeOf (elementsAs s l k) ≡ shapeNumber k
+    go Points = refl
+    go Line = refl
+    go Region = refl
+
+module _ (s : List ℕ) (f g : Layout) where
+  abbrev of-f : Elements
+  of-f = elementsOf s f
+
+  abbrev of-g : Elements
+  of-g = elementsOf s g
+
+  all-f : maskOfF (typeOf of-f) (typeOf of-g) ≡ maskOfF (shapeNumber (f .shape)) (shapeNumber (g .shape))
+  all-f = ap₂ maskOfF (type-of s f) (type-of s g)
+
+  all-g : maskOfG (typeOf of-f) (typeOf of-g) ≡ maskOfG (shapeNumber (f .shape)) (shapeNumber (g .shape))
+  all-g = ap₂ maskOfG (type-of s f) (type-of s g)
+
+  -- all flags wanted
+  pub every-flag-f : vectorOfF of-f of-g (maskOfF (shapeNumber (f .shape)) (shapeNumber (g .shape))) ≡ pack (flagsOfF of-f of-g)
+  every-flag-f = ap (vectorOfF of-f of-g) (sym all-f) ∙ vector-all-F of-f of-g
+
+  pub every-flag-g : vectorOfG of-f of-g (maskOfG (shapeNumber (f .shape)) (shapeNumber (g .shape))) ≡ pack (flagsOfG of-f of-g)
+  every-flag-g = ap (vectorOfG of-f of-g) (sym all-g) ∙ vector-all-G of-f of-g
+
+  -- the flags of one mask are those of all flags wanted, masked
+  pub masked-f : (want : ℕ) → vectorOfF of-f of-g want ≡ only want (vectorOfF of-f of-g (maskOfF (shapeNumber (f .shape)) (shapeNumber (g .shape))))
+  unfolding vectorOfF
+  masked-f want = ap (only want) (sym every-flag-f)
+
+  pub masked-g : (want : ℕ) → vectorOfG of-f of-g want ≡ only want (vectorOfG of-f of-g (maskOfG (shapeNumber (f .shape)) (shapeNumber (g .shape))))
   unfolding vectorOfG
-  masked-G want = ap (only want) (sym vector-all-G)
+  masked-g want = ap (only want) (sym every-flag-g)
 
 -- ---- nothing is stray where all flags are wanted
 

@@ -1,12 +1,11 @@
 -- Each flag is read off one of the two walks: a flag of the classes is the same whatever the meetings, every other whatever the classes. So a walk that no wanted
 -- flag is read off may be left out, and the wanted flags are what they are with it.
 use Prim.Native.Nat.{ℕ, zero, suc}
-use mathlib.Core.Path.{_≡_, refl, sym, ap, ap₂, _∙_, subst}
+use mathlib.Core.Path.{_≡_, refl, sym, ap, ap₂, _∙_}
 use mathlib.Core.Logic.{_⊎_, inl, inr}
 use mathlib.Core.Bool.{Bool, true, false, not, _&&_, true≢false}
 use mathlib.Core.List.{List}
 use lib.Bits.{bitAnd}
-use lib.Dec.{T, eqb}
 use lib.ListN.{getD}
 use borrow.Author.Tests.{ne-eqb}
 use Rattle.scene.specs.declared.Shape.{Shape}

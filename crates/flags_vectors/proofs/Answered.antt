@@ -1,19 +1,17 @@
 -- The answer of the vectors question by the verdicts that lead to it; and what a scene that is taken gives the walks.
 use Prim.Native.Nat.{ℕ}
 use native.Mathlib.Omega.{arith}
-use mathlib.Core.Path.{_≡_, refl, sym, ap, ap₂, _∙_}
+use mathlib.Core.Path.{_≡_, refl, sym, ap, _∙_}
 use mathlib.Core.Bool.{true, false}
 use mathlib.Core.List.{List, [], _∷_}
 use lib.Dec.{T}
 use Rattle.whole.proofs.Logic.{is-true, or-left, or-right}
 use Rattle.scene.specs.declared.Shape.{Shape}
-use Rattle.scene.specs.declared.Shape.the-variants.{Points, Line, Region}
-use Rattle.scene.specs.declared.Layout.{Layout}
 use Rattle.scene.specs.declared.Scene.{Scene}
 use Rattle.scene.specs.declared.Refusal.{Refusal}
 use Rattle.scene.specs.declared.Fault.the-variants.{At, Nothing}
 use Rattle.scene.specs.declared.CheckedScene.{CheckedScene}
-use Rattle.scene.specs.Read.{shapeNumber, readScene, IsScene}
+use Rattle.scene.specs.Read.{readScene, IsScene}
 use Rattle.scene.specs.Conditions.{rule, sceneRules, typesDescend, checkSceneBy, checkScene}
 use Rattle.check_verdict.specs.declared.Verdict.the-variants.{Sound, Refused}
 use Rattle.check_verdict.specs.Refusals.{geometryVerdict}
@@ -35,7 +33,6 @@ use Rattle.flags_masks.specs.declared.FlagMasks.{FlagMasks}
 use Rattle.flags_masks.specs.declared.Wanted.{Wanted}
 use Rattle.flags_masks.specs.Wanted.{masksFor, only, vectorOfF, vectorOfG}
 use Rattle.flags_masks.proofs.Masks.{none-stray}
-use Rattle.flags.specs.Elements.{elementsAs, elementsOf}
 use Rattle.flags_vectors.specs.Vectors.{sceneVectors, masksIn, strayIn, strayWanted, vectorsRules, checkVectors, answered, answerOf}
 
 -- ---- a scene that is taken

@@ -7,7 +7,7 @@ use mathlib.Core.Bool.{false}
 use mathlib.Core.List.{List}
 use borrow.Author.Needs.{needs}
 use Rattle.scene.specs.Conditions.{typesDescend}
-use Rattle.scene.specs.Read.{shapeNumber, IsScene}
+use Rattle.scene.specs.Read.{IsScene}
 use Rattle.scene.specs.declared.Fault.the-variants.{Nothing}
 use Rattle.scene.specs.declared.Scene.{Scene}
 use Rattle.check_verdict.specs.Refusals.{geometryVerdict}

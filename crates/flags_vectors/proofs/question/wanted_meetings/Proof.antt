@@ -1,7 +1,6 @@
 -- `flags_vectors::question::wanted_meetings` meets its contract: left out only where no wanted flag is read off the meetings.
-use mathlib.Core.Path.{sym, subst, _∙_}
+use mathlib.Core.Path.{sym, _∙_}
 use mathlib.Core.Bool.{true≢false}
-use lib.Dec.{T}
 use borrow.Author.Needs.{needs}
 use Rattle.whole.proofs.Logic.{true-is}
 use Rattle.flags_vectors.proofs.Answered.{accepted}
