@@ -57,6 +57,7 @@ mod scene;
 use cells::Matrix;
 use compare::boundary_outside;
 use damage::damaged;
+use flags::all_flags;
 use geos::{bench_geos_from_bytes, Geos, Pair, Parts};
 use maker::{full, PAIRS};
 use random::Random;
@@ -123,19 +124,22 @@ fn right_cells(bytes: &[u8]) -> Matrix {
     right.cell
 }
 
-/// A row with its best times so far: our cells, our vectors, our check, GEOS from the bytes, GEOS relate alone.
+/// Our times for one scene: the cells, the vectors with all flags wanted, the vectors under two zero masks, the checks alone.
+const OURS: usize = 4;
+
+/// A row with its best times so far: ours, then GEOS from the bytes and GEOS relate alone.
 struct Timed {
     row: Row,
     parts: [Parts; 2],
     verdict: &'static str,
-    best: [f64; 5],
+    best: [f64; OURS + 2],
 }
 
 impl Timed {
     fn new(geos: &Geos, row: Row) -> Timed {
         let parts = parts(&row.bytes);
         let verdict = if bench_geos_from_bytes(geos, &row.bytes, &parts) == Some(right_cells(&row.bytes)) { "right" } else { "wrong" };
-        Timed { row, parts, verdict, best: [f64::MAX; 5] }
+        Timed { row, parts, verdict, best: [f64::MAX; OURS + 2] }
     }
 
     fn take(&mut self, which: usize, time: f64) {
@@ -144,28 +148,33 @@ impl Timed {
 
     fn pass(&mut self, geos: &Geos, with_ours: bool) {
         if with_ours {
-            our_times(&self.row.bytes).into_iter().enumerate().for_each(|(which, time)| self.take(which, time));
+            our_times(&self.row).into_iter().enumerate().for_each(|(which, time)| self.take(which, time));
         }
-        self.take(3, clock::best(|| bench_geos_from_bytes(geos, &self.row.bytes, &self.parts)));
+        self.take(OURS, clock::best(|| bench_geos_from_bytes(geos, &self.row.bytes, &self.parts)));
         let built = Pair::build(geos, &self.row.bytes, &self.parts);
-        self.take(4, clock::best(|| built.relate()));
+        self.take(OURS + 1, clock::best(|| built.relate()));
     }
 }
 
-/// Our cells, our vectors, our check of one scene.
-fn our_times(bytes: &[u8]) -> [f64; 3] {
+fn our_times(Row { kinds, bytes, .. }: &Row) -> [f64; OURS] {
+    let (all_f, all_g) = all_flags(kinds.0, kinds.1);
     [
         clock::best(|| library::cells(bytes)),
+        clock::best(|| library::vectors(bytes, all_f, all_g)),
         clock::best(|| library::vectors(bytes, 0, 0)),
         clock::best(|| library::overlap(bytes, &mut [])),
     ]
 }
 
+/// Times as the outputs have them.
+fn columns(times: &[f64]) -> String {
+    times.iter().map(|time| format!("{time:.3}")).collect::<Vec<_>>().join(" ")
+}
+
 /// One pass over all rows, ours alone.
 fn ours() -> bool {
     for row in rows::all() {
-        let [cells, vectors, check] = our_times(&row.bytes);
-        println!("row {} {cells:.3} {vectors:.3} {check:.3}", row.name());
+        println!("row {} {}", row.name(), columns(&our_times(&row)));
     }
     true
 }
@@ -178,8 +187,8 @@ fn time(with_ours: bool) -> bool {
     for _ in 0..PASSES {
         rows.iter_mut().for_each(|timed| timed.pass(&geos, with_ours));
     }
-    for Timed { row, verdict, best: [cells, vectors, check, whole, relate], .. } in &rows {
-        println!("row {} {cells:.3} {vectors:.3} {check:.3} {whole:.3} {relate:.3} {verdict}", row.name());
+    for Timed { row, verdict, best, .. } in &rows {
+        println!("row {} {} {verdict}", row.name(), columns(best));
     }
     true
 }

@@ -127,20 +127,29 @@ fn short(time: f64) -> String {
 fn table(results: &Results) -> String {
     let [new, old] = &results.versions;
     let mut text = format!(
-        "### Every row at 512 segments\n\n(a) our cells from bytes; (v) our vectors; (k) our check alone; (b) GEOS from the same bytes; (c) GEOS relate alone. \
+        "### Every row at 512 segments\n\n(a) our cells from bytes; (v) our vectors, all flags wanted; (z) our vectors under two zero masks; (k) our check alone; (b) GEOS from the same bytes; (c) GEOS relate alone. \
          A time in brackets belongs to other cells than ours.\n\n\
-         | family | types | (a) | (v) | (k) | (b) {new} | (c) {new} | (b) {old} | (c) {old} | (a)/(b) {new} | instructions (a) | (b) {new} |\n\
-         |---|---|---|---|---|---|---|---|---|---|---|---|\n"
+         | family | types | (a) | (v) | (z) | (k) | (b) {new} | (c) {new} | (b) {old} | (c) {old} | (a)/(b) {new} | instructions (a) | (b) {new} |\n\
+         |---|---|---|---|---|---|---|---|---|---|---|---|---|\n"
     );
     for (family, kinds, times) in rows(results, FULL) {
         let peer = |time: f64, right: bool| if right { short(time) } else { format!("({})", short(time)) };
         let peers = [times.new, times.old].map(|p| format!("{} | {}", peer(p.whole, p.right), peer(p.relate, p.right)));
         let ratio = times.ratio().map_or("-".to_string(), |ratio| format!("{ratio:.3}"));
         let counted = |which: usize| results.counts[which].get(&name(family, kinds, FULL)).map_or("-".to_string(), |count| millions(*count));
-        let ours = format!("{} | {} | {}", short(times.cells), short(times.vectors), short(times.check));
+        let ours = [times.cells, times.vectors, times.nothing, times.check].map(short).join(" | ");
         let _ =
             writeln!(text, "| {family} | {} | {ours} | {} | {} | {ratio} | {} | {} |", pair_name(kinds), peers[0], peers[1], counted(0), counted(1));
     }
+    let over: Vec<(String, f64)> =
+        rows(results, FULL).iter().map(|(family, kinds, times)| (title(family, *kinds), times.nothing / times.check)).collect();
+    let (name, most) = worst(&over);
+    let ratios: Vec<f64> = over.iter().map(|(_, ratio)| *ratio).collect();
+    let _ = writeln!(
+        text,
+        "\nTwo zero masks against the check alone, (z)/(k): {:.2} in the median row, {most:.2} in the worst, {name}.",
+        median(&ratios)
+    );
     text
 }
 

@@ -15,6 +15,7 @@ pub struct Peer {
 pub struct Times {
     pub cells: f64,
     pub vectors: f64,
+    pub nothing: f64,
     pub check: f64,
     pub new: Peer,
     pub old: Peer,
@@ -80,7 +81,7 @@ fn number<T: std::str::FromStr>(word: &str) -> T {
 }
 
 fn peer(words: &[String]) -> Peer {
-    Peer { whole: number(&words[4]), relate: number(&words[5]), right: words[6] == "right" }
+    Peer { whole: number(&words[5]), relate: number(&words[6]), right: words[7] == "right" }
 }
 
 fn times(directory: &Path) -> HashMap<String, Times> {
@@ -88,8 +89,8 @@ fn times(directory: &Path) -> HashMap<String, Times> {
     let new = lines(directory, "time-new", "row");
     new.iter()
         .map(|words| {
-            let (cells, vectors, check) = (number(&words[1]), number(&words[2]), number(&words[3]));
-            (words[0].clone(), Times { cells, vectors, check, new: peer(words), old: old[&words[0]] })
+            let [cells, vectors, nothing, check] = [1, 2, 3, 4].map(|column| number(&words[column]));
+            (words[0].clone(), Times { cells, vectors, nothing, check, new: peer(words), old: old[&words[0]] })
         })
         .collect()
 }

@@ -91,7 +91,8 @@ int main(void)
     region_half(&s, 4, 2, 4, 4, 0, 1);
     end(&s);
 
-    karvoiss_vectors_t v = karvoiss_vectors(s.bytes, s.length, 0, 0);
+    /* all flags of a line and a region, by name: seven of the line, one of the region */
+    karvoiss_vectors_t v = karvoiss_vectors(s.bytes, s.length, 127, 1);
     if (v.number != 0) {
         printf("refused: number %u at byte %zu\n", (unsigned)v.number, v.place);
         return 1;
@@ -102,6 +103,10 @@ int main(void)
     karvoiss_cells_t c = karvoiss_cells(s.bytes, s.length);
     for (int r = 0; r < 3; r++)
         printf("%s %d %d %d\n", parts[r], c.cell[r][0], c.cell[r][1], c.cell[r][2]);
+
+    /* two zero masks want nothing: the scene is checked, and no flag is looked for */
+    v = karvoiss_vectors(s.bytes, s.length, 0, 0);
+    printf("nothing wanted: number %u, vectors %u and %u\n", (unsigned)v.number, (unsigned)v.f, (unsigned)v.g);
 
     v = karvoiss_vectors(NULL, 0, 0, 0);
     printf("no bytes: number %u at byte %zu\n", (unsigned)v.number, v.place);

@@ -177,6 +177,12 @@ static bool fill(FILE *file)
 
 /* ---- The register -------------------------------------------------------- */
 
+/* The type is the second byte; 0 for what has none of the three. */
+static uint8_t type_of(const struct object *o)
+{
+    return o->length > 1 && o->bytes[1] <= REGION ? o->bytes[1] : 0;
+}
+
 /* Nothing need be tested before a call: whatever the bytes are, the answer says
  * so. The place is an offset in the scene, and tells which object is at fault. */
 static void print_refusal(const struct object *f, const struct object *g, uint32_t number, size_t place)
@@ -194,16 +200,33 @@ static const char *in_a_word(const karvoiss_cells_t *m)
     return m->cell[0][1] || m->cell[1][0] || m->cell[1][1] ? "they touch" : "apart";
 }
 
+/* All flags of a pair of types. Two zero masks would want nothing, and a bit that
+ * has no flag is refused, so each pair has masks of its own. */
+struct masks {
+    uint16_t f, g;
+};
+
+static struct masks all_flags(const struct object *f, const struct object *g)
+{
+    static const struct masks of_types[4][4] = {
+        [POINTS] = {[POINTS] = {3, 1}, [LINE] = {7, 1}, [REGION] = {7, 0}},
+        [LINE] = {[LINE] = {63, 7}, [REGION] = {127, 1}},
+        [REGION] = {[REGION] = {255, 15}},
+    };
+
+    return of_types[type_of(f)][type_of(g)];
+}
+
 static void print_pair(const struct object *f, const struct object *g)
 {
     static uint8_t scene[2 * OBJECT_BYTES];
     size_t length = f->length + g->length;
+    struct masks all = all_flags(f, g);
 
     memcpy(scene, f->bytes, f->length);
     memcpy(scene + f->length, g->bytes, g->length);
 
-    /* masks 0 and 0: all flags are wanted */
-    karvoiss_vectors_t v = karvoiss_vectors(scene, length, 0, 0);
+    karvoiss_vectors_t v = karvoiss_vectors(scene, length, all.f, all.g);
     karvoiss_cells_t m = karvoiss_cells(scene, length);
 
     if (v.number != 0) {
@@ -233,10 +256,10 @@ int main(int argc, char **argv)
     fclose(file);
 
     printf("F      G        f   g  cells\n");
-    /* the type is the second byte; F's must not be above G's */
+    /* F's type must not be above G's */
     for (int i = 0; i < count; i++)
         for (int k = i + 1; k < count; k++)
-            if (objects[i].bytes[1] <= objects[k].bytes[1])
+            if (type_of(&objects[i]) <= type_of(&objects[k]))
                 print_pair(&objects[i], &objects[k]);
             else
                 print_pair(&objects[k], &objects[i]);

@@ -102,9 +102,24 @@ extern "C" {
  * and left of it if it is vertical. A line's boundary points are the ends that
  * belong to exactly one of its segments.
  *
- * want_f and want_g say which flags are wanted: a flag that is not wanted is 0.
- * If both are 0, all flags of the pair are wanted. A bit that has no flag is
- * refused with number 9.
+ * want_f and want_g say which flags are wanted: flag k of F exactly if bit k of
+ * want_f is set, and G's by want_g. A flag that is not wanted is 0, and a bit
+ * that has no flag is refused with number 9. The flags of one call are those of
+ * a call that wants all, under the two masks.
+ *
+ * Since 0.2.0 two zeros want nothing: of a scene that is taken both vectors are
+ * 0, and the call costs its checks alone. Before, two zeros stood for all
+ * flags. To ask for all flags, name those of the pair (65535 is refused with 9):
+ *
+ *   types  want_f  want_g
+ *   1, 1        3       1
+ *   1, 2        7       1
+ *   1, 3        7       0
+ *   2, 2       63       7
+ *   2, 3      127       1
+ *   3, 3      255      15
+ *
+ * An object's type is the second byte of its record of kind 84.
  */
 typedef struct {
     uint32_t number;

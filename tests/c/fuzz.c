@@ -9,8 +9,10 @@
 enum { HEAD = 6, MOST = 1 << 17, GUARD = 64, ROOM = LIST + GUARD };
 
 struct reference {
+    struct masks all;
     karvoiss_vectors_t vectors;
     karvoiss_vectors_t wanted;
+    karvoiss_vectors_t nothing;
     karvoiss_cells_t cells;
     karvoiss_overlap_t overlap;
 };
@@ -63,13 +65,15 @@ int LLVMFuzzerTestOneInput(const uint8_t *data, size_t size)
     memset(list - GUARD, 0xEE, GUARD + room);
 
     struct reference reference = reference_answers(scene, length, want_f, want_g, expected + GUARD, room);
-    karvoiss_vectors_t vectors = karvoiss_vectors(scene, length, 0, 0);
+    karvoiss_vectors_t vectors = karvoiss_vectors(scene, length, reference.all.f, reference.all.g);
     karvoiss_vectors_t wanted = karvoiss_vectors(scene, length, want_f, want_g);
+    karvoiss_vectors_t nothing = karvoiss_vectors(scene, length, 0, 0);
     karvoiss_cells_t cells = karvoiss_cells(scene, length);
     karvoiss_overlap_t overlap = karvoiss_overlap(scene, length, list, room);
 
     require(same_vectors(&reference.vectors, &vectors), "vectors");
     require(same_vectors(&reference.wanted, &wanted), "vectors under the masks");
+    require(same_vectors(&reference.nothing, &nothing), "vectors under two zero masks");
     require(same_cells(&reference.cells, &cells), "cells");
     require(same_overlap(&reference.overlap, &overlap), "overlap list");
     require(memcmp(expected, list - GUARD, GUARD + room) == 0, "the lent buffer, its list or what is around it");

@@ -1,32 +1,28 @@
 /* A change for libFuzzer that leaves many scenes valid: one value of an axis becomes another wherever it stands, so that halfsegments keep
  * their partners and joined ends stay joined. Every fourth time the fuzzer changes bytes in its own ways. */
-#include <stdbool.h>
-#include <stddef.h>
-#include <stdint.h>
-#include <string.h>
+#include "scenes.h"
 
 enum { HEAD = 6, MOST = 8192 };
 
 size_t LLVMFuzzerMutate(uint8_t *data, size_t size, size_t most);
 size_t LLVMFuzzerCustomMutator(uint8_t *data, size_t size, size_t most, unsigned seed);
 
-/* How many points the record at `kind` holds, and how many bytes it takes; no bytes if it is none. */
-static size_t record(uint8_t kind, size_t *points)
+/* How many points the record at `kind` holds. */
+static size_t points_in(uint8_t kind)
 {
-    *points = kind == 80 ? 1 : kind == 76 || kind == 82 ? 2 : 0;
-    return kind == 80 ? 9 : kind == 76 ? 18 : kind == 82 ? 19 : kind == 84 ? 2 : kind == 69 ? 1 : 0;
+    return kind == 80 ? 1 : kind == 76 || kind == 82 ? 2 : 0;
 }
 
 /* Where the coordinates of one axis stand; gives their number. */
 static size_t find(const uint8_t *data, size_t size, size_t axis, size_t *places)
 {
-    size_t count = 0, points, length;
+    size_t count = 0, length;
 
     for (size_t at = HEAD; at < size; at += length) {
-        length = record(data[at], &points);
+        length = record_length(data[at]);
         if (length == 0 || length > size - at)
             break;
-        for (size_t p = 0; p < points && count < MOST; p++)
+        for (size_t p = 0; p < points_in(data[at]) && count < MOST; p++)
             places[count++] = at + 1 + 8 * p + 4 * axis;
     }
     return count;

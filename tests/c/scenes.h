@@ -17,8 +17,15 @@ struct scene {
     size_t length;
 };
 
+/* All flags of a pair of types. */
+struct masks {
+    uint16_t f, g;
+};
+
+/* `nothing` is asked for under two zero masks. */
 struct answers {
     karvoiss_vectors_t vectors;
+    karvoiss_vectors_t nothing;
     karvoiss_cells_t cells;
     karvoiss_overlap_t overlap;
     uint8_t list[LIST];
@@ -46,11 +53,39 @@ static inline struct scene read_scene(const char *name)
     return scene;
 }
 
-/* The list is asked for into `list`, whose bytes are all 0xEE before. */
+/* How many bytes the record at `kind` takes; none if there is no such kind. */
+static inline size_t record_length(uint8_t kind)
+{
+    return kind == 80 ? 9 : kind == 76 ? 18 : kind == 82 ? 19 : kind == 84 ? 2 : kind == 69 ? 1 : 0;
+}
+
+/* All flags of the scene's pair of types; no flag where the bytes do not say what the types are. */
+static inline struct masks all_flags(const uint8_t *bytes, size_t length)
+{
+    static const struct masks of_types[3][3] = {{{3, 1}, {7, 1}, {7, 0}}, {{0, 0}, {63, 7}, {127, 1}}, {{0, 0}, {0, 0}, {255, 15}}};
+    uint8_t types[2] = {0, 0};
+    size_t count = 0;
+
+    for (size_t at = 0; at < length && count < 2 && record_length(bytes[at]) > 0; at += record_length(bytes[at]))
+        if (bytes[at] == 84 && at + 1 < length)
+            types[count++] = bytes[at + 1];
+    if (types[0] < 1 || types[0] > 3 || types[1] < 1 || types[1] > 3)
+        return (struct masks){0, 0};
+    return of_types[types[0] - 1][types[1] - 1];
+}
+
+/* The list is asked for into `list`, whose bytes are all 0xEE before. Two zero masks have the refusals that all flags have, and want nothing. */
 static inline void ask(const uint8_t *bytes, size_t length, uint8_t *list, size_t room, struct answers *answers)
 {
+    struct masks all = all_flags(bytes, length);
+
     memset(list, 0xEE, room);
-    answers->vectors = karvoiss_vectors(bytes, length, 0, 0);
+    answers->vectors = karvoiss_vectors(bytes, length, all.f, all.g);
+    answers->nothing = karvoiss_vectors(bytes, length, 0, 0);
+    if (answers->nothing.number != answers->vectors.number || answers->nothing.place != answers->vectors.place)
+        fail("two zero masks", "another refusal");
+    if (answers->nothing.f != 0 || answers->nothing.g != 0)
+        fail("two zero masks", "a flag");
     answers->cells = karvoiss_cells(bytes, length);
     answers->overlap = karvoiss_overlap(bytes, length, list, room);
 }
@@ -72,7 +107,8 @@ static inline bool same_overlap(const karvoiss_overlap_t *a, const karvoiss_over
 
 static inline bool same_answers(const struct answers *a, const struct answers *b)
 {
-    return same_vectors(&a->vectors, &b->vectors) && same_cells(&a->cells, &b->cells) && same_overlap(&a->overlap, &b->overlap);
+    return same_vectors(&a->vectors, &b->vectors) && same_vectors(&a->nothing, &b->nothing) && same_cells(&a->cells, &b->cells)
+        && same_overlap(&a->overlap, &b->overlap);
 }
 
 #endif

@@ -10,12 +10,13 @@ enum { STACK = 1 << 18, PAINT = 0xC5 };
 static _Alignas(64) uint8_t stack[STACK];
 static ucontext_t here, there;
 static struct scene scene;
+static struct masks all;
 static uint8_t list[LIST];
 static struct answers answers;
 
 static void ask_vectors(void)
 {
-    answers.vectors = karvoiss_vectors(scene.bytes, scene.length, 0, 0);
+    answers.vectors = karvoiss_vectors(scene.bytes, scene.length, all.f, all.g);
 }
 
 static void ask_cells(void)
@@ -63,6 +64,7 @@ int main(int argc, char **argv)
 
     for (int i = 1; i < argc; i++) {
         scene = read_scene(argv[i]);
+        all = all_flags(scene.bytes, scene.length);
         for (int k = 0; k < 3; k++) {
             size_t used = used_by(calls[k].asks);
 

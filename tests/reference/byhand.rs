@@ -226,6 +226,33 @@ pub fn answer_traps() -> Vec<Known> {
     ]
 }
 
+/// A question for the vectors under two masks, and both vectors or the refusal.
+pub struct Masked {
+    pub name: &'static str,
+    pub bytes: Vec<u8>,
+    pub want_f: u16,
+    pub want_g: u16,
+    pub line: &'static str,
+}
+
+/// The table's 9, and what two zero masks want: nothing, with the refusals of any other masks but 9.
+pub fn masked() -> Vec<Masked> {
+    let ask = |name, bytes: &[u8], (want_f, want_g), line| Masked { name, bytes: bytes.to_vec(), want_f, want_g, line };
+    let a = &twelve()[0].bytes;
+    let none = [84, 1, 69, 84, 1, 69];
+    let twice = joined(&[&[84, 1], &point_record((1, 1)), &point_record((1, 1)), &[69, 84, 1, 69]]);
+    vec![
+        ask("9", &none, (4, 0), "no 9 0"),
+        ask("65535 for all flags", a, (65535, 65535), "no 9 0"),
+        ask("nothing of a", a, (0, 0), "0 0"),
+        ask("a flag of G alone", a, (0, 1), "0 1"),
+        ask("a flag of F alone", a, (4, 0), "4 0"),
+        ask("all flags of a", a, (7, 1), "5 1"),
+        ask("nothing of a point twice", &twice, (0, 0), "no 10 11"),
+        ask("nothing of one byte", &[84], (0, 0), "no 1 0"),
+    ]
+}
+
 /// A cell picture's matrix, for pictures of faces alone: one letter each, lines from above parted by a slash.
 pub struct Drawn {
     pub kinds: (u8, u8),

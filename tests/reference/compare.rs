@@ -120,12 +120,12 @@ fn agree<T: PartialEq + Debug>(question: &str, expected: &T, answer: &T) -> Resu
     Err(format!("{question}\n  reference: {expected:?}\n  engine:    {answer:?}"))
 }
 
-/// All flags, a choice of them, and now and then bits that no flag has.
+/// All flags, none, a choice of them, and now and then bits that no flag has.
 fn masks(judgement: &Judgement, random: &mut Random) -> Vec<(u16, u16)> {
     let (all_f, all_g) = judgement.all_flags();
     let (f, g) = (random.next() as u16, random.next() as u16);
-    let chosen = random.pick(&[(f & all_f, g & all_g), (f & all_f, 0), (0, g & all_g), (all_f, all_g), (1 << (f % 8) & all_f, 0)]);
-    let mut masks = vec![(0, 0), chosen];
+    let chosen = random.pick(&[(f & all_f, g & all_g), (f & all_f, 0), (0, g & all_g), (1 << (f % 8) & all_f, 0)]);
+    let mut masks = vec![(all_f, all_g), (0, 0), chosen];
     if random.once_in(4) {
         masks.push(random.pick(&[(f, g), (all_f + 1, 0), (0, all_g + 1), (all_f | f, g & all_g), (1 << (f % 16), 0), (0, 1 << (g % 16))]));
     }

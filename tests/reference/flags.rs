@@ -17,6 +17,12 @@ pub fn flag_counts(f: u8, g: u8) -> (u32, u32) {
     }
 }
 
+/// All flags of a pair of types, as a mask for F and one for G.
+pub fn all_flags(f: u8, g: u8) -> (u16, u16) {
+    let (of_f, of_g) = flag_counts(f, g);
+    ((1 << of_f) - 1, (1 << of_g) - 1)
+}
+
 /// Boundary of a line: the ends that belong to exactly one of its segments.
 pub fn line_boundary(line: &Object) -> Vec<Point> {
     let segments = line.segments();

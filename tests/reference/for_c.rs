@@ -40,8 +40,11 @@ pub struct Overlap {
 
 #[repr(C)]
 pub struct Answers {
+    all_f: u16,
+    all_g: u16,
     vectors: Vectors,
     wanted: Vectors,
+    nothing: Vectors,
     cells: Cells,
     overlap: Overlap,
 }
@@ -50,7 +53,7 @@ fn vectors(answer: VectorsAnswer) -> Vectors {
     Vectors { number: answer.number, place: answer.place, f: answer.f, g: answer.g }
 }
 
-/// All flags, the wanted flags, the cells, and the overlap list into `list`.
+/// The masks of all flags, and under them the vectors; the vectors under the wanted masks and under two zeros, the cells, and the overlap list into `list`.
 ///
 /// # Safety
 /// `scene` has `length` bytes and `list` has `room`, neither is null.
@@ -59,8 +62,12 @@ pub unsafe extern "C" fn reference_answers(scene: *const u8, length: usize, want
     let (scene, list) = unsafe { (std::slice::from_raw_parts(scene, length), std::slice::from_raw_parts_mut(list, room)) };
     let judgement = judge(scene, &RIGHT);
     let (cells, overlap) = (judgement.cells(), judgement.overlap(list));
+    let (all_f, all_g) = judgement.all_flags();
     Answers {
-        vectors: vectors(judgement.vectors(0, 0)),
+        all_f,
+        all_g,
+        vectors: vectors(judgement.vectors(all_f, all_g)),
+        nothing: vectors(judgement.vectors(0, 0)),
         wanted: vectors(judgement.vectors(want_f, want_g)),
         cells: Cells { number: cells.number, place: cells.place, cell: cells.cell },
         overlap: Overlap { number: overlap.number, place: overlap.place, count: overlap.count },

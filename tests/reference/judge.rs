@@ -2,7 +2,7 @@
 
 use crate::cells::{matrix, overlap, Matrix};
 use crate::check;
-use crate::flags::{flag_counts, vectors};
+use crate::flags::{all_flags, vectors};
 use crate::mistakes::Rules;
 use crate::plane::Segment;
 use crate::scene::{read_scene, Object, Refusal, REGION};
@@ -29,6 +29,17 @@ pub struct OverlapAnswer {
     pub count: usize,
 }
 
+/// What two zero masks want: nothing, under document 02's Paper 5. The others are mistakes.
+#[derive(Clone, Copy, PartialEq, Eq, Default)]
+pub enum TwoZeros {
+    #[default]
+    Nothing,
+    /// All flags, as document 01 has it.
+    AllFlags,
+    /// Nothing, and the checks from 10 on are passed over.
+    NoChecks,
+}
+
 /// Everything that any question about these bytes may need, found once. `early` is a refusal 1 to 8, `late` one of 10 to 15.
 #[derive(Default)]
 pub struct Judgement {
@@ -37,6 +48,7 @@ pub struct Judgement {
     pub f: Object,
     pub g: Object,
     pub vectors: (u16, u16),
+    pub two_zeros: TwoZeros,
     pub cells: Matrix,
     pub segments: Vec<Segment>,
     pub list: Vec<u8>,
@@ -84,8 +96,7 @@ impl Judgement {
 
     /// The flags of the pair, as a mask for F and one for G.
     pub fn all_flags(&self) -> (u16, u16) {
-        let (of_f, of_g) = flag_counts(self.f.kind, self.g.kind);
-        ((1 << of_f) - 1, (1 << of_g) - 1)
+        all_flags(self.f.kind, self.g.kind)
     }
 
     pub fn vectors(&self, want_f: u16, want_g: u16) -> VectorsAnswer {
@@ -97,10 +108,12 @@ impl Judgement {
         if want_f & !all_f != 0 || want_g & !all_g != 0 {
             return refused(Refusal { number: 9, place: 0 });
         }
-        if let Some(refusal) = self.late {
-            return refused(refusal);
+        let two_zeros = (want_f == 0 && want_g == 0).then_some(self.two_zeros);
+        match self.late {
+            Some(refusal) if two_zeros != Some(TwoZeros::NoChecks) => return refused(refusal),
+            _ => (),
         }
-        let (want_f, want_g) = if want_f == 0 && want_g == 0 { (all_f, all_g) } else { (want_f, want_g) };
+        let (want_f, want_g) = if two_zeros == Some(TwoZeros::AllFlags) { (all_f, all_g) } else { (want_f, want_g) };
         VectorsAnswer { number: 0, place: 0, f: self.vectors.0 & want_f, g: self.vectors.1 & want_g }
     }
 

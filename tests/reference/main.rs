@@ -25,7 +25,7 @@ mod scene;
 mod tally;
 
 use compare::{ask, Case};
-use judge::judge;
+use judge::{judge, VectorsAnswer};
 use mistakes::{Rules, MISTAKES, RIGHT};
 use random::Random;
 use std::io::{Read, Write};
@@ -101,19 +101,22 @@ fn list_line(bytes: &[u8]) -> String {
     judgement.list.iter().map(u8::to_string).collect::<Vec<_>>().join(" ")
 }
 
-/// Both vectors of each case, or `no`, number and place.
+/// Both vectors, or `no`, number and place.
+fn vectors_line(answer: &VectorsAnswer) -> String {
+    match answer.number {
+        0 => format!("{} {}", answer.f, answer.g),
+        number => format!("no {number} {}", answer.place),
+    }
+}
+
+/// A line for each case.
 fn answer_cases(text: &str) -> bool {
     let cases = notation::cases(text).unwrap_or_else(|case| {
         eprintln!("this case cannot be read: {case}");
         exit(1)
     });
     for case in cases {
-        let answer = judge(&case.bytes, &RIGHT).vectors(case.want_f, case.want_g);
-        if answer.number == 0 {
-            println!("{}: {} {}", case.label, answer.f, answer.g);
-        } else {
-            println!("{}: no {} {}", case.label, answer.number, answer.place);
-        }
+        println!("{}: {}", case.label, vectors_line(&judge(&case.bytes, &RIGHT).vectors(case.want_f, case.want_g)));
     }
     true
 }
@@ -137,11 +140,12 @@ fn self_test() -> bool {
         let line = judge(&drawn.bytes(), &RIGHT).line();
         check("a picture", drawn.matrix, line.rsplit(' ').next().unwrap_or_default().to_string());
     }
-    // the table's 9, 16 and 17, and the list that document 01 gives
+    for masked in byhand::masked() {
+        check(masked.name, masked.line, vectors_line(&judge(&masked.bytes, &RIGHT).vectors(masked.want_f, masked.want_g)));
+    }
+    // the table's 16 and 17, and the list that document 01 gives
     let refused = |number: u32, place: usize| format!("no {number} {place}");
     let no_points = [84, 1, 69, 84, 1, 69];
-    let nine = judge(&no_points, &RIGHT).vectors(4, 0);
-    check("9", "no 9 0", refused(nine.number, nine.place));
     let sixteen = judge(&no_points, &RIGHT).overlap(&mut []);
     check("16", "no 16 0", refused(sixteen.number, sixteen.place));
     let one_square = scene::scene_bytes(&byhand::square(0, 4), &scene::Object::of_segments(scene::REGION, &[]));

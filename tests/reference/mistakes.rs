@@ -1,8 +1,8 @@
-//! The rules that the reference goes by, and the ways of getting them wrong that document 01 names: its four mistakes to be shut out and
-//! its five imitations, some of them in two forms. A comparison under any of them must disagree.
+//! The rules that the reference goes by, and the ways of getting them wrong: those that document 01 names, its four mistakes to be shut out and
+//! its five imitations, some of them in two forms, and those that document 02's papers invite. A comparison under any of them must disagree.
 
 use crate::flags::{common_dominating_point, line_boundary};
-use crate::judge::Judgement;
+use crate::judge::{Judgement, TwoZeros};
 use crate::plane::{interior_above, Point, Segment};
 use crate::scene::{Half, Object, Refusal};
 
@@ -27,7 +27,7 @@ impl Rules {
     }
 }
 
-/// Document 01's own rules.
+/// The rules of the documents.
 pub const RIGHT: Rules = Rules { line_boundary, interior_above, common_point: common_dominating_point, first_only: false, spoil: |_| () };
 
 pub struct Mistake {
@@ -36,8 +36,8 @@ pub struct Mistake {
     pub rules: Rules,
 }
 
-/// Every mistake, by the name that `--mistake` takes: the four, then from "refuse-all" on the imitations.
-pub const MISTAKES: [Mistake; 13] = [
+/// Every mistake, by the name that `--mistake` takes: the four, from "refuse-all" on the imitations, then those about two zero masks.
+pub const MISTAKES: [Mistake; 16] = [
     Mistake {
         name: "next-halfsegment",
         says: "a line's end is a boundary point if the next halfsegment starts elsewhere",
@@ -78,6 +78,17 @@ pub const MISTAKES: [Mistake; 13] = [
         name: "early-17-shared",
         says: "17 unless the buffer has room for the segments of both regions twice",
         rules: Rules { spoil: |j| j.room = j.apart, ..RIGHT },
+    },
+    Mistake { name: "zeros-want-all", says: "two zero masks want all flags", rules: Rules { spoil: |j| j.two_zeros = TwoZeros::AllFlags, ..RIGHT } },
+    Mistake {
+        name: "zeros-unchecked",
+        says: "two zero masks are answered before the checks",
+        rules: Rules { spoil: |j| j.two_zeros = TwoZeros::NoChecks, ..RIGHT },
+    },
+    Mistake {
+        name: "cells-of-no-flag",
+        says: "the cells are asked with two zero masks: no part of F but its exterior meets anything",
+        rules: Rules { spoil: |j| j.cells[..2].fill([false; 3]), ..RIGHT },
     },
 ];
 

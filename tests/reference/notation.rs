@@ -1,5 +1,5 @@
-//! Scenes as text, the notation that the program `vectors` reads: each case is `label: bytes;` or `label: [F mask,G mask] bytes;` with the bytes as
-//! document 01 writes them, "84 1 P(1,1) 69 84 1 69".
+//! Scenes as text, the notation that the program `test_vectors` reads: each case is `label: [F mask,G mask] bytes;` with the bytes as document 01 writes
+//! them, "84 1 P(1,1) 69 84 1 69". Without masks nothing is wanted.
 
 pub struct Notated<'a> {
     pub label: &'a str,

@@ -28,14 +28,14 @@ use Rattle.flags.specs.Flags as F
 use Rattle.flags.specs.Flags.{Edge, Elements, outline, segmentsOf, flagsOfF, flagsOfG, pack}
 use Rattle.flags.specs.Elements.{edges, edgeOf, pointOf, pointsOf, elementsAs, elementsOf}
 use Rattle.flags_vectors.specs.declared.Vectors.{Vectors}
-use Rattle.flags_vectors.specs.Vectors.{sceneVectors}
+use Rattle.flags_masks.specs.Wanted.{masksFor}
 use Rattle.flags.proofs.Elements.{outline-edges}
-use Rattle.flags_masks.proofs.Masks.{vector-all-F, vector-all-G}
+use Rattle.flags_masks.proofs.Masks.{every-flag-f, every-flag-g}
 use Rattle.cells.specs.declared.Explored.{Explored}
 use Rattle.cells.specs.declared.CellsAnswer.{CellsAnswer}
 use Rattle.cells_matrix.specs.Matrix.{Part, Meet, matrixOf, cellAt}
 use Rattle.cells.specs.Explored as E
-use Rattle.cells.specs.Explored.{exploredIn, matrixFrom, answered, cellsAnswerOf, cellsValues, NoCellWrong}
+use Rattle.cells.specs.Explored.{wholeVectors, exploredIn, matrixFrom, answered, cellsAnswerOf, cellsValues, NoCellWrong}
 use Rattle.cells_matrix.proofs.Common.{filled, filled-of}
 use Rattle.cells_matrix.proofs.RegionRegion.{Sound}
 use Rattle.cells_matrix.proofs.Theorem.{Accepted, Good, shapeOf, isEmpty, no-cell-wrong}
@@ -142,11 +142,12 @@ module _ (s : List ℕ) (sc : Scene) (o : SoundScene s sc) where
           (subst (λ (b : Shape). T (leb (shapeNumber (sc .f .shape)) (shapeNumber b))) (sym q) (le→leb (shapeNumber (sc .f .shape)) (shapeNumber (sc .g .shape)) (o .ascending)))
 
   matrix-is : matrixFrom (exploredIn s sc) ≡ matrixOf (shapeOf of-f) (shapeOf of-g) (pack (flagsOfF of-f of-g)) (pack (flagsOfG of-f of-g)) (isEmpty of-f) (isEmpty of-g)
+  unfolding masksFor
   matrix-is =
       let a = shape-as s (sc .f) (sc .f .shape) in
       let b = shape-as s (sc .g) (sc .g .shape) in
-      let v = vector-all-F of-f of-g in
-      let w = vector-all-G of-f of-g in
+      let v = every-flag-f s (sc .f) (sc .g) in
+      let w = every-flag-g s (sc .f) (sc .g) in
       let x = empty-as s (sc .f) (o .f-sound) (sc .f .shape) refl in
       let y = empty-as s (sc .g) (o .g-sound) (sc .g .shape) refl in
       cc
@@ -181,5 +182,5 @@ module _ (s : List ℕ) (sc : Scene) where
   exploredBy both =
       record { f = sc .f .shape; g = sc .g .shape; v = both .f; w = both .g; «f_empty» = E.isEmpty (sc .f); «g_empty» = E.isEmpty (sc .g) }
 
-  pub taken-by : {both : Vectors} → both ≡ sceneVectors s sc 0 0 → exploredBy both ≡ exploredIn s sc
+  pub taken-by : {both : Vectors} → both ≡ wholeVectors s sc → exploredBy both ≡ exploredIn s sc
   taken-by e = ap exploredBy e

@@ -10,8 +10,9 @@ use Rattle.scene.specs.declared.Scene.{Scene}
 use Rattle.scene.specs.declared.CheckedScene.{CheckedScene}
 use Rattle.scene.specs.Read.{shapeNumber}
 use Rattle.scene.specs.Conditions.{object, checkScene}
-use Rattle.flags.specs.Elements.{elementsOf}
-use Rattle.flags_masks.specs.Wanted.{vectorOfF, vectorOfG}
+use Rattle.flags_masks.specs.declared.Wanted.{Wanted}
+use Rattle.flags_vectors.specs.declared.Vectors.{Vectors}
+use Rattle.flags_vectors.specs.Vectors.{masksIn, sceneVectors}
 use Rattle.cells.specs.declared.Explored.{Explored}
 use Rattle.cells.specs.declared.CellsAnswer.{CellsAnswer}
 use Rattle.cells_matrix.specs.Matrix.{Part, Meet, matrixOf, noCells, cellAt}
@@ -20,21 +21,18 @@ use Rattle.cells_matrix.specs.Matrix.{Part, Meet, matrixOf, noCells, cellAt}
 abbrev pub isEmpty : Layout → Bool
 isEmpty l = eqb (l .count) 0
 
--- "its two vectors are those of demand 2 with every flag of the type pair wanted", and "If both masks are 0, all flags are wanted."
+-- "its two vectors are those of demand 2 with every flag of the type pair wanted"
 module _ (s : List ℕ) (sc : Scene) where
-  abbrev pub wholeVectorF : ℕ
-  wholeVectorF = vectorOfF (elementsOf s (sc .f)) (elementsOf s (sc .g)) 0 0
-
-  abbrev pub wholeVectorG : ℕ
-  wholeVectorG = vectorOfG (elementsOf s (sc .f)) (elementsOf s (sc .g)) 0 0
+  abbrev pub wholeVectors : Vectors
+  wholeVectors = sceneVectors s sc (masksIn sc Wanted.All)
 
   abbrev pub exploredIn : Explored
   exploredIn =
       record {
         f = sc .f .shape;
         g = sc .g .shape;
-        v = wholeVectorF;
-        w = wholeVectorG;
+        v = wholeVectors .f;
+        w = wholeVectors .g;
         «f_empty» = isEmpty (sc .f);
         «g_empty» = isEmpty (sc .g);
       }

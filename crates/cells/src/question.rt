@@ -2,6 +2,7 @@
 use crate::CellsAnswer;
 use crate::Explored;
 use crate::table;
+use flags_masks::Wanted;
 use flags_vectors::SceneAnswer;
 use flags_vectors::Vectors;
 use flags_vectors::question;
@@ -11,12 +12,11 @@ ghost use mathlib.Core.List.{List};
 ghost use Prim.Native.Nat.{ℕ};
 ghost use Rattle.scene.specs.Conditions.{checkScene};
 ghost use Rattle.check_verdict.specs.SharedPoints.{CheckedMeans};
-ghost use Rattle.flags_vectors.specs.Vectors.{sceneVectors};
-ghost use Rattle.cells.specs.Explored.{exploredIn, cellsAnswerOf, cellsValues, NoCellWrong};
+ghost use Rattle.cells.specs.Explored.{wholeVectors, exploredIn, cellsAnswerOf, cellsValues, NoCellWrong};
 
 // A scene that is taken, with the two vectors that have every flag wanted.
 fn taken(scene: Scene, both: Vectors) -> Explored
-    ensures { λ r. ⌜ ((s : List ℕ) → both ≡ sceneVectors s scene 0 0 → r ≡ exploredIn s scene) ⌝ }
+    ensures { λ r. ⌜ ((s : List ℕ) → both ≡ wholeVectors s scene → r ≡ exploredIn s scene) ⌝ }
 {
     let f = scene.f;
     let g = scene.g;
@@ -38,7 +38,7 @@ pub fn explore(s: &[u8]) -> CellsAnswer
         × NoCellWrong (now (s .entry)) (cellsValues r .cells)
         × CheckedMeans (now (s .entry)) (checkScene (now (s .entry))) ⌝ }
 {
-    match question::answer(s, 0, 0) {
+    match question::answer(s, Wanted::All) {
         SceneAnswer::Refused(r) => CellsAnswer::Refused(r),
         SceneAnswer::Taken { scene, vectors } => CellsAnswer::Taken(taken(scene, vectors)),
     }

@@ -88,7 +88,8 @@ fn shared(above: bool, other: bool) -> u16
     }
 }
 
-fn named(marks: u16) -> Classes
+// What marks stand for; of none there are no classes.
+pub fn named(marks: u16) -> Classes
     ensures { λ r. ⌜ r ≡ named marks ⌝ }
 {
     Classes {

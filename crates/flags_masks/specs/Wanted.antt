@@ -1,10 +1,12 @@
--- The wanted masks of the vectors question: which flags a pair of types has, which of them two masks want, and whether a wanted bit has no flag.
+-- The wanted masks of the vectors question: which flags a pair of types has, which of them are wanted, and whether a wanted bit has no flag.
 use Prim.Native.Nat.{ℕ, _-_, _≤_}
-use mathlib.Core.Bool.{Bool, not, _&&_, _||_, cond}
+use mathlib.Core.Bool.{Bool, not, _||_}
 use mathlib.Core.List.{List, [], _∷_}
 use lib.Bits.{bitAnd}
 use lib.Dec.{T, eqb}
 use lib.ListN.{length, getD}
+use Rattle.flags_masks.specs.declared.FlagMasks.{FlagMasks}
+use Rattle.flags_masks.specs.declared.Wanted.{Wanted}
 use Rattle.flags.specs.Flags.{Elements, points, line, region, flagsOfF, flagsOfG, pack, hasBit}
 
 -- The flags of F and of G, a bit for each: a row for each type of F, a column for each type of G. A pair with F's type above G's has none.
@@ -25,9 +27,10 @@ maskOfF f g = masksOf f g .0
 abbrev pub maskOfG : ℕ → ℕ → ℕ
 maskOfG f g = masksOf f g .1
 
--- the flags of an object that its own mask and the other's want, of all that it has: "If both masks are 0, all flags are wanted."
-unfoldable pub wanted : ℕ → ℕ → ℕ → ℕ
-wanted all own other = cond (eqb own 0 && eqb other 0) all own
+-- What is wanted of a pair of types: the flags of two masks, or all that the pair has
+unfoldable pub masksFor : Wanted → ℕ → ℕ → FlagMasks
+masksFor (Wanted.These masks) f g = masks
+masksFor Wanted.All f g = record { f = maskOfF f g; g = maskOfG f g }
 
 -- "A flag not wanted is 0."
 abbrev pub only : ℕ → ℕ → ℕ
@@ -52,9 +55,10 @@ typeOf (points l) = 1
 typeOf (line l) = 2
 typeOf (region l) = 3
 
-module _ (F G : Elements) (wantF wantG : ℕ) where
+-- each with the flags that its own mask wants
+module _ (F G : Elements) (want : ℕ) where
   unfoldable pub vectorOfF : ℕ
-  vectorOfF = only (wanted (maskOfF (typeOf F) (typeOf G)) wantF wantG) (pack (flagsOfF F G))
+  vectorOfF = only want (pack (flagsOfF F G))
 
   unfoldable pub vectorOfG : ℕ
-  vectorOfG = only (wanted (maskOfG (typeOf F) (typeOf G)) wantG wantF) (pack (flagsOfG F G))
+  vectorOfG = only want (pack (flagsOfG F G))

@@ -4,15 +4,21 @@ use scene::Shape;
 use scene::records;
 ghost use mathlib.Core.Path.{_≡_};
 ghost use Rattle.scene.specs.Read.{shapeNumber};
-ghost use Rattle.flags_masks.specs.Wanted.{maskOfF, maskOfG, wanted, hasStray, anyStray};
+ghost use Rattle.flags_masks.specs.Wanted.{maskOfF, maskOfG, masksFor, hasStray, anyStray};
 
-// The flags that F and G have, a bit for each.
+// A mask for each object, a bit for each flag.
 pub struct FlagMasks {
     pub f: u16,
     pub g: u16,
 }
 
-// A row for each type of F, a column for each type of G. A pair with F's type above G's has no flags.
+// What is wanted of a scene: the flags of two masks, or all that its pair of types has.
+pub enum Wanted {
+    These(FlagMasks),
+    All,
+}
+
+// The flags that each pair has: a row for each type of F, a column for each type of G. A pair with F's type above G's has no flags.
 const FLAG_MASKS: [[FlagMasks; 3]; 3] = [
     [
         FlagMasks { f: 3, g: 1 },
@@ -39,14 +45,13 @@ pub fn masks_of(f: Shape, g: Shape) -> FlagMasks
     FLAG_MASKS[row][column]
 }
 
-// The flags of an object, of all that it has, that its own mask and the other's want: two zero masks want all.
-pub fn wanted(all: u16, own: u16, other: u16) -> u16
-    ensures { λ r. ⌜ r ≡ wanted all own other ⌝ }
+// The masks of what is wanted, for a pair of types.
+pub fn masks_for(wanted: Wanted, f: Shape, g: Shape) -> FlagMasks
+    ensures { λ r. ⌜ r ≡ masksFor wanted (shapeNumber f) (shapeNumber g) ⌝ }
 {
-    if own == 0 {
-        if other == 0 { all } else { own }
-    } else {
-        own
+    match wanted {
+        Wanted::These(masks) => masks,
+        Wanted::All => masks_of(f, g),
     }
 }
 

@@ -123,7 +123,8 @@ fn meeting(a: usize, b: usize, note: u8) -> u16
     }
 }
 
-fn named(marks: u16) -> Meetings
+// What marks stand for; of none there are no meetings.
+pub fn named(marks: u16) -> Meetings
     ensures { λ r. ⌜ r ≡ named marks ⌝ }
 {
     Meetings {

@@ -13,3 +13,4 @@ pub mod PointsPoints
 pub mod PointsLine
 pub mod PointsRegion
 pub mod Theorem
+pub mod ReadOff

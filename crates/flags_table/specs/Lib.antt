@@ -1,2 +1,3 @@
 -- The flags by meetings and classes.
 pub mod Table
+pub mod Walks

@@ -8,6 +8,8 @@ ghost use Rattle.flags_classes.specs.declared.Classes.{Classes};
 ghost use Rattle.flags.specs.Flags.{pack};
 ghost use Rattle.flags_table.specs.Table.{alone, shared, unshared, flagsOfFBy, flagsOfGBy};
 
+pub mod walks;
+
 // A point bound in F that is none of G's.
 fn alone(m: Meetings) -> bool
     ensures { λ r. ⌜ r ≡ alone m ⌝ }

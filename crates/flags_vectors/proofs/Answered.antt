@@ -1,17 +1,17 @@
 -- The answer of the vectors question by the verdicts that lead to it; and what a scene that is taken gives the walks.
 use Prim.Native.Nat.{ℕ}
 use native.Mathlib.Omega.{arith}
-use mathlib.Core.Path.{_≡_, refl, sym, ap, ap₂, _∙_}
+use mathlib.Core.Path.{_≡_, refl, sym, ap, _∙_}
 use mathlib.Core.Bool.{true, false}
 use mathlib.Core.List.{List, [], _∷_}
+use lib.Dec.{T}
+use Rattle.whole.proofs.Logic.{is-true, or-left, or-right}
 use Rattle.scene.specs.declared.Shape.{Shape}
-use Rattle.scene.specs.declared.Shape.the-variants.{Points, Line, Region}
-use Rattle.scene.specs.declared.Layout.{Layout}
 use Rattle.scene.specs.declared.Scene.{Scene}
 use Rattle.scene.specs.declared.Refusal.{Refusal}
 use Rattle.scene.specs.declared.Fault.the-variants.{At, Nothing}
 use Rattle.scene.specs.declared.CheckedScene.{CheckedScene}
-use Rattle.scene.specs.Read.{shapeNumber, readScene, IsScene}
+use Rattle.scene.specs.Read.{readScene, IsScene}
 use Rattle.scene.specs.Conditions.{rule, sceneRules, typesDescend, checkSceneBy, checkScene}
 use Rattle.check_verdict.specs.declared.Verdict.the-variants.{Sound, Refused}
 use Rattle.check_verdict.specs.Refusals.{geometryVerdict}
@@ -19,10 +19,21 @@ use Rattle.check_verdict.proofs.Laws.{SoundScene, sound-scene}
 use Rattle.check_verdict.proofs.Verdicts.{check-refused, check-read}
 use Rattle.flags_vectors.specs.declared.Vectors.{Vectors}
 use Rattle.flags_vectors.specs.declared.SceneAnswer.{SceneAnswer}
-use Rattle.flags.specs.Flags.{flagsOfF, flagsOfG, pack}
-use Rattle.flags_masks.specs.Wanted.{hasStray, anyStray, only, typeOf, maskOfF, maskOfG, wanted, vectorOfF, vectorOfG}
-use Rattle.flags.specs.Elements.{elementsAs, elementsOf}
-use Rattle.flags_vectors.specs.Vectors.{sceneVectors, strayWanted, vectorsRules, answered, answerOf}
+use Rattle.sweep_laws.specs.Noted.{Noted}
+use Rattle.flags.specs.Flags.{pack}
+use Rattle.flags_meetings.specs.declared.Meetings.{Meetings}
+use Rattle.flags_meetings.specs.Met.{meetings}
+use Rattle.flags_classes.specs.declared.Classes.{Classes}
+use Rattle.flags_classes.specs.Classed.{classesOfF, classesOfG}
+use Rattle.flags_table.specs.Table.{flagsOfFBy, flagsOfGBy}
+use Rattle.flags_table.specs.Walks.{offClassesF, offClassesG, wantsSome, wantsOther, readsMeetings, readsClasses}
+use Rattle.flags_table.proofs.Theorem.{flags-of-f, flags-of-g}
+use Rattle.flags_table.proofs.ReadOff.{wanted-of-f, wanted-of-g}
+use Rattle.flags_masks.specs.declared.FlagMasks.{FlagMasks}
+use Rattle.flags_masks.specs.declared.Wanted.{Wanted}
+use Rattle.flags_masks.specs.Wanted.{masksFor, only, vectorOfF, vectorOfG}
+use Rattle.flags_masks.proofs.Masks.{none-stray}
+use Rattle.flags_vectors.specs.Vectors.{sceneVectors, masksIn, strayIn, strayWanted, vectorsRules, checkVectors, answered, answerOf}
 
 -- ---- a scene that is taken
 
@@ -30,100 +41,93 @@ pub accepted : (s : List ℕ) (sc : Scene) → checkScene s ≡ CheckedScene.Tak
 unfolding checkScene
 accepted s sc e = sound-scene [] [] s sc e
 
--- ---- its vectors
+-- ---- its vectors, read off walks of which one may have been left out
 
-type-of : (s : List ℕ) (l : Layout) → typeOf (elementsOf s l) ≡ shapeNumber (l .shape)
-type-of s l = go (l .shape)
-  where
-    go : (k : Shape) → typeOf (elementsAs s l k) ≡ shapeNumber k
-    go Points = refl
-    go Line = refl
-    go Region = refl
+module _ {s : List ℕ} {sc : Scene} {notes : List ℕ} (o : SoundScene s sc) (noted : Noted s sc notes) (masks : FlagMasks) {met : Meetings} {of-f of-g : Classes}
+    (where-met : T (readsMeetings (sc .f .shape) (sc .g .shape) (masks .f) (masks .g)) → met ≡ meetings s sc notes)
+    (where-classed : T (readsClasses (sc .f .shape) (sc .g .shape) (masks .f) (masks .g)) → (of-f ≡ classesOfF s sc notes) × (of-g ≡ classesOfG s sc notes)) where
+  abbrev F : Shape
+  F = sc .f .shape
 
--- the flags that the masks want, once all flags and the masks are found
-module _ (s : List ℕ) (sc : Scene) (wantF wantG : ℕ) {all mask flags : ℕ} where
-  pub vector-f :
-      all ≡ maskOfF (shapeNumber (sc .f .shape)) (shapeNumber (sc .g .shape)) → mask ≡ wanted all wantF wantG
-      → flags ≡ pack (flagsOfF (elementsOf s (sc .f)) (elementsOf s (sc .g))) → only mask flags ≡ sceneVectors s sc wantF wantG .f
+  abbrev G : Shape
+  G = sc .g .shape
+
+  pub vector-f : only (masks .f) (pack (flagsOfFBy F G met of-f)) ≡ sceneVectors s sc masks .f
   unfolding vectorOfF
-  vector-f a m q = ap₂ only (m ∙ ap (λ a. wanted a wantF wantG) (a ∙ sym (ap₂ maskOfF (type-of s (sc .f)) (type-of s (sc .g))))) q
+  vector-f =
+      wanted-of-f F G (masks .f) (λ e. where-met (or-left (wantsOther (offClassesF F G) (masks .f)) (wantsOther (offClassesG F G) (masks .g)) (is-true _ e)))
+      (λ e. where-classed (or-left (wantsSome (offClassesF F G) (masks .f)) (wantsSome (offClassesG F G) (masks .g)) (is-true _ e)) .0)
+      ∙ ap (λ l. only (masks .f) (pack l)) (sym (flags-of-f o noted))
 
-  pub vector-g :
-      all ≡ maskOfG (shapeNumber (sc .f .shape)) (shapeNumber (sc .g .shape)) → mask ≡ wanted all wantG wantF
-      → flags ≡ pack (flagsOfG (elementsOf s (sc .f)) (elementsOf s (sc .g))) → only mask flags ≡ sceneVectors s sc wantF wantG .g
+  pub vector-g : only (masks .g) (pack (flagsOfGBy F G met of-g)) ≡ sceneVectors s sc masks .g
   unfolding vectorOfG
-  vector-g a m q = ap₂ only (m ∙ ap (λ a. wanted a wantG wantF) (a ∙ sym (ap₂ maskOfG (type-of s (sc .f)) (type-of s (sc .g))))) q
+  vector-g =
+      wanted-of-g F G (masks .g) (λ e. where-met (or-right (wantsOther (offClassesF F G) (masks .f)) (wantsOther (offClassesG F G) (masks .g)) (is-true _ e)))
+      (λ e. where-classed (or-right (wantsSome (offClassesF F G) (masks .f)) (wantsSome (offClassesG F G) (masks .g)) (is-true _ e)) .1)
+      ∙ ap (λ l. only (masks .g) (pack l)) (sym (flags-of-g o noted))
 
 -- ---- the answer
 
-pub unread : (s : List ℕ) (wantF wantG : ℕ) (r : Refusal) → readScene s ≡ CheckedScene.Refused r → SceneAnswer.Refused r ≡ answerOf s wantF wantG
+pub unread : (s : List ℕ) (wanted : Wanted) (r : Refusal) → readScene s ≡ CheckedScene.Refused r → SceneAnswer.Refused r ≡ answerOf s wanted
 unfolding answerOf
-unread s wantF wantG r e = rw (check-refused (vectorsRules wantF wantG) s r e)
+unread s wanted r e = rw (check-refused (vectorsRules wanted) s r e)
 
 module _ (s : List ℕ) (sc : Scene) (is : IsScene s sc) where
   pub sound : typesDescend s sc ≡ Nothing → geometryVerdict s sc ≡ Sound → checkScene s ≡ CheckedScene.Taken sc
   unfolding checkScene
   sound d g = rw (check-read [] [] s sc is, d, g)
 
-  module _ (wantF wantG : ℕ) where
-    pub descending : (p : ℕ) → typesDescend s sc ≡ At p → SceneAnswer.Refused (record { number = 8; place = p }) ≡ answerOf s wantF wantG
+  module _ (wanted : Wanted) where
+    pub descending : (p : ℕ) → typesDescend s sc ≡ At p → SceneAnswer.Refused (record { number = 8; place = p }) ≡ answerOf s wanted
     unfolding answerOf
-    descending p d = rw (check-read (rule 9 (strayWanted wantF wantG) ∷ []) [] s sc is, d)
+    descending p d = rw (check-read (rule 9 (strayWanted wanted) ∷ []) [] s sc is, d)
 
     module _ (rising : typesDescend s sc ≡ Nothing) where
-      pub stray : anyStray (shapeNumber (sc .f .shape)) (shapeNumber (sc .g .shape)) wantF wantG ≡ true → SceneAnswer.Refused (record { number = 9; place = 0 }) ≡ answerOf s wantF wantG
+      pub stray : strayIn sc (masksIn sc wanted) ≡ true → SceneAnswer.Refused (record { number = 9; place = 0 }) ≡ answerOf s wanted
       unfolding answerOf
-      stray e = rw (check-read (rule 9 (strayWanted wantF wantG) ∷ []) [] s sc is, rising, e)
+      stray e = rw (check-read (rule 9 (strayWanted wanted) ∷ []) [] s sc is, rising, e)
 
-      module _ (tidy : anyStray (shapeNumber (sc .f .shape)) (shapeNumber (sc .g .shape)) wantF wantG ≡ false) where
-        pub at-fault : (r : Refusal) → geometryVerdict s sc ≡ Refused r → SceneAnswer.Refused r ≡ answerOf s wantF wantG
+      module _ (tidy : strayIn sc (masksIn sc wanted) ≡ false) where
+        pub at-fault : (r : Refusal) → geometryVerdict s sc ≡ Refused r → SceneAnswer.Refused r ≡ answerOf s wanted
         unfolding answerOf
-        at-fault r g = rw (check-read (rule 9 (strayWanted wantF wantG) ∷ []) [] s sc is, rising, tidy, g)
+        at-fault r g = rw (check-read (rule 9 (strayWanted wanted) ∷ []) [] s sc is, rising, tidy, g)
 
-        pub taken : geometryVerdict s sc ≡ Sound → {v : Vectors} → v ≡ sceneVectors s sc wantF wantG → SceneAnswer.Taken sc v ≡ answerOf s wantF wantG
+        pub taken : geometryVerdict s sc ≡ Sound → {v : Vectors} → v ≡ sceneVectors s sc (masksIn sc wanted) → SceneAnswer.Taken sc v ≡ answerOf s wanted
         unfolding answerOf
-        taken g e = ap (SceneAnswer.Taken sc) e ∙ rw (check-read (rule 9 (strayWanted wantF wantG) ∷ []) [] s sc is, rising, tidy, g)
+        taken g e = ap (SceneAnswer.Taken sc) e ∙ rw (check-read (rule 9 (strayWanted wanted) ∷ []) [] s sc is, rising, tidy, g)
 
--- ---- two zero masks, "If both masks are 0, all flags are wanted": 9 asks nothing
+-- ---- all flags wanted: 9 asks nothing
 
-none-stray : (f g : Shape) → anyStray (shapeNumber f) (shapeNumber g) 0 0 ≡ false
-unfolding hasStray
-none-stray Points Points = refl
-none-stray Points Line = refl
-none-stray Points Region = refl
-none-stray Line Points = refl
-none-stray Line Line = refl
-none-stray Line Region = refl
-none-stray Region Points = refl
-none-stray Region Line = refl
-none-stray Region Region = refl
+tidy-all : (sc : Scene) → strayIn sc (masksIn sc Wanted.All) ≡ false
+unfolding masksFor
+tidy-all sc = none-stray (sc .f .shape) (sc .g .shape)
 
-all-wanted : (s : List ℕ) → checkSceneBy (vectorsRules 0 0) s ≡ checkScene s
+pub all-wanted : (s : List ℕ) → checkVectors s Wanted.All ≡ checkScene s
 unfolding checkScene
 all-wanted s = go (readScene s) refl
   where
-    go : (k : CheckedScene) → readScene s ≡ k → checkSceneBy (vectorsRules 0 0) s ≡ checkSceneBy (sceneRules [] []) s
-    go (CheckedScene.Refused r) e = check-refused (vectorsRules 0 0) s r e ∙ sym (check-refused (sceneRules [] []) s r e)
-    go (CheckedScene.Taken sc) e = rw (check-read (rule 9 (strayWanted 0 0) ∷ []) [] s sc e, check-read [] [] s sc e, none-stray (sc .f .shape) (sc .g .shape))
+    go : (k : CheckedScene) → readScene s ≡ k → checkVectors s Wanted.All ≡ checkSceneBy (sceneRules [] []) s
+    go (CheckedScene.Refused r) e = check-refused (vectorsRules Wanted.All) s r e ∙ sym (check-refused (sceneRules [] []) s r e)
+    go (CheckedScene.Taken sc) e = rw (check-read (rule 9 (strayWanted Wanted.All) ∷ []) [] s sc e, check-read [] [] s sc e, tidy-all sc)
 
-module _ (s : List ℕ) {a : SceneAnswer} (is : a ≡ answerOf s 0 0) where
-  by-check : a ≡ answered s 0 0 (checkScene s)
+module _ (s : List ℕ) {a : SceneAnswer} (is : a ≡ answerOf s Wanted.All) where
+  by-check : a ≡ answered s Wanted.All (checkScene s)
   unfolding answerOf
-  by-check = is ∙ ap (answered s 0 0) (all-wanted s)
+  by-check = is ∙ ap (answered s Wanted.All) (all-wanted s)
 
   pub all-refused : (r : Refusal) → a ≡ SceneAnswer.Refused r → checkScene s ≡ CheckedScene.Refused r
   all-refused r e = go (checkScene s) (sym by-check ∙ e)
     where
-      go : (k : CheckedScene) → answered s 0 0 k ≡ SceneAnswer.Refused r → k ≡ CheckedScene.Refused r
+      go : (k : CheckedScene) → answered s Wanted.All k ≡ SceneAnswer.Refused r → k ≡ CheckedScene.Refused r
       go (CheckedScene.Refused q) h = let x : q ≡ r = cc in ap CheckedScene.Refused x
       go (CheckedScene.Taken sc) h = absurd (let x : _≡_ {A = ℕ} 0 1 = cc in omega arith)
 
-  pub all-taken : (sc : Scene) (v : Vectors) → a ≡ SceneAnswer.Taken sc v → (checkScene s ≡ CheckedScene.Taken sc) × (v ≡ sceneVectors s sc 0 0)
+  pub all-taken : (sc : Scene) (v : Vectors) → a ≡ SceneAnswer.Taken sc v → (checkScene s ≡ CheckedScene.Taken sc) × (v ≡ sceneVectors s sc (masksIn sc Wanted.All))
   all-taken sc v e = go (checkScene s) (sym by-check ∙ e)
     where
-      go : (k : CheckedScene) → answered s 0 0 k ≡ SceneAnswer.Taken sc v → (k ≡ CheckedScene.Taken sc) × (v ≡ sceneVectors s sc 0 0)
+      go : (k : CheckedScene) → answered s Wanted.All k ≡ SceneAnswer.Taken sc v → (k ≡ CheckedScene.Taken sc) × (v ≡ sceneVectors s sc (masksIn sc Wanted.All))
       go (CheckedScene.Refused q) h = absurd (let x : _≡_ {A = ℕ} 0 1 = cc in omega arith)
       go (CheckedScene.Taken k) h =
           let x : k ≡ sc = cc in
-          let y : sceneVectors s k 0 0 ≡ v = cc in
-          (ap CheckedScene.Taken x, sym y ∙ ap (λ (k : Scene). sceneVectors s k 0 0) x)
+          let y : sceneVectors s k (masksIn k Wanted.All) ≡ v = cc in
+          (ap CheckedScene.Taken x, sym y ∙ ap (λ (k : Scene). sceneVectors s k (masksIn k Wanted.All)) x)

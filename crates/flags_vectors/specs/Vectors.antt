@@ -2,7 +2,7 @@
 use Prim.Native.Nat.{ℕ}
 use mathlib.Core.Path.{_≡_}
 use mathlib.Core.Logic.{_↔_}
-use mathlib.Core.Bool.{not}
+use mathlib.Core.Bool.{Bool, not}
 use mathlib.Core.List.{List, [], _∷_}
 use lib.Dec.{T}
 use Rattle.scene.specs.declared.Scene.{Scene}
@@ -13,44 +13,57 @@ use Rattle.scene.specs.Conditions.{Rule, rule, sceneRules, checkSceneBy}
 use Rattle.flags_vectors.specs.declared.Vectors.{Vectors}
 use Rattle.flags_vectors.specs.declared.VectorsAnswer.{VectorsAnswer}
 use Rattle.flags_vectors.specs.declared.SceneAnswer.{SceneAnswer}
-use Rattle.flags.specs.Flags.{Elements, hasBit}
+use Rattle.flags.specs.Flags.{hasBit}
 use Rattle.flags.specs.Elements.{elementsOf}
 use Rattle.flags.specs.Sentences.{sentencesOfF, sentencesOfG, sentence}
-use Rattle.flags_masks.specs.Wanted.{typeOf, maskOfF, maskOfG, wanted, anyStray, vectorOfF, vectorOfG}
+use Rattle.flags_masks.specs.declared.FlagMasks.{FlagMasks}
+use Rattle.flags_masks.specs.declared.Wanted.{Wanted}
+use Rattle.flags_masks.specs.Wanted.{masksFor, anyStray, only, vectorOfF, vectorOfG}
 
--- both vectors of a scene that is taken
-abbrev pub sceneVectors : List ℕ → Scene → ℕ → ℕ → Vectors
-sceneVectors s sc wantF wantG =
+-- both vectors of a scene that is taken, each with the flags of its own mask
+abbrev pub sceneVectors : List ℕ → Scene → FlagMasks → Vectors
+sceneVectors s sc masks =
     record {
-      f = vectorOfF (elementsOf s (sc .f)) (elementsOf s (sc .g)) wantF wantG;
-      g = vectorOfG (elementsOf s (sc .f)) (elementsOf s (sc .g)) wantF wantG;
+      f = vectorOfF (elementsOf s (sc .f)) (elementsOf s (sc .g)) (masks .f);
+      g = vectorOfG (elementsOf s (sc .f)) (elementsOf s (sc .g)) (masks .g);
     }
 
+-- what is wanted of the scene
+abbrev pub masksIn : Scene → Wanted → FlagMasks
+masksIn sc wanted = masksFor wanted (shapeNumber (sc .f .shape)) (shapeNumber (sc .g .shape))
+
 -- 9, and "For 9 .. it is 0"
-abbrev pub strayWanted : ℕ → ℕ → List ℕ → Scene → Fault
-strayWanted wantF wantG s sc = unless (not (anyStray (shapeNumber (sc .f .shape)) (shapeNumber (sc .g .shape)) wantF wantG)) 0
+abbrev pub strayIn : Scene → FlagMasks → Bool
+strayIn sc masks = anyStray (shapeNumber (sc .f .shape)) (shapeNumber (sc .g .shape)) (masks .f) (masks .g)
+
+abbrev pub strayWanted : Wanted → List ℕ → Scene → Fault
+strayWanted wanted s sc = unless (not (strayIn sc (masksIn sc wanted))) 0
 
 -- "Then 8 to 17 in order": 9 after 8 and before 10. "Number 9 belongs to the vectors question only."
-abbrev pub vectorsRules : ℕ → ℕ → List (Rule Scene)
-vectorsRules wantF wantG = sceneRules (rule 9 (strayWanted wantF wantG) ∷ []) []
+abbrev pub vectorsRules : Wanted → List (Rule Scene)
+vectorsRules wanted = sceneRules (rule 9 (strayWanted wanted) ∷ []) []
 
-abbrev pub checkVectors : List ℕ → ℕ → ℕ → CheckedScene
-checkVectors s wantF wantG = checkSceneBy (vectorsRules wantF wantG) s
+abbrev pub checkVectors : List ℕ → Wanted → CheckedScene
+checkVectors s wanted = checkSceneBy (vectorsRules wanted) s
 
 -- the answer with the scene that was read, and the vectors alone
-abbrev pub answered : List ℕ → ℕ → ℕ → CheckedScene → SceneAnswer
-answered s wantF wantG (CheckedScene.Refused r) = SceneAnswer.Refused r
-answered s wantF wantG (CheckedScene.Taken sc) = SceneAnswer.Taken sc (sceneVectors s sc wantF wantG)
+abbrev pub answered : List ℕ → Wanted → CheckedScene → SceneAnswer
+answered s wanted (CheckedScene.Refused r) = SceneAnswer.Refused r
+answered s wanted (CheckedScene.Taken sc) = SceneAnswer.Taken sc (sceneVectors s sc (masksIn sc wanted))
 
-unfoldable pub answerOf : List ℕ → ℕ → ℕ → SceneAnswer
-answerOf s wantF wantG = answered s wantF wantG (checkVectors s wantF wantG)
+unfoldable pub answerOf : List ℕ → Wanted → SceneAnswer
+answerOf s wanted = answered s wanted (checkVectors s wanted)
 
 abbrev pub vectorsAlone : SceneAnswer → VectorsAnswer
 vectorsAlone (SceneAnswer.Refused r) = VectorsAnswer.Refused r
 vectorsAlone (SceneAnswer.Taken sc v) = VectorsAnswer.Taken v
 
+-- "two 16-bit wanted masks"
+abbrev pub these : ℕ → ℕ → Wanted
+these wantF wantG = Wanted.These (record { f = wantF; g = wantG })
+
 unfoldable pub vectorsOf : List ℕ → ℕ → ℕ → VectorsAnswer
-vectorsOf s wantF wantG = vectorsAlone (answerOf s wantF wantG)
+vectorsOf s wantF wantG = vectorsAlone (answerOf s (these wantF wantG))
 
 -- "Where an answer is an enum, a definition states this paper's number and values for every one of its cases." What is taken has number 0;
 -- "Every refusal has vectors .. 0".
@@ -71,15 +84,19 @@ vectorsValues (VectorsAnswer.Refused r) = record { number = r .number; place = r
 abbrev pub FlagsRight : ℕ → List (Type 0) → ℕ → Type 0
 FlagsRight mask sentences v = (k : ℕ) → T (hasBit v k) ↔ T (hasBit mask k) × sentence sentences k
 
--- both, of the elements that the bytes of the objects stand for
-module _ (F G : Elements) (wantF wantG v w : ℕ) where
-  abbrev pub BothRight : Type 0
-  BothRight =
-      FlagsRight (wanted (maskOfF (typeOf F) (typeOf G)) wantF wantG) (sentencesOfF F G) v
-      × FlagsRight (wanted (maskOfG (typeOf F) (typeOf G)) wantG wantF) (sentencesOfG F G) w
-
 -- Of the bytes, two masks and two vectors: where the scene is taken, "A flag asked for is set if a witness exists, and clear if none does, over all pairs of
--- elements", and "A flag not wanted is 0"
+-- elements", and "A flag not wanted is 0": it is wanted exactly if its own mask has its bit
 abbrev pub NoFlagWrong : List ℕ → ℕ → ℕ → ℕ → ℕ → Type 0
 NoFlagWrong s wantF wantG v w =
-    (sc : Scene) → checkVectors s wantF wantG ≡ CheckedScene.Taken sc → BothRight (elementsOf s (sc .f)) (elementsOf s (sc .g)) wantF wantG v w
+    (sc : Scene) → checkVectors s (these wantF wantG) ≡ CheckedScene.Taken sc
+    → FlagsRight wantF (sentencesOfF (elementsOf s (sc .f)) (elementsOf s (sc .g))) v × FlagsRight wantG (sentencesOfG (elementsOf s (sc .f)) (elementsOf s (sc .g))) w
+
+-- ---- one call for all
+
+-- What two masks get is what is got with all flags wanted, masked: so the flags of one call say what any other call would. 9 alone depends on the masks.
+abbrev pub MaskedFromAll : List ℕ → FlagMasks → Type 0
+MaskedFromAll s masks =
+    (sc : Scene) → checkVectors s (Wanted.These masks) ≡ CheckedScene.Taken sc
+    → (checkVectors s Wanted.All ≡ CheckedScene.Taken sc)
+    × (sceneVectors s sc masks .f ≡ only (masks .f) (sceneVectors s sc (masksIn sc Wanted.All) .f))
+    × (sceneVectors s sc masks .g ≡ only (masks .g) (sceneVectors s sc (masksIn sc Wanted.All) .g))

@@ -3,6 +3,11 @@ use crate::SceneAnswer;
 use crate::Vectors;
 use crate::VectorsAnswer;
 use check_verdict::Verdict;
+use flags_classes::ClassesOfBoth;
+use flags_masks::FlagMasks;
+use flags_masks::Wanted;
+use flags_meetings::Meetings;
+use flags_table::walks;
 use scene::CheckedScene;
 use scene::Fault;
 use scene::Refusal;
@@ -11,41 +16,83 @@ ghost use mathlib.Core.Path.{_≡_};
 ghost use Rattle.scene.specs.declared.CheckedScene.{CheckedScene as Checked};
 ghost use Rattle.scene.specs.Conditions.{checkScene};
 ghost use Prim.Native.Nat.{_≤_};
+ghost use lib.Dec.{T};
 ghost use lib.ListN.{length};
 ghost use Rattle.sweep_laws.specs.Noted.{Noted};
 ghost use Rattle.check_verdict.specs.SharedPoints.{CheckedMeans};
-ghost use Rattle.flags_vectors.specs.Vectors.{sceneVectors, checkVectors, answerOf, vectorsOf, vectorsValues, NoFlagWrong};
+ghost use Rattle.flags_meetings.specs.Met.{meetings};
+ghost use Rattle.flags_classes.specs.Classed.{classesOfF, classesOfG};
+ghost use Rattle.flags_table.specs.Walks.{readsMeetings, readsClasses};
+ghost use Rattle.flags_vectors.specs.Vectors.{sceneVectors, these, checkVectors, answerOf, vectorsOf, vectorsValues, NoFlagWrong};
 
-// The wanted flags of both objects of a scene that is taken, from what the sweep noted.
-fn swept_vectors(s: &[u8], scene: Scene, want_f: u16, want_g: u16, notes: &[u8]) -> Vectors
-    requires { ⌜ (checkScene (now s) ≡ Checked.Taken scene) × (2048 ≤ length (now notes)) × Noted (now s) scene (now notes) ⌝ }
-    ensures { λ r. ⌜ r ≡ sceneVectors (now (s .entry)) scene «want_f» «want_g» ⌝ }
+// How the elements of a scene meet at points, where a wanted flag is read off that.
+fn wanted_meetings(s: &[u8], scene: Scene, masks: FlagMasks, notes: &[u8]) -> Meetings
+    requires { ⌜ (checkScene (now s) ≡ Checked.Taken scene) × (2048 ≤ length (now notes)) ⌝ }
+    ensures { λ r. ⌜ (T (readsMeetings (scene .f .shape) (scene .g .shape) (masks .f) (masks .g)) → r ≡ meetings (now (s .entry)) scene (now (notes .entry))) ⌝ }
 {
     let f = scene.f;
     let g = scene.g;
     let of_f = f.shape;
     let of_g = g.shape;
-    let all = flags_masks::masks_of(of_f, of_g);
-    let mask_f = flags_masks::wanted(all.f, want_f, want_g);
-    let mask_g = flags_masks::wanted(all.g, want_g, want_f);
-    let met = flags_meetings::meetings_of(s, scene, notes);
-    let beside = flags_classes::classes_of(s, scene, notes);
-    Vectors {
-        f: flags_table::flags_of_f(of_f, of_g, met, beside.f) & mask_f,
-        g: flags_table::flags_of_g(of_f, of_g, met, beside.g) & mask_g,
+    if walks::reads_meetings(of_f, of_g, masks.f, masks.g) {
+        flags_meetings::meetings_of(s, scene, notes)
+    } else {
+        flags_meetings::named(0)
     }
 }
 
-// A scene and two wanted masks: taken, with the scene and a vector for each object, or refused with one number and one place.
-pub fn answer(s: &[u8], want_f: u16, want_g: u16) -> SceneAnswer
-    ensures { λ r. ⌜ r ≡ answerOf (now (s .entry)) «want_f» «want_g» ⌝ }
+// The classes of its segments, where a wanted flag is read off those.
+fn wanted_classes(s: &[u8], scene: Scene, masks: FlagMasks, notes: &[u8]) -> ClassesOfBoth
+    requires { ⌜ (checkScene (now s) ≡ Checked.Taken scene) × (2048 ≤ length (now notes)) ⌝ }
+    ensures { λ r. ⌜ (T (readsClasses (scene .f .shape) (scene .g .shape) (masks .f) (masks .g))
+        → (r .f ≡ classesOfF (now (s .entry)) scene (now (notes .entry))) × (r .g ≡ classesOfG (now (s .entry)) scene (now (notes .entry)))) ⌝ }
+{
+    let f = scene.f;
+    let g = scene.g;
+    let of_f = f.shape;
+    let of_g = g.shape;
+    if walks::reads_classes(of_f, of_g, masks.f, masks.g) {
+        flags_classes::classes_of(s, scene, notes)
+    } else {
+        ClassesOfBoth {
+            f: flags_classes::named(0),
+            g: flags_classes::named(0),
+        }
+    }
+}
+
+// The wanted flags of both objects of a scene that is taken, from what the sweep noted.
+fn swept_vectors(s: &[u8], scene: Scene, masks: FlagMasks, notes: &[u8]) -> Vectors
+    requires { ⌜ (checkScene (now s) ≡ Checked.Taken scene) × (2048 ≤ length (now notes)) × Noted (now s) scene (now notes) ⌝ }
+    ensures { λ r. ⌜ r ≡ sceneVectors (now (s .entry)) scene masks ⌝ }
+{
+    let f = scene.f;
+    let g = scene.g;
+    let of_f = f.shape;
+    let of_g = g.shape;
+    let met = wanted_meetings(s, scene, masks, notes);
+    let beside = wanted_classes(s, scene, masks, notes);
+    Vectors {
+        f: flags_table::flags_of_f(of_f, of_g, met, beside.f) & masks.f,
+        g: flags_table::flags_of_g(of_f, of_g, met, beside.g) & masks.g,
+    }
+}
+
+// A scene and what is wanted: taken, with the scene and a vector for each object, or refused with one number and one place.
+pub fn answer(s: &[u8], wanted: Wanted) -> SceneAnswer
+    ensures { λ r. ⌜ r ≡ answerOf (now (s .entry)) wanted ⌝ }
 {
     match scene_reading::read_scene(s) {
         CheckedScene::Refused(r) => SceneAnswer::Refused(r),
         CheckedScene::Taken(scene) => match check_verdict::types_fault(scene) {
             Fault::At(place) => SceneAnswer::Refused(Refusal { number: 8, place }),
             Fault::Nothing => {
-                if flags_masks::any_stray(scene, want_f, want_g) {
+                let f = scene.f;
+                let g = scene.g;
+                let of_f = f.shape;
+                let of_g = g.shape;
+                let masks = flags_masks::masks_for(wanted, of_f, of_g);
+                if flags_masks::any_stray(scene, masks.f, masks.g) {
                     return SceneAnswer::Refused(Refusal {
                         number: 9,
                         place: 0,
@@ -55,7 +102,7 @@ pub fn answer(s: &[u8], want_f: u16, want_g: u16) -> SceneAnswer
                 match check_verdict::noted_verdict(s, scene, &mut notes) {
                     Verdict::Sound => SceneAnswer::Taken {
                         scene,
-                        vectors: swept_vectors(s, scene, want_f, want_g, &notes),
+                        vectors: swept_vectors(s, scene, masks, &notes),
                     },
                     Verdict::Refused(r) => SceneAnswer::Refused(r),
                 }
@@ -64,13 +111,19 @@ pub fn answer(s: &[u8], want_f: u16, want_g: u16) -> SceneAnswer
     }
 }
 
-// The same without the scene; no flag is wrong, and what the verdict says in points.
+// The vectors question: no flag is wrong, and what the verdict says in points.
 pub fn vectors(s: &[u8], want_f: u16, want_g: u16) -> VectorsAnswer
     ensures { λ r. ⌜ (r ≡ vectorsOf (now (s .entry)) «want_f» «want_g»)
         × NoFlagWrong (now (s .entry)) «want_f» «want_g» (vectorsValues r .f) (vectorsValues r .g)
-        × CheckedMeans (now (s .entry)) (checkVectors (now (s .entry)) «want_f» «want_g») ⌝ }
+        × CheckedMeans (now (s .entry)) (checkVectors (now (s .entry)) (these «want_f» «want_g»)) ⌝ }
 {
-    match answer(s, want_f, want_g) {
+    match answer(
+        s,
+        Wanted::These(FlagMasks {
+            f: want_f,
+            g: want_g,
+        }),
+    ) {
         SceneAnswer::Refused(r) => VectorsAnswer::Refused(r),
         SceneAnswer::Taken { scene: _, vectors } => VectorsAnswer::Taken(vectors),
     }

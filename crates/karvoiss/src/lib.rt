@@ -4,7 +4,7 @@ use flags_vectors::VectorsAnswer;
 use flags_vectors::question;
 ghost use mathlib.Core.Path.{_≡_};
 ghost use Rattle.check_verdict.specs.SharedPoints.{CheckedMeans};
-ghost use Rattle.flags_vectors.specs.Vectors.{checkVectors, vectorsOf, NoFlagWrong};
+ghost use Rattle.flags_vectors.specs.Vectors.{these, checkVectors, vectorsOf, NoFlagWrong};
 ghost use Rattle.scene.specs.Conditions.{checkScene};
 ghost use Rattle.cells.specs.Explored.{cellsAnswerOf, NoCellWrong};
 ghost use lib.ListN.{length};
@@ -25,7 +25,7 @@ pub struct KarvoissVectors {
 pub extern "C" fn karvoiss_vectors(scene: &[u8], want_f: u16, want_g: u16) -> KarvoissVectors
     ensures { λ r. ⌜ (r ≡ vectorsForC (vectorsOf (now (scene .entry)) «want_f» «want_g»))
         × NoFlagWrong (now (scene .entry)) «want_f» «want_g» (r .f) (r .g)
-        × CheckedMeans (now (scene .entry)) (checkVectors (now (scene .entry)) «want_f» «want_g») ⌝ }
+        × CheckedMeans (now (scene .entry)) (checkVectors (now (scene .entry)) (these «want_f» «want_g»)) ⌝ }
 {
     match question::vectors(scene, want_f, want_g) {
         VectorsAnswer::Taken(v) => KarvoissVectors {

@@ -1,5 +1,5 @@
-// Asks for the vectors of the scenes of standard input, each `label: bytes;` on lines of its own, with the bytes as document 01 writes them, and writes
-// both vectors of each, or `no`, number and place. All flags are wanted, or those of two masks, F's and G's, before the bytes: `label: [4,0] bytes;`.
+// Asks for the vectors of the scenes of standard input, each `label: [4,0] bytes;` on lines of its own, with the masks of F and of G and the bytes as document
+// 01 writes them, and writes both vectors of each, or `no`, number and place. Without masks nothing is wanted.
 use flags_vectors::VectorsAnswer;
 use flags_vectors::question;
 use libc::STDIN_FILENO;

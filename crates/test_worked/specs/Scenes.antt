@@ -10,7 +10,7 @@ use Rattle.plane.specs.Plane.{within, before, samePoint, sameSegment, ordered, 
 use Rattle.scene.specs.Read.{signed, coordinate, kindOf, shapeOf, recordAt, elementsFrom, readObject, readScene}
 use Rattle.scene.specs.Conditions.{segments, inOrder, outOfOrder, partner, unpaired, touching, touchingItself, oddEnd, wrongIa, checkSceneBy, checkScene}
 use Rattle.flags.specs.Flags.{hasBit}
-use Rattle.flags_masks.specs.Wanted.{wanted, vectorOfF, vectorOfG}
+use Rattle.flags_masks.specs.Wanted.{masksFor, vectorOfF, vectorOfG}
 use Rattle.flags.specs.Elements.{pointsOf, edges}
 use Rattle.cells_matrix.specs.Matrix.{matrixOf}
 use Rattle.cells.specs.Explored.{cellsAnswerOf}
@@ -98,5 +98,5 @@ table =
 
 -- every scene of the table gives its line
 pub twelve-scenes : map (λ r. lineOfScene (r .scene)) table ≡ map (λ r. r .answer) table
-unfolding word P L R points line region box square text _gives_ table lineOfScene cellsAnswerOf matrixOf hasBit wanted vectorOfF vectorOfG pointsOf edges digits decimal okLine noLine lineOf odd within before samePoint sameSegment ordered side dominating farEnd comesBefore sideAt isAt notBefore notAfter on isEnd countsBelow countsBelowLeft onSome inside interiorAbove isBoundary endsAt opposite cross endWithin touch signed coordinate kindOf shapeOf recordAt elementsFrom readObject readScene segments inOrder outOfOrder partner unpaired touching touchingItself oddEnd wrongIa checkSceneBy checkScene
+unfolding word P L R points line region box square text _gives_ table lineOfScene cellsAnswerOf matrixOf hasBit masksFor vectorOfF vectorOfG pointsOf edges digits decimal okLine noLine lineOf odd within before samePoint sameSegment ordered side dominating farEnd comesBefore sideAt isAt notBefore notAfter on isEnd countsBelow countsBelowLeft onSome inside interiorAbove isBoundary endsAt opposite cross endWithin touch signed coordinate kindOf shapeOf recordAt elementsFrom readObject readScene segments inOrder outOfOrder partner unpaired touching touchingItself oddEnd wrongIa checkSceneBy checkScene
 twelve-scenes = refl

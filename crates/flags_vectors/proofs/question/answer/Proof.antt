@@ -2,16 +2,17 @@
 -- sweep's notes.
 use Prim.Native.Nat.{ℕ}
 use native.Mathlib.Omega.{arith}
-use mathlib.Core.Path.{_≡_, sym, _∙_}
+use mathlib.Core.Path.{_≡_, sym, ap, _∙_}
 use mathlib.Core.Bool.{false}
 use mathlib.Core.List.{List}
 use borrow.Author.Needs.{needs}
 use Rattle.scene.specs.Conditions.{typesDescend}
-use Rattle.scene.specs.Read.{shapeNumber, IsScene}
+use Rattle.scene.specs.Read.{IsScene}
 use Rattle.scene.specs.declared.Fault.the-variants.{Nothing}
 use Rattle.scene.specs.declared.Scene.{Scene}
 use Rattle.check_verdict.specs.Refusals.{geometryVerdict}
-use Rattle.flags_masks.specs.Wanted.{anyStray}
+use Rattle.flags_masks.specs.declared.FlagMasks.{FlagMasks}
+use Rattle.flags_vectors.specs.Vectors.{sceneVectors, masksIn, strayIn}
 use Rattle.flags_vectors.proofs.Answered.{unread, descending, stray, at-fault, taken, sound}
 use Rattle.flags_vectors.proofs.question.answer.Statement.{statement}
 use Rattle.flags_vectors.proofs.question.answer.Tie as tie
@@ -30,24 +31,27 @@ module _ (c : tie.After-known-told2) where
   read : IsScene bytes scene
   read = sym (c .before .before .before .read-scene .ensures) ∙ c .before .scene .given .1
 
--- and whose types rise
-module _ (c : tie.After-enum-told) where
+-- and whose types rise, with what is wanted of it
+module _ (c : tie.After-masks-for) where
   abbrev told : tie.After-known-told2
-  told = c .before .before .before
+  told = c .before .before .before .before .before .before
 
   rising : typesDescend (bytes told) (scene told) ≡ Nothing
-  rising = sym (c .before .before .types-fault .ensures (bytes told)) ∙ c .enum-told .given .1
+  rising = sym (c .before .before .before .before .before .types-fault .ensures (bytes told)) ∙ c .before .before .before .enum-told .given .1
+
+  abbrev masks : FlagMasks
+  masks = masksIn (scene told) (z told .args .wanted)
 
 -- and that the sweep was asked about
 module _ (c : tie.After-noted-verdict) where
-  abbrev risen : tie.After-enum-told
+  abbrev risen : tie.After-masks-for
   risen = c .before .before .before .before
 
   abbrev its : tie.After-known-told2
   its = told risen
 
-  tidy : anyStray (shapeNumber (scene its .f .shape)) (shapeNumber (scene its .g .shape)) (z its .args .want-f) (z its .args .want-g) ≡ false
-  tidy = sym (c .before .before .before .any-stray .ensures) ∙ c .before .before .if1 .left
+  tidy : strayIn (scene its) (masks risen) ≡ false
+  tidy = sym (c .before .before .before .any-stray .ensures ∙ ap (strayIn (scene its)) (risen .masks-for .ensures)) ∙ c .before .before .if1 .left
 
   judged : geometryVerdict (bytes its) (scene its) ≡ c .noted-verdict .result
   judged = sym (c .noted-verdict .ensures .1)
@@ -70,6 +74,9 @@ enum-known-place c = search needs
 enum-told : tie.Need-enum-told
 enum-told c = search needs
 
+masks-for-requires : tie.Need-masks-for-requires
+masks-for-requires c κs = search needs
+
 any-stray-requires : tie.Need-any-stray-requires
 any-stray-requires c κs = search needs
 
@@ -77,7 +84,7 @@ returns : tie.Need-returns
 returns c =
     let e = c .before .before in
     let d = told e in
-    stray (bytes d) (scene d) (read d) (z d .args .want-f) (z d .args .want-g) (rising e) (sym (c .before .any-stray .ensures) ∙ c .if1 .taken)
+    stray (bytes d) (scene d) (read d) (z d .args .wanted) (rising e) (sym (c .before .any-stray .ensures ∙ ap (strayIn (scene d)) (e .masks-for .ensures)) ∙ c .if1 .taken)
 
 slice-aggregate-noted-verdict : tie.Need-slice-aggregate-noted-verdict
 slice-aggregate-noted-verdict c = search needs
@@ -105,25 +112,25 @@ returns-2 : tie.Need-returns-2
 returns-2 c =
     let d = c .before .before .before in
     let z = d .before .before .args in
-    unread (z .s .now) (z .want-f) (z .want-g) (c .before .r .given .0 .0) (sym (d .read-scene .ensures) ∙ c .before .r .given .1)
+    unread (z .s .now) (z .wanted) (c .before .r .given .0 .0) (sym (d .read-scene .ensures) ∙ c .before .r .given .1)
 
 returns-3 : tie.Need-returns-3
 returns-3 c =
     let t = c .before .before .before in
     let d = t .before in
-    descending (bytes d) (scene d) (read d) (z d .args .want-f) (z d .args .want-g) (c .before .place .given .0 .0) (sym (t .types-fault .ensures (bytes d)) ∙ c .before .place .given .1)
+    descending (bytes d) (scene d) (read d) (z d .args .wanted) (c .before .place .given .0 .0) (sym (t .types-fault .ensures (bytes d)) ∙ c .before .place .given .1)
 
 returns-4 : tie.Need-returns-4
 returns-4 c =
     let n = c .before .before .before .before .before in
     let d = its n in
-    taken (bytes d) (scene d) (read d) (z d .args .want-f) (z d .args .want-g) (rising (risen n)) (tidy n) (judged n ∙ c .before .before .enum-told2 .given .1) (c .swept-vectors .ensures)
+    taken (bytes d) (scene d) (read d) (z d .args .wanted) (rising (risen n)) (tidy n) (judged n ∙ c .before .before .enum-told2 .given .1) (c .swept-vectors .ensures ∙ ap (sceneVectors (bytes d) (scene d)) (risen n .masks-for .ensures))
 
 returns-5 : tie.Need-returns-5
 returns-5 c =
     let n = c .before .before .before .before in
     let d = its n in
-    at-fault (bytes d) (scene d) (read d) (z d .args .want-f) (z d .args .want-g) (rising (risen n)) (tidy n) (c .before .r2 .given .0 .0) (judged n ∙ c .before .r2 .given .1)
+    at-fault (bytes d) (scene d) (read d) (z d .args .wanted) (rising (risen n)) (tidy n) (c .before .r2 .given .0 .0) (judged n ∙ c .before .r2 .given .1)
 
 pub answer-spec : {M : Type 1} → statement M
 answer-spec =
@@ -135,6 +142,7 @@ answer-spec =
     types-fault-requires
     enum-known-place
     enum-told
+    masks-for-requires
     any-stray-requires
     returns
     slice-aggregate-noted-verdict

@@ -5,13 +5,13 @@ use mathlib.Core.List.{List}
 use borrow.Author.Needs.{needs}
 use Rattle.flags_vectors.specs.declared.SceneAnswer.{SceneAnswer}
 use Rattle.check_verdict.specs.SharedPoints.{CheckedMeans}
-use Rattle.flags_vectors.specs.Vectors.{checkVectors, vectorsAlone, answerOf, vectorsOf, vectorsValues, NoFlagWrong}
+use Rattle.flags_vectors.specs.Vectors.{these, checkVectors, vectorsAlone, answerOf, vectorsOf, vectorsValues, NoFlagWrong}
 use Rattle.flags_vectors.proofs.NoFlagWrong.{with-meaning}
 use Rattle.flags_vectors.proofs.question.vectors.Statement.{statement}
 use Rattle.flags_vectors.proofs.question.vectors.Tie as tie
 
-shown-as : (s : List ℕ) (f g : ℕ) {a b : SceneAnswer} → a ≡ answerOf s f g → a ≡ b
-    → (vectorsAlone b ≡ vectorsOf s f g) × NoFlagWrong s f g (vectorsValues (vectorsAlone b) .f) (vectorsValues (vectorsAlone b) .g) × CheckedMeans s (checkVectors s f g)
+shown-as : (s : List ℕ) (f g : ℕ) {a b : SceneAnswer} → a ≡ answerOf s (these f g) → a ≡ b
+    → (vectorsAlone b ≡ vectorsOf s f g) × NoFlagWrong s f g (vectorsValues (vectorsAlone b) .f) (vectorsValues (vectorsAlone b) .g) × CheckedMeans s (checkVectors s (these f g))
 unfolding vectorsOf
 shown-as s f g e q = with-meaning s f g (ap vectorsAlone (sym q ∙ e))
 
