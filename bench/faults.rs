@@ -1,8 +1,7 @@
 //! Scenes of full size that are turned away for a fault near their end: everything before it is in order, so all of it must be looked at.
 
-use crate::maker::PAIRS;
 use crate::plane::{Point, Segment};
-use crate::rows::{full_pair, FULL};
+use crate::rows::{full_pair, EITHER_ORDER, FULL};
 use crate::scene::{scene_bytes, Half, Object, LINE, MOST, POINTS, REGION};
 use crate::shapes::{middle, ring, FAMILIES};
 
@@ -14,7 +13,7 @@ pub struct Fault {
 /// Every fault that a pair of types can have, in every family and in a random scene.
 pub fn all() -> Vec<Fault> {
     let mut faults = Vec::new();
-    for kinds in PAIRS {
+    for kinds in EITHER_ORDER {
         for family in &FAMILIES {
             // a little room, for what is added
             let scene = family.scene(kinds, FULL - 16);
@@ -43,7 +42,7 @@ fn of_scene(name: &str, (f, g): &(Object, Object)) -> Vec<Fault> {
         add(f, &with_odd_end(g));
         add(f, &with_wrong_ia(g));
     }
-    if f.kind != POINTS && f.halves.len() + 6 <= MOST {
+    if f.kind != POINTS && g.kind != POINTS && f.halves.len() + 6 <= MOST {
         add(&crossing(f, g), g);
     }
     faults

@@ -22,12 +22,21 @@ pub fn some_pair(random: &mut Random) -> (u8, u8) {
     }
 }
 
+/// A scene of a pair in either order, made with the lower type first and exchanged if the higher one is wanted first.
+pub fn in_either_order(kinds: (u8, u8), make: impl FnOnce((u8, u8)) -> (Object, Object)) -> (Object, Object) {
+    if kinds.0 <= kinds.1 {
+        return make(kinds);
+    }
+    let (lower, higher) = make((kinds.1, kinds.0));
+    (higher, lower)
+}
+
 /// A scene on a small plan.
 pub fn small(random: &mut Random, kinds: (u8, u8)) -> (Object, Object) {
-    if kinds.0 > kinds.1 {
-        let (lower, higher) = small(random, (kinds.1, kinds.0));
-        return (higher, lower);
-    }
+    in_either_order(kinds, |kinds| small_ascending(random, kinds))
+}
+
+fn small_ascending(random: &mut Random, kinds: (u8, u8)) -> (Object, Object) {
     let plan = Plan::small(random);
     let chosen = match kinds {
         (POINTS, POINTS) => return points_points(random, &plan),
@@ -52,6 +61,10 @@ pub fn small(random: &mut Random, kinds: (u8, u8)) -> (Object, Object) {
 
 /// A scene whose objects have 1,024 elements each, but for a line now and then that is small beside a full object.
 pub fn full(random: &mut Random, kinds: (u8, u8)) -> (Object, Object) {
+    in_either_order(kinds, |kinds| full_ascending(random, kinds))
+}
+
+fn full_ascending(random: &mut Random, kinds: (u8, u8)) -> (Object, Object) {
     let plan = Plan::large(random);
     let mut fill = |kind: u8| {
         let edges = match kind {
