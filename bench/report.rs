@@ -116,38 +116,38 @@ fn growth(results: &Results) -> String {
     text
 }
 
-/// A time of a row whose first type is above the second, over that of the same two objects the other way round.
-fn over_ascending(results: &Results, family: &str, (f, g): (u8, u8), size: usize, time: fn(&Times) -> f64) -> Option<f64> {
-    let [descending, ascending] = [(f, g), (g, f)].map(|kinds| results.times.get(&name(family, kinds, size)));
-    (f > g).then_some(time(descending?) / time(ascending?))
+/// What a row measures, by its name.
+type Measured<'a> = &'a dyn Fn(&str) -> Option<f64>;
+
+/// A measure of a row whose first type is above the second, over that of the same two objects the other way round.
+fn over_ascending(family: &str, (f, g): (u8, u8), size: usize, measured: Measured) -> Option<f64> {
+    let [descending, ascending] = [(f, g), (g, f)].map(|kinds| measured(&name(family, kinds, size)));
+    (f > g).then_some(descending? / ascending?)
 }
 
 fn either_order(results: &Results) -> String {
     let mut text = String::from(
         "### Either order\n\nThe higher type first, over the same two objects with the lower type first. At most a tenth apart was wanted.\n\n\
-         | our time | segments | rows | median | least | most | rows more than a tenth apart |\n|---|---|---|---|---|---|---|\n",
+         | ours | segments | rows | median | least | most | rows more than a tenth apart |\n|---|---|---|---|---|---|---|\n",
     );
-    let mut line = |what: &str, size: usize, time: fn(&Times) -> f64| {
-        let ratio =
-            |(family, kinds, _): &(&str, (u8, u8), Times)| Some((title(family, *kinds), over_ascending(results, family, *kinds, size, time)?));
+    let mut line = |what: &str, size: usize, measured: Measured| {
+        let ratio = |(family, kinds, _): &(&str, (u8, u8), Times)| Some((title(family, *kinds), over_ascending(family, *kinds, size, measured)?));
         let all: Vec<(String, f64)> = rows(results, size).iter().filter_map(ratio).collect();
         let ratios: Vec<f64> = all.iter().map(|(_, ratio)| *ratio).collect();
         let apart = ratios.iter().filter(|ratio| **ratio > 1.1 || **ratio < 1.0 / 1.1).count();
         let (least_name, least) = all.iter().min_by(|a, b| a.1.total_cmp(&b.1)).expect("there are rows");
         let (most_name, most) = worst(&all);
-        let _ = writeln!(
-            text,
-            "| {what} | {size} | {} | {:.3} | {least:.2}, {least_name} | {most:.2}, {most_name} | {apart} |",
-            all.len(),
-            median(&ratios)
-        );
+        let extremes = format!("{least:.2}, {least_name} | {most:.2}, {most_name}");
+        let _ = writeln!(text, "| {what} | {size} | {} | {:.3} | {extremes} | {apart} |", all.len(), median(&ratios));
     };
+    let times = &results.times;
     for size in SIZES {
-        line("(a) cells", size, |times| times.cells);
+        line("(a) cells", size, &|row| Some(times.get(row)?.cells));
     }
-    line("(v) vectors", FULL, |times| times.vectors);
-    line("(z) vectors under two zero masks", FULL, |times| times.nothing);
-    line("(k) check alone", FULL, |times| times.check);
+    line("(a) counted in instructions", FULL, &|row| results.counts[0].get(row).map(|count| *count as f64));
+    line("(v) vectors", FULL, &|row| Some(times.get(row)?.vectors));
+    line("(z) vectors under two zero masks", FULL, &|row| Some(times.get(row)?.nothing));
+    line("(k) check alone", FULL, &|row| Some(times.get(row)?.check));
     text
 }
 
@@ -173,7 +173,8 @@ fn table(results: &Results) -> String {
         let peers = [times.new, times.old].map(|p| format!("{} | {}", peer(p.whole, p.right), peer(p.relate, p.right)));
         let ratio = times.ratio().map_or("-".to_string(), |ratio| format!("{ratio:.3}"));
         let counted = |which: usize| results.counts[which].get(&name(family, kinds, FULL)).map_or("-".to_string(), |count| millions(*count));
-        let turned = over_ascending(results, family, kinds, FULL, |times| times.cells).map_or(String::new(), |ratio| format!("{ratio:.2}"));
+        let turned =
+            over_ascending(family, kinds, FULL, &|row| Some(results.times.get(row)?.cells)).map_or(String::new(), |ratio| format!("{ratio:.2}"));
         let [cells, rest] = [short(times.cells), [times.vectors, times.nothing, times.check].map(short).join(" | ")];
         let ours = format!("{cells} | {turned} | {rest}");
         let _ =
@@ -211,7 +212,7 @@ fn in_turn(results: &Results) -> String {
 
 fn faults(results: &Results) -> String {
     let mut text = String::from(
-        "### Scenes that are turned away, and the slowest input\n\nScenes of full size with a fault near the end, in every family and pair of types: \
+        "### Scenes that are turned away, and the slowest input\n\nScenes of full size with a fault near the end of an object, in every family and pair of types: \
          our slowest answer by the refusal's number.\n\n| number | scenes | slowest | scene |\n|---|---|---|---|\n",
     );
     for number in 10..=15 {
