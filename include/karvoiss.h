@@ -79,8 +79,8 @@ extern "C" {
 #endif
 
 /* The stack that each call needs at most, in bytes. No call recurses, and each
- * was measured on scenes of full size, of every pair of types, to need about
- * 5,600 bytes; the numbers leave room for other compilers.
+ * was measured on scenes of full size, of every pair of types in either order,
+ * to need about 5,600 bytes; the numbers leave room for other compilers.
  */
 #define KARVOISS_VECTORS_STACK 11200
 #define KARVOISS_CELLS_STACK 11200

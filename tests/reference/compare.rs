@@ -69,6 +69,7 @@ pub fn ask(case: &Case, rules: &Rules, tally: &mut Tally) -> Result<(), String> 
         if others != answers.exchanged(f.kind, g.kind) {
             return Err(failure(case, &case.bytes, &format!("the engine answers {answers:?},\nbut {others:?} with F and G exchanged")));
         }
+        tally.both_ways += 1;
     }
     Ok(())
 }

@@ -28,6 +28,8 @@ const FLAG_NAMES: [(&str, &str); 6] = [
 pub struct Tally {
     pub scenes: usize,
     pub questions: usize,
+    /// Pairs of objects that were asked about in both orders, with answers that agree.
+    pub both_ways: usize,
     taken: usize,
     full_size: usize,
     at_limit: usize,
@@ -77,8 +79,8 @@ impl Tally {
     pub fn report(&self, complete: bool) -> Vec<String> {
         let mut wrong = Vec::new();
         println!(
-            "{} scenes, {} taken ({} with 1,024 elements, {} at the limits), {} questions",
-            self.scenes, self.taken, self.full_size, self.at_limit, self.questions
+            "{} scenes, {} pairs both ways, {} taken ({} with 1,024 elements, {} at the limits), {} questions",
+            self.scenes, self.both_ways, self.taken, self.full_size, self.at_limit, self.questions
         );
         let times = |number| *self.refusals.get(&number).unwrap_or(&0);
         println!("refusals: {}", (1..=17).map(|number| format!("{}: {}", number, times(number))).collect::<Vec<_>>().join("  "));
