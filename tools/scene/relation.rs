@@ -1,5 +1,6 @@
 //! What a planner would call the way F lies to G, by the nine cells: the eight names of regions, carried over to points and lines, with
-//! "cross", "on boundary" and "has on boundary" where dimensions differ. Lines that share interior points cross, unless they share a segment: then they overlap.
+//! "cross", "on boundary" and "has on boundary" where dimensions differ. Lines that share interior points cross, unless they share a
+//! segment: then they overlap.
 
 use crate::answer::{Cells, Taken};
 use crate::bytes::Kind;
