@@ -5,11 +5,11 @@ use crate::cells::{matrix, Matrix};
 use crate::flags::line_boundary;
 use crate::geos::{bench_geos_from_bytes, Geos, Parts};
 use crate::library;
-use crate::maker::{full, small, PAIRS};
+use crate::maker::{full, small};
 use crate::mistakes::{Rules, RIGHT};
 use crate::plane::{inside, Fraction, Point};
 use crate::random::Random;
-use crate::rows;
+use crate::rows::{self, EITHER_ORDER};
 use crate::scene::{read_scene, scene_bytes, Half, Object, LINE};
 
 /// Random scenes of each pair of types: small ones, and ones of full size.
@@ -28,7 +28,7 @@ struct Tally {
 pub fn run(geos: &Geos) -> bool {
     let version = Geos::version();
     let mut good = true;
-    for kinds in PAIRS {
+    for kinds in EITHER_ORDER {
         let mut tally = Tally::default();
         for row in rows::all().iter().filter(|row| row.kinds == kinds) {
             one(geos, &version, &row.name(), &row.bytes, &mut tally);

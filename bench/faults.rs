@@ -1,8 +1,8 @@
-//! Scenes of full size that are turned away for a fault near their end: everything before it is in order, so all of it must be looked at.
+//! Scenes of full size that are turned away for a fault near the end of an object: everything before it is in order, so all of it must be looked at.
 
-use crate::maker::PAIRS;
+use crate::mistakes::Order;
 use crate::plane::{Point, Segment};
-use crate::rows::{full_pair, FULL};
+use crate::rows::{full_pair, EITHER_ORDER, FULL};
 use crate::scene::{scene_bytes, Half, Object, LINE, MOST, POINTS, REGION};
 use crate::shapes::{middle, ring, FAMILIES};
 
@@ -14,7 +14,7 @@ pub struct Fault {
 /// Every fault that a pair of types can have, in every family and in a random scene.
 pub fn all() -> Vec<Fault> {
     let mut faults = Vec::new();
-    for kinds in PAIRS {
+    for kinds in EITHER_ORDER {
         for family in &FAMILIES {
             // a little room, for what is added
             let scene = family.scene(kinds, FULL - 16);
@@ -31,20 +31,25 @@ fn with_room((f, g): (Object, Object)) -> (Object, Object) {
     (smaller(f), smaller(g))
 }
 
+/// The faults are the same in either order: 10 to 14 in the object of the higher type, 15 between the two.
 fn of_scene(name: &str, (f, g): &(Object, Object)) -> Vec<Fault> {
+    let [lower, higher] = Order::Ascending.of([f, g]);
     let mut faults = Vec::new();
-    let mut add = |f: &Object, g: &Object| faults.push(Fault { name: name.to_string(), bytes: scene_bytes(f, g) });
-    add(f, &out_of_order(g));
-    if g.kind != POINTS {
-        add(f, &without_partner(g));
-        add(f, &touching(g));
+    let mut add = |lower: &Object, higher: &Object| {
+        let bytes = if f.kind > g.kind { scene_bytes(higher, lower) } else { scene_bytes(lower, higher) };
+        faults.push(Fault { name: name.to_string(), bytes });
+    };
+    add(lower, &out_of_order(higher));
+    if higher.kind != POINTS {
+        add(lower, &without_partner(higher));
+        add(lower, &touching(higher));
     }
-    if g.kind == REGION {
-        add(f, &with_odd_end(g));
-        add(f, &with_wrong_ia(g));
+    if higher.kind == REGION {
+        add(lower, &with_odd_end(higher));
+        add(lower, &with_wrong_ia(higher));
     }
-    if f.kind != POINTS && f.halves.len() + 6 <= MOST {
-        add(&crossing(f, g), g);
+    if lower.kind != POINTS && lower.halves.len() + 6 <= MOST {
+        add(&crossing(lower, higher), higher);
     }
     faults
 }
@@ -110,10 +115,10 @@ fn with_wrong_ia(region: &Object) -> Object {
     spoilt
 }
 
-/// F has a segment more, or a small triangle, with a corner at the midpoint of G's last segment.
-fn crossing(f: &Object, g: &Object) -> Object {
-    let corners = [(0, 0), (2, 4), (4, 2)].map(|by| beside_last(g, by));
-    let mut segments = f.segments();
-    segments.extend(if f.kind == REGION { ring(&corners) } else { vec![Segment::between(corners[0], corners[1])] });
-    Object::of_segments(f.kind, &segments)
+/// One object has a segment more, or a small triangle, with a corner at the midpoint of the other's last segment.
+fn crossing(object: &Object, other: &Object) -> Object {
+    let corners = [(0, 0), (2, 4), (4, 2)].map(|by| beside_last(other, by));
+    let mut segments = object.segments();
+    segments.extend(if object.kind == REGION { ring(&corners) } else { vec![Segment::between(corners[0], corners[1])] });
+    Object::of_segments(object.kind, &segments)
 }

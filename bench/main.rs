@@ -59,9 +59,9 @@ use compare::boundary_outside;
 use damage::damaged;
 use flags::all_flags;
 use geos::{bench_geos_from_bytes, Geos, Pair, Parts};
-use maker::{full, PAIRS};
+use maker::full;
 use random::Random;
-use rows::Row;
+use rows::{Row, EITHER_ORDER};
 use scene::{read_scene, scene_bytes};
 use std::hint::black_box;
 use std::path::Path;
@@ -171,9 +171,10 @@ fn columns(times: &[f64]) -> String {
     times.iter().map(|time| format!("{time:.3}")).collect::<Vec<_>>().join(" ")
 }
 
-/// One pass over all rows, ours alone.
+/// One pass over all rows, ours alone. An archive of before 0.3.0 refuses a first type above the second: such a row has no time then.
 fn ours() -> bool {
-    for row in rows::all() {
+    let is_taken = |row: &Row| library::cells(&row.bytes).is_ok_and(|answer| answer.number == 0);
+    for row in rows::all().into_iter().filter(is_taken) {
         println!("row {} {}", row.name(), columns(&our_times(&row)));
     }
     true
@@ -196,7 +197,7 @@ fn time(with_ours: bool) -> bool {
 /// Different random scenes of full size, asked one after another: a scene that is asked again and again is one whose branches the processor knows.
 fn turns() -> bool {
     let geos = Geos::new();
-    for kinds in PAIRS {
+    for kinds in EITHER_ORDER {
         let scene = |seed| {
             let (f, g) = full(&mut Random::new(seed), kinds);
             scene_bytes(&f, &g)
@@ -218,7 +219,7 @@ fn turns() -> bool {
 /// Scenes with a fault, then random scenes of full size, each as it is and damaged: the word that the outputs have for it, name and bytes.
 fn other_scenes() -> Vec<(&'static str, String, Vec<u8>)> {
     let mut scenes: Vec<_> = faults::all().into_iter().map(|fault| ("fault", fault.name, fault.bytes)).collect();
-    for kinds in PAIRS {
+    for kinds in EITHER_ORDER {
         for seed in 0..LOOKED_THROUGH {
             let mut random = Random::new(seed);
             let (f, g) = full(&mut random, kinds);

@@ -1,4 +1,5 @@
-//! The picture of the ratios: a line for each family, a dot for each pair of types, our time over that of GEOS from left to right.
+//! The picture of the ratios: a line for each family, a dot for each pair of types, our time over that of GEOS from left to right. A ring is a pair with
+//! the higher type first.
 
 use crate::maker::PAIRS;
 use crate::report::{families, rows};
@@ -60,13 +61,20 @@ pub fn svg(results: &Results) -> String {
     for (i, kinds) in PAIRS.iter().enumerate() {
         text(legend(i) + 9.0, 42.0, "start", &format!("{}, {}", kind_name(kinds.0), kind_name(kinds.1)));
     }
+    text(RIGHT + MARGIN - 8.0, bottom + 36.0, "end", "rings: the other way round");
     for decade in scale.low..=scale.high {
         let (x, colour) = (scale.across(10f64.powi(decade)), if decade == 0 { "#222222" } else { "#dddddd" });
         let _ = writeln!(svg, "<line x1=\"{x:.1}\" y1=\"{}\" x2=\"{x:.1}\" y2=\"{bottom}\" stroke=\"{colour}\"/>", TOP - 8.0);
     }
     let mut dot = |x: f64, y: f64, kinds: (u8, u8)| {
-        let colour = COLOURS[PAIRS.iter().position(|pair| *pair == kinds).unwrap_or(0)];
-        let _ = writeln!(svg, "<circle cx=\"{x:.1}\" cy=\"{y:.1}\" r=\"4.5\" fill=\"{colour}\" fill-opacity=\"0.8\"/>");
+        let ascending = (kinds.0.min(kinds.1), kinds.0.max(kinds.1));
+        let colour = COLOURS[PAIRS.iter().position(|pair| *pair == ascending).unwrap_or(0)];
+        let style = if kinds == ascending {
+            format!("r=\"4.5\" fill=\"{colour}\" fill-opacity=\"0.8\"")
+        } else {
+            format!("r=\"6.5\" fill=\"none\" stroke=\"{colour}\"")
+        };
+        let _ = writeln!(svg, "<circle cx=\"{x:.1}\" cy=\"{y:.1}\" {style}/>");
     };
     for (i, kinds) in PAIRS.iter().enumerate() {
         dot(legend(i), 38.0, *kinds);

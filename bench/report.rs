@@ -1,9 +1,8 @@
 //! The measured part of docs/BENCH.md, everything after its marker, written from the runs' outputs.
 
-use crate::maker::PAIRS;
 use crate::picture;
 use crate::results::{read, Compared, Other, Results, Times, Turns};
-use crate::rows::{kind_name, name, FULL, RANDOM, SIZES};
+use crate::rows::{kind_name, name, EITHER_ORDER, FULL, RANDOM, SIZES};
 use crate::shapes::{Family, FAMILIES};
 use std::fmt::Write as _;
 use std::io;
@@ -30,7 +29,7 @@ pub fn families() -> Vec<&'static str> {
 pub fn rows(results: &Results, size: usize) -> Vec<(&'static str, (u8, u8), Times)> {
     let mut rows = Vec::new();
     for family in families() {
-        rows.extend(PAIRS.iter().filter_map(|kinds| results.times.get(&name(family, *kinds, size)).map(|times| (family, *kinds, *times))));
+        rows.extend(EITHER_ORDER.iter().filter_map(|kinds| results.times.get(&name(family, *kinds, size)).map(|times| (family, *kinds, *times))));
     }
     rows
 }
@@ -41,6 +40,7 @@ fn measured(results: &Results) -> String {
         format!("Last run: one core of {}, GEOS {new} and {old}, times in microseconds.\n", results.processor),
         summary(results),
         growth(results),
+        either_order(results),
         table(results),
         in_turn(results),
         faults(results),
@@ -107,12 +107,47 @@ fn growth(results: &Results) -> String {
          | family | what it is | 16 | 128 | 512 | 128 to 512 |\n|---|---|---|---|---|---|\n",
     );
     let time = |family: &str, kinds: (u8, u8), size: usize| results.times[&name(family, kinds, size)].cells;
-    let most = |values: [f64; 6]| values.into_iter().fold(0.0, f64::max);
+    let most = |values: [f64; 9]| values.into_iter().fold(0.0, f64::max);
     for Family { name: family, says, .. } in &FAMILIES {
-        let [small, middle, large] = SIZES.map(|size| most(PAIRS.map(|kinds| time(family, kinds, size))));
-        let growth = most(PAIRS.map(|kinds| time(family, kinds, 512) / time(family, kinds, 128)));
+        let [small, middle, large] = SIZES.map(|size| most(EITHER_ORDER.map(|kinds| time(family, kinds, size))));
+        let growth = most(EITHER_ORDER.map(|kinds| time(family, kinds, 512) / time(family, kinds, 128)));
         let _ = writeln!(text, "| {family} | {says} | {small:.2} | {middle:.1} | {large:.0} | {growth:.1} |");
     }
+    text
+}
+
+/// What a row measures, by its name.
+type Measured<'a> = &'a dyn Fn(&str) -> Option<f64>;
+
+/// A measure of a row whose first type is above the second, over that of the same two objects the other way round.
+fn over_ascending(family: &str, (f, g): (u8, u8), size: usize, measured: Measured) -> Option<f64> {
+    let [descending, ascending] = [(f, g), (g, f)].map(|kinds| measured(&name(family, kinds, size)));
+    (f > g).then_some(descending? / ascending?)
+}
+
+fn either_order(results: &Results) -> String {
+    let mut text = String::from(
+        "### Either order\n\nThe higher type first, over the same two objects with the lower type first. At most a tenth apart was wanted.\n\n\
+         | ours | segments | rows | median | least | most | rows more than a tenth apart |\n|---|---|---|---|---|---|---|\n",
+    );
+    let mut line = |what: &str, size: usize, measured: Measured| {
+        let ratio = |(family, kinds, _): &(&str, (u8, u8), Times)| Some((title(family, *kinds), over_ascending(family, *kinds, size, measured)?));
+        let all: Vec<(String, f64)> = rows(results, size).iter().filter_map(ratio).collect();
+        let ratios: Vec<f64> = all.iter().map(|(_, ratio)| *ratio).collect();
+        let apart = ratios.iter().filter(|ratio| **ratio > 1.1 || **ratio < 1.0 / 1.1).count();
+        let (least_name, least) = all.iter().min_by(|a, b| a.1.total_cmp(&b.1)).expect("there are rows");
+        let (most_name, most) = worst(&all);
+        let extremes = format!("{least:.2}, {least_name} | {most:.2}, {most_name}");
+        let _ = writeln!(text, "| {what} | {size} | {} | {:.3} | {extremes} | {apart} |", all.len(), median(&ratios));
+    };
+    let times = &results.times;
+    for size in SIZES {
+        line("(a) cells", size, &|row| Some(times.get(row)?.cells));
+    }
+    line("(a) counted in instructions", FULL, &|row| results.counts[0].get(row).map(|count| *count as f64));
+    line("(v) vectors", FULL, &|row| Some(times.get(row)?.vectors));
+    line("(z) vectors under two zero masks", FULL, &|row| Some(times.get(row)?.nothing));
+    line("(k) check alone", FULL, &|row| Some(times.get(row)?.check));
     text
 }
 
@@ -127,17 +162,21 @@ fn short(time: f64) -> String {
 fn table(results: &Results) -> String {
     let [new, old] = &results.versions;
     let mut text = format!(
-        "### Every row at 512 segments\n\n(a) our cells from bytes; (v) our vectors, all flags wanted; (z) our vectors under two zero masks; (k) our check alone; (b) GEOS from the same bytes; (c) GEOS relate alone. \
-         A time in brackets belongs to other cells than ours.\n\n\
-         | family | types | (a) | (v) | (z) | (k) | (b) {new} | (c) {new} | (b) {old} | (c) {old} | (a)/(b) {new} | instructions (a) | (b) {new} |\n\
-         |---|---|---|---|---|---|---|---|---|---|---|---|---|\n"
+        "### Every row at 512 segments\n\n(a) our cells from bytes; (v) our vectors, all flags wanted; (z) our vectors under two zero masks; (k) our check alone; (b) GEOS from the same bytes, \
+         the objects in the same order; (c) GEOS relate alone. A time in brackets belongs to other cells than ours. \"Turned\", where the higher type comes first: (a) over (a) of the row above, \
+         which holds the same two objects.\n\n\
+         | family | types | (a) | turned | (v) | (z) | (k) | (b) {new} | (c) {new} | (b) {old} | (c) {old} | (a)/(b) {new} | instructions (a) | (b) {new} |\n\
+         |---|---|---|---|---|---|---|---|---|---|---|---|---|---|\n"
     );
     for (family, kinds, times) in rows(results, FULL) {
         let peer = |time: f64, right: bool| if right { short(time) } else { format!("({})", short(time)) };
         let peers = [times.new, times.old].map(|p| format!("{} | {}", peer(p.whole, p.right), peer(p.relate, p.right)));
         let ratio = times.ratio().map_or("-".to_string(), |ratio| format!("{ratio:.3}"));
         let counted = |which: usize| results.counts[which].get(&name(family, kinds, FULL)).map_or("-".to_string(), |count| millions(*count));
-        let ours = [times.cells, times.vectors, times.nothing, times.check].map(short).join(" | ");
+        let turned =
+            over_ascending(family, kinds, FULL, &|row| Some(results.times.get(row)?.cells)).map_or(String::new(), |ratio| format!("{ratio:.2}"));
+        let [cells, rest] = [short(times.cells), [times.vectors, times.nothing, times.check].map(short).join(" | ")];
+        let ours = format!("{cells} | {turned} | {rest}");
         let _ =
             writeln!(text, "| {family} | {} | {ours} | {} | {} | {ratio} | {} | {} |", pair_name(kinds), peers[0], peers[1], counted(0), counted(1));
     }
@@ -173,7 +212,7 @@ fn in_turn(results: &Results) -> String {
 
 fn faults(results: &Results) -> String {
     let mut text = String::from(
-        "### Scenes that are turned away, and the slowest input\n\nScenes of full size with a fault near the end, in every family and pair of types: \
+        "### Scenes that are turned away, and the slowest input\n\nScenes of full size with a fault near the end of an object, in every family and pair of types: \
          our slowest answer by the refusal's number.\n\n| number | scenes | slowest | scene |\n|---|---|---|---|\n",
     );
     for number in 10..=15 {

@@ -1,12 +1,25 @@
-//! The rows of the measurement: every family with every pair of types in three sizes, and random scenes of full size.
+//! The rows of the measurement: every family with every pair of types, in either order, in three sizes, and random scenes of full size.
 
-use crate::maker::{full, PAIRS};
+use crate::maker::full;
 use crate::random::Random;
-use crate::scene::{scene_bytes, Object, LINE, MOST, POINTS};
+use crate::scene::{scene_bytes, Object, LINE, MOST, POINTS, REGION};
 use crate::shapes::FAMILIES;
 
 pub const SIZES: [usize; 3] = [16, 128, FULL];
 pub const FULL: usize = MOST / 2;
+
+/// The pairs of types as the tables have them: a pair with the higher type first comes right after the same two objects the other way round.
+pub const EITHER_ORDER: [(u8, u8); 9] = [
+    (POINTS, POINTS),
+    (POINTS, LINE),
+    (LINE, POINTS),
+    (POINTS, REGION),
+    (REGION, POINTS),
+    (LINE, LINE),
+    (LINE, REGION),
+    (REGION, LINE),
+    (REGION, REGION),
+];
 
 /// The family of the random scenes: parts of one network of squares and triangles.
 pub const RANDOM: &str = "random";
@@ -32,11 +45,11 @@ pub fn name(family: &str, kinds: (u8, u8), size: usize) -> String {
 pub fn all() -> Vec<Row> {
     let mut rows = Vec::new();
     for family in &FAMILIES {
-        for kinds in PAIRS {
+        for kinds in EITHER_ORDER {
             rows.extend(SIZES.map(|size| row(family.name, kinds, size, family.scene(kinds, size))));
         }
     }
-    rows.extend(PAIRS.map(|kinds| row(RANDOM, kinds, FULL, full_pair(kinds))));
+    rows.extend(EITHER_ORDER.map(|kinds| row(RANDOM, kinds, FULL, full_pair(kinds))));
     rows
 }
 

@@ -1,6 +1,7 @@
 //! The families of scenes that are measured: for each the outlines of F and of G with some number of segments. All coordinates are even, so
 //! that every midpoint is whole; circles are made with the four operations alone, so that a family is the same on every machine.
 
+use crate::maker::in_either_order;
 use crate::plane::{Point, Segment};
 use crate::scene::{Object, LINE, POINTS};
 
@@ -35,8 +36,13 @@ pub const FAMILIES: [Family; 12] = [
 ];
 
 impl Family {
-    /// A scene of this family: objects of the given types, each from an outline of n segments.
+    /// A scene of this family: objects of the given types, each from an outline of n segments. With the higher type first it holds the same two objects
+    /// as with the lower one first.
     pub fn scene(&self, kinds: (u8, u8), n: usize) -> (Object, Object) {
+        in_either_order(kinds, |kinds| self.ascending(kinds, n))
+    }
+
+    fn ascending(&self, kinds: (u8, u8), n: usize) -> (Object, Object) {
         let object = |which: usize, kind: u8| {
             let outline = std::mem::take(&mut (self.outlines)(n, kind != LINE)[which]);
             match kind {

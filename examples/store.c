@@ -1,6 +1,7 @@
 /* A small store of shapes. It keeps each shape as a named object in a file,
  * asks Karvoiss how every two of them lie to each other, and prints a register
- * of the answers, one pair to a line.
+ * of the answers, one pair to a line. Then it asks the other way round, and
+ * checks that both answers say the same.
  *
  *     store          fills a store in a temporary file
  *     store FILE     fills and keeps it in FILE
@@ -160,17 +161,17 @@ static bool fill(FILE *file)
     static struct object o;
     bool good = true;
 
-    make_points(&o, "wells", wells, 3);
-    good &= save(file, &o);
-    make_points(&o, "lost", far_away, 1);
+    make_shape(&o, "field", REGION, field, 5);
     good &= save(file, &o);
     make_shape(&o, "road", LINE, road, 2);
     good &= save(file, &o);
+    make_points(&o, "wells", wells, 3);
+    good &= save(file, &o);
     make_shape(&o, "ditch", LINE, ditch, 1);
     good &= save(file, &o);
-    make_shape(&o, "field", REGION, field, 5);
-    good &= save(file, &o);
     make_shape(&o, "yard", REGION, yard, 4);
+    good &= save(file, &o);
+    make_points(&o, "lost", far_away, 1);
     good &= save(file, &o);
     return good;
 }
@@ -200,50 +201,96 @@ static const char *in_a_word(const karvoiss_cells_t *m)
     return m->cell[0][1] || m->cell[1][0] || m->cell[1][1] ? "they touch" : "apart";
 }
 
-/* All flags of a pair of types. Two zero masks would want nothing, and a bit that
- * has no flag is refused, so each pair has masks of its own. */
-struct masks {
+/* A number for F and one for G: masks or vectors. */
+struct both {
     uint16_t f, g;
 };
 
-static struct masks all_flags(const struct object *f, const struct object *g)
+/* All flags of a pair of types. Two zero masks would want nothing, and a bit that
+ * has no flag is refused, so each pair has masks of its own. */
+static struct both all_flags(const struct object *f, const struct object *g)
 {
-    static const struct masks of_types[4][4] = {
+    static const struct both of_types[4][4] = {
         [POINTS] = {[POINTS] = {3, 1}, [LINE] = {7, 1}, [REGION] = {7, 0}},
-        [LINE] = {[LINE] = {63, 7}, [REGION] = {127, 1}},
-        [REGION] = {[REGION] = {255, 15}},
+        [LINE] = {[POINTS] = {1, 7}, [LINE] = {63, 7}, [REGION] = {127, 1}},
+        [REGION] = {[POINTS] = {0, 7}, [LINE] = {1, 127}, [REGION] = {255, 15}},
     };
 
     return of_types[type_of(f)][type_of(g)];
 }
 
-static void print_pair(const struct object *f, const struct object *g)
+struct answer {
+    karvoiss_vectors_t v;
+    karvoiss_cells_t m;
+};
+
+/* Either type may come first: the answer is in the order of the two objects. */
+static struct answer ask(const struct object *f, const struct object *g)
 {
     static uint8_t scene[2 * OBJECT_BYTES];
     size_t length = f->length + g->length;
-    struct masks all = all_flags(f, g);
+    struct both all = all_flags(f, g);
 
     memcpy(scene, f->bytes, f->length);
     memcpy(scene + f->length, g->bytes, g->length);
+    return (struct answer){karvoiss_vectors(scene, length, all.f, all.g), karvoiss_cells(scene, length)};
+}
 
-    karvoiss_vectors_t v = karvoiss_vectors(scene, length, all.f, all.g);
-    karvoiss_cells_t m = karvoiss_cells(scene, length);
-
-    if (v.number != 0) {
-        print_refusal(f, g, v.number, v.place);
+static void print_pair(const struct object *f, const struct object *g, const struct answer *a)
+{
+    if (a->v.number != 0) {
+        print_refusal(f, g, a->v.number, a->v.place);
         return;
     }
-    printf("%-6s %-6s %3u %3u  ", f->name, g->name, (unsigned)v.f, (unsigned)v.g);
+    printf("%-6s %-6s %3u %3u  ", f->name, g->name, (unsigned)a->v.f, (unsigned)a->v.g);
     for (int row = 0; row < 3; row++)
         for (int column = 0; column < 3; column++)
-            putchar(m.cell[row][column] ? '1' : '0');
-    printf("  %s\n", in_a_word(&m));
+            putchar(a->m.cell[row][column] ? '1' : '0');
+    printf("  %s\n", in_a_word(&a->m));
+}
+
+/* ---- Both ways round ----------------------------------------------------- */
+
+/* The vectors of the pair the other way round. Of unequal types they change
+ * places. Objects of one type share some flags, which change places too, while
+ * the others say something of both: bit `shared[k]` of F's vector and bit k of
+ * G's are the same flag. */
+static struct both vectors_turned(uint8_t type_f, uint8_t type_g, struct both v)
+{
+    static const int shared[4][4] = {[POINTS] = {0}, [LINE] = {2, 3, 5}, [REGION] = {0, 1, 2, 3}};
+    static const int count[4] = {[POINTS] = 1, [LINE] = 3, [REGION] = 4};
+    struct both turned = {v.f, 0};
+
+    if (type_f != type_g)
+        return (struct both){v.g, v.f};
+    for (int k = 0; k < count[type_f]; k++) {
+        int bit = shared[type_f][k];
+
+        turned.f = (uint16_t)((turned.f & ~(1u << bit)) | (v.g >> k & 1u) << bit);
+        turned.g = (uint16_t)(turned.g | (v.f >> bit & 1u) << k);
+    }
+    return turned;
+}
+
+/* The same number both ways; the cells turned about the diagonal, the vectors
+ * exchanged. A place is an offset in the scene as it was asked about, so places
+ * may differ. */
+static bool agree(const struct object *f, const struct object *g, const struct answer *one, const struct answer *other)
+{
+    struct both turned = vectors_turned(type_of(f), type_of(g), (struct both){one->v.f, one->v.g});
+    bool same = one->v.number == other->v.number && one->m.number == other->m.number;
+
+    same = same && turned.f == other->v.f && turned.g == other->v.g;
+    for (int row = 0; row < 3; row++)
+        for (int column = 0; column < 3; column++)
+            same = same && one->m.cell[row][column] == other->m.cell[column][row];
+    return same;
 }
 
 int main(int argc, char **argv)
 {
     static struct object objects[OBJECTS];
-    int count = 0;
+    int count = 0, pairs = 0, agreed = 0;
     FILE *file = argc > 1 ? fopen(argv[1], "wb+") : tmpfile();
 
     if (file == NULL || !fill(file)) {
@@ -256,12 +303,15 @@ int main(int argc, char **argv)
     fclose(file);
 
     printf("F      G        f   g  cells\n");
-    /* F's type must not be above G's */
     for (int i = 0; i < count; i++)
-        for (int k = i + 1; k < count; k++)
-            if (type_of(&objects[i]) <= type_of(&objects[k]))
-                print_pair(&objects[i], &objects[k]);
-            else
-                print_pair(&objects[k], &objects[i]);
-    return 0;
+        for (int k = i + 1; k < count; k++) {
+            const struct object *f = &objects[i], *g = &objects[k];
+            struct answer one = ask(f, g), other = ask(g, f);
+
+            print_pair(f, g, &one);
+            pairs++;
+            agreed += agree(f, g, &one, &other);
+        }
+    printf("the other way round, the same is said of %d pairs of %d\n", agreed, pairs);
+    return agreed == pairs ? 0 : 1;
 }

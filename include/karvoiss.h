@@ -1,10 +1,12 @@
 /* karvoiss.h: how two shapes lie to each other, exactly.
  *
  * A scene is a byte string of two objects, F then G. Each is points, a line or
- * a region. The functions below read a scene and answer a question about it.
- * They are total: any bytes of any length may be passed, nothing need be tested
- * beforehand. They keep no state, allocate nothing, and may be called from
- * several threads at once. The scene's bytes are only read.
+ * a region, and either type may come first. The functions below read a scene and
+ * answer a question about it, in the scene's order: what is said of F is said of
+ * the object that the bytes have first. They are total: any bytes of any length
+ * may be passed, nothing need be tested beforehand. They keep no state, allocate
+ * nothing, and may be called from several threads at once. The scene's bytes are
+ * only read.
  *
  * `scene` points to `length` bytes; it may be null where `length` is 0.
  *
@@ -21,7 +23,7 @@
  *   69    end
  *
  * An object is a type record, 0 to 1,024 elements of its kind, and an end
- * record. A scene is two objects and no more; F's type is not above G's.
+ * record. A scene is two objects and no more, of any types in either order.
  * Points are ordered by x, then y. A segment's left end comes before its right
  * end. It is stored as two halfsegments: d = 1, whose dominating point is the
  * left end, and d = 0, whose dominating point is the right end. Elements are
@@ -35,8 +37,9 @@
  * --------
  * Every result has a number and a place. Number 0: the scene was taken. Any
  * other number: it was turned away, every other result is 0 or false, and
- * `place` is a byte offset in the scene, the record at fault, the earliest if
- * several.
+ * `place` is a byte offset in the scene as it was passed: the record at fault, the
+ * earliest if several. Of a pair of records it is the earlier one, but for 10 the
+ * later; so for 15 it is F's, the object's that comes first.
  *
  *   1  bytes end before a record or inside it
  *   2  kind not allowed here
@@ -45,7 +48,7 @@
  *   5  left end not before right end
  *   6  element 1,025 of an object
  *   7  bytes after the second end
- *   8  F's type above G's
+ *   8  never occurs since 0.3.0; before, F's type above G's
  *   9  a wanted bit has no flag (place 0; karvoiss_vectors only)
  *  10  element not strictly after the one before
  *  11  halfsegment with no partner of opposite d, equal ends and ia
@@ -53,11 +56,16 @@
  *  13  a region's end belongs to an odd number of its segments
  *  14  wrong ia
  *  15  unequal segments of F and G share a point that is not an end of both
- *  16  a type is not 3 (karvoiss_overlap only)
+ *  16  a type is not 3: the first such type record (karvoiss_overlap only)
  *  17  the buffer is shorter than the count (place 0; karvoiss_overlap only)
  *
- * 1 to 7 are found record by record; then 8 to 17 in this order, each over the
+ * 1 to 7 are found record by record; then 9 to 17 in this order, each over the
  * whole scene.
+ *
+ * Since 0.3.0 either type may come first. Before, a scene whose first type was
+ * above its second was refused with 8, and a caller had to exchange the objects
+ * and to turn the answer. Scenes that were taken before have the answers that
+ * they had.
  */
 #ifndef KARVOISS_H
 #define KARVOISS_H
@@ -71,8 +79,8 @@ extern "C" {
 #endif
 
 /* The stack that each call needs at most, in bytes. No call recurses, and each
- * was measured on scenes of full size, of every pair of types, to need about
- * 5,600 bytes; the numbers leave room for other compilers.
+ * was measured on scenes of full size, of every pair of types in either order,
+ * to need about 5,600 bytes; the numbers leave room for other compilers.
  */
 #define KARVOISS_VECTORS_STACK 11200
 #define KARVOISS_CELLS_STACK 11200
@@ -98,6 +106,17 @@ extern "C" {
  *   3, 3  f: (0/1), (1/0), (1/2), (2/1), (0/2), (2/0), (1/1), bound_poi_shared
  *         g: (0/1), (1/0), (1/2), (2/1)
  *
+ * With the higher type first each object has the flags that it has above, and
+ * its vector stands where it stands:
+ *
+ *   2, 1  f: bound_poi_disjoint
+ *         g: poi_disjoint, poi_on_interior, poi_on_bound
+ *   3, 1  f: none
+ *         g: poi_inside, poi_on_bound, poi_outside
+ *   3, 2  f: seg_unshared
+ *         g: seg_inside, seg_shared, seg_outside, poi_shared, bound_inside,
+ *            bound_shared, bound_disjoint
+ *
  * (m/n) is a segment with m of the two interiors below it and n above it, right
  * and left of it if it is vertical. A line's boundary points are the ends that
  * belong to exactly one of its segments.
@@ -118,6 +137,9 @@ extern "C" {
  *   2, 2       63       7
  *   2, 3      127       1
  *   3, 3      255      15
+ *   2, 1        1       7
+ *   3, 1        0       7
+ *   3, 2        1     127
  *
  * An object's type is the second byte of its record of kind 84.
  */
@@ -132,7 +154,8 @@ karvoiss_vectors_t karvoiss_vectors(const uint8_t *scene, size_t length,
                                     uint16_t want_f, uint16_t want_g);
 
 /* The nine-intersection matrix: cell[r][c] is true exactly if some point lies in
- * part r of F and part c of G. Parts: 0 interior, 1 boundary, 2 exterior.
+ * part r of F and part c of G. Parts: 0 interior, 1 boundary, 2 exterior. With F
+ * and G exchanged, cell[r][c] is what cell[c][r] was.
  */
 typedef struct {
     uint32_t number;

@@ -1,4 +1,4 @@
-# The text of a scene whose two objects have 1,024 elements each; -v pair=23 is a line against a region. Each object is 128 parts in a row,
+# The text of a scene whose two objects have 1,024 elements each; -v pair=23 is a line against a region, pair=32 a region against a line. Each object is 128 parts in a row,
 # columns of 8 points or paths of 4 segments; every other part of G is equal to F's, and the rest lie apart or within.
 
 function path(x, low, high, last) {

@@ -48,8 +48,7 @@ fn try_scene(text: &str, kinds: [usize; 2], explore: Option<&Path>) -> Result<()
 
 fn scene_text(dice: &mut Dice) -> (String, [usize; 2]) {
     let net = if dice.below(10) == 0 { lattice(dice) } else { scattered(dice) };
-    let (a, b) = (dice.below(3), dice.below(3));
-    let kinds = [a.min(b), a.max(b)];
+    let kinds = [dice.below(3), dice.below(3)];
     let [f, g] = kinds.map(|kind| object_text(kind, &net, dice));
     let comment = if dice.below(3) == 0 { "# a random scene\n\n" } else { "" };
     (format!("{comment}{f}\n{g}\n"), kinds)

@@ -62,7 +62,7 @@ static inline size_t record_length(uint8_t kind)
 /* All flags of the scene's pair of types; no flag where the bytes do not say what the types are. */
 static inline struct masks all_flags(const uint8_t *bytes, size_t length)
 {
-    static const struct masks of_types[3][3] = {{{3, 1}, {7, 1}, {7, 0}}, {{0, 0}, {63, 7}, {127, 1}}, {{0, 0}, {0, 0}, {255, 15}}};
+    static const struct masks of_types[3][3] = {{{3, 1}, {7, 1}, {7, 0}}, {{1, 7}, {63, 7}, {127, 1}}, {{0, 7}, {1, 127}, {255, 15}}};
     uint8_t types[2] = {0, 0};
     size_t count = 0;
 

@@ -1,4 +1,5 @@
-//! Scenes made by hand: document 01's twelve with their lines, its refusal table, traps of its wording, and pictures of rare matrices.
+//! Scenes made by hand: document 01's twelve with their lines, its refusal table, traps of its wording, scenes with the higher type first, and pictures of
+//! rare matrices.
 
 use crate::picture;
 use crate::plane::{Point, Segment};
@@ -83,11 +84,16 @@ fn with_ia(segments: &[(Point, Point, bool)]) -> Object {
     as_given(REGION, &halves)
 }
 
+/// A points object that has one point twice.
+fn twice(x: i64, y: i64) -> Object {
+    Object { points: vec![(x, y); 2], places: vec![0; 2], ..points(&[]) }
+}
+
 fn joined(parts: &[&[u8]]) -> Vec<u8> {
     parts.concat()
 }
 
-/// The refusal table's small examples, but for 9, 16 and 17, which belong to single questions.
+/// The refusal table's small examples, but for 8, which never occurs, and 9, 16 and 17, which belong to single questions.
 pub fn refusal_table() -> Vec<Known> {
     let known = |name, bytes, line| Known { name, bytes, line };
     let scene = |name, f: Object, g: Object, line| Known { name, bytes: scene_bytes(&f, &g), line };
@@ -102,7 +108,6 @@ pub fn refusal_table() -> Vec<Known> {
         known("5", joined(&[&[84, 2], &half_record(LINE, &half((3, 0), (3, 0), true, false))]), "no 5 2"),
         known("6", joined(&[&[84, 1], &many]), "no 6 9218"),
         known("7", vec![84, 1, 69, 84, 1, 69, 0], "no 7 6"),
-        known("8", vec![84, 2, 69, 84, 1, 69], "no 8 3"),
         known("10", joined(&[&[84, 1], &point_record((1, 1)), &point_record((1, 1)), &[69, 84, 1, 69]]), "no 10 11"),
         scene("11", as_given(LINE, &[half((0, 0), (4, 0), true, false)]), empty(LINE), "no 11 2"),
         scene("12", line(&[&[(0, 0), (4, 0)], &[(2, 0), (2, 3)]]), empty(LINE), "no 12 2"),
@@ -121,8 +126,6 @@ pub fn reading_traps() -> Vec<Known> {
     let long_line = half_record(LINE, &half((0, 0), (4, 0), true, false));
     let wrong_d = joined(&[&half_record(LINE, &half((1_000_001, 0), (0, 0), true, false))[..17], &[2]]);
     let right_only = half((0, 0), (4, 0), false, false);
-    let twice = points(&[(1, 1)]);
-    let doubled = Object { points: vec![(1, 1), (1, 1)], places: vec![0; 2], ..twice };
     vec![
         known("no byte", &[], "no 1 0"),
         known("a type record cut", &[&[84]], "no 1 0"),
@@ -141,8 +144,6 @@ pub fn reading_traps() -> Vec<Known> {
         known("the smallest number", &[&[84, 1], &point_record((i32::MIN as i64, 0))], "no 4 2"),
         known("vertical, upside down", &[&[84, 2], &half_record(LINE, &half((0, 4), (0, 0), true, false))], "no 5 2"),
         known("a third object", &[&[84, 1, 69, 84, 1, 69, 84, 1, 69]], "no 7 6"),
-        known("7 before 8", &[&[84, 2, 69, 84, 1, 69, 69]], "no 7 6"),
-        known("8 before 11", &[&[84, 2], &long_line, &[69, 84, 1, 69]], "no 8 21"),
         scene(
             "on one ray, the shorter first",
             as_given(LINE, &[half((0, 0), (2, 0), true, false), half((0, 0), (4, 0), true, false)]),
@@ -163,7 +164,7 @@ pub fn reading_traps() -> Vec<Known> {
             "no 11 2",
         ),
         scene("a right half alone", as_given(LINE, &[right_only]), empty(LINE), "no 11 2"),
-        scene("10 in G before 11 in F", points(&[(0, 0)]), doubled, "no 10 23"),
+        scene("10 in G before 11 in F", points(&[(0, 0)]), twice(1, 1), "no 10 23"),
         scene("10 of a line before 11", as_given(LINE, &[right_only]), as_given(LINE, &[right_only, right_only]), "no 10 41"),
         scene("crossing off the grid", line(&[&[(0, 0), (3, 1)], &[(0, 1), (3, 0)]]), empty(LINE), "no 12 2"),
         scene("the later segments cross", line(&[&[(0, 0), (1, 0)], &[(2, 0), (4, 2)], &[(2, 2), (4, 0)]]), empty(LINE), "no 12 38"),
@@ -178,6 +179,40 @@ pub fn reading_traps() -> Vec<Known> {
         scene("15 at the second segment of F", line(&[&[(0, 0), (1, 0), (5, 1)]]), line(&[&[(2, -5), (3, 5)]]), "no 15 38"),
         scene("one part of the other's segment", line(&[&[(0, 0), (2, 0)]]), line(&[&[(0, 0), (4, 0)]]), "no 15 2"),
         scene("on one line, end to end", line(&[&[(0, 0), (2, 0)]]), line(&[&[(2, 0), (4, 0)]]), "ok 2 2 52 5 001011111"),
+    ]
+}
+
+/// Scenes whose first type is above their second, with answers in the caller's order; and, of equal types, one that is not exchanged.
+pub fn either_order() -> Vec<Known> {
+    let known = |name, parts: &[&[u8]], line| Known { name, bytes: joined(parts), line };
+    let scene = |name, f: Object, g: Object, line| Known { name, bytes: scene_bytes(&f, &g), line };
+    let empty = |kind| as_given(kind, &[]);
+    let none = || points(&[]);
+    let split_square: [Point; 6] = [(0, 0), (4, 0), (4, 2), (4, 4), (0, 4), (0, 0)];
+    let left = half((0, 0), (4, 0), true, false);
+    let upright = || line(&[&[(2, 3), (2, 5)]]);
+    vec![
+        scene("a exchanged", line(&[&[(0, 0), (4, 0), (4, 3)]]), points(&[(0, 0), (2, 2)]), "ok 2 1 1 5 001101101"),
+        scene("b exchanged", square(0, 4), points(&[(2, 2), (4, 2), (5, 5)]), "ok 3 1 0 7 101101101"),
+        scene("h exchanged: no points second", square(0, 4), none(), "ok 3 1 0 0 001001001"),
+        scene("j exchanged", region(&[&split_square]), line(&[&[(2, 2), (4, 2), (6, 2)]]), "ok 3 2 1 93 111101111"),
+        scene("no line, no points", empty(LINE), none(), "ok 2 1 0 0 000000001"),
+        scene("no region, no line", empty(REGION), empty(LINE), "ok 3 2 0 0 000000001"),
+        scene("no region, a point", empty(REGION), points(&[(1, 1)]), "ok 3 1 0 4 000000101"),
+        scene("no region, a line", empty(REGION), line(&[&[(0, 0), (4, 0)]]), "ok 3 2 0 68 000000111"),
+        scene("a region, no line", square(0, 4), empty(LINE), "ok 3 2 1 0 001001001"),
+        scene("a closed line, no points", line(&[&[(0, 0), (4, 0), (0, 3), (0, 0)]]), none(), "ok 2 1 0 0 001000001"),
+        scene("the outline as a line second", square(0, 4), line(&[&rectangle(0, 0, 4, 4)]), "ok 3 2 0 10 001100001"),
+        scene("equal types, the second empty", line(&[&[(0, 0), (1, 0)]]), empty(LINE), "ok 2 2 36 0 001001001"),
+        scene("equal types, the first empty", empty(LINE), line(&[&[(0, 0), (1, 0)]]), "ok 2 2 0 5 000000111"),
+        known("7 before the types are compared", &[&[84, 2, 69, 84, 1, 69, 69]], "no 7 6"),
+        scene("10 in both: the first one's", as_given(LINE, &[left, left]), twice(1, 1), "no 10 20"),
+        scene("10 in the second before 11 in the first", as_given(LINE, &[left]), twice(1, 1), "no 10 32"),
+        scene("11 in the first alone", as_given(LINE, &[left]), none(), "no 11 2"),
+        scene("12 in the second, a line", square(0, 4), line(&[&[(9, 0), (13, 0)], &[(11, 0), (11, 3)]]), "no 12 157"),
+        scene("13 in the first", with_ia(&[((0, 0), (4, 0), true)]), upright(), "no 13 2"),
+        scene("15 in the square, given first", square(0, 4), upright(), "no 15 59"),
+        scene("15 in the line, given first", upright(), square(0, 4), "no 15 2"),
     ]
 }
 
@@ -240,7 +275,11 @@ pub fn masked() -> Vec<Masked> {
     let ask = |name, bytes: &[u8], (want_f, want_g), line| Masked { name, bytes: bytes.to_vec(), want_f, want_g, line };
     let a = &twelve()[0].bytes;
     let none = [84, 1, 69, 84, 1, 69];
-    let twice = joined(&[&[84, 1], &point_record((1, 1)), &point_record((1, 1)), &[69, 84, 1, 69]]);
+    let doubled = scene_bytes(&twice(1, 1), &points(&[]));
+    let exchanged = |name: &str| either_order().into_iter().find(|known| known.name == name).expect("it is made above").bytes;
+    let (a_exchanged, b_exchanged) = (&exchanged("a exchanged"), &exchanged("b exchanged"));
+    let right_first = [half((0, 0), (4, 0), false, false), half((0, 0), (4, 0), true, false)];
+    let unordered = &scene_bytes(&as_given(LINE, &right_first), &points(&[]));
     vec![
         ask("9", &none, (4, 0), "no 9 0"),
         ask("65535 for all flags", a, (65535, 65535), "no 9 0"),
@@ -248,9 +287,48 @@ pub fn masked() -> Vec<Masked> {
         ask("a flag of G alone", a, (0, 1), "0 1"),
         ask("a flag of F alone", a, (4, 0), "4 0"),
         ask("all flags of a", a, (7, 1), "5 1"),
-        ask("nothing of a point twice", &twice, (0, 0), "no 10 11"),
+        ask("nothing of a point twice", &doubled, (0, 0), "no 10 11"),
         ask("nothing of one byte", &[84], (0, 0), "no 1 0"),
+        ask("line, points: one flag of each", a_exchanged, (1, 4), "1 4"),
+        ask("line, points: all flags", a_exchanged, (1, 7), "1 5"),
+        ask("line, points: a line has one flag", a_exchanged, (2, 0), "no 9 0"),
+        ask("line, points: points have three", a_exchanged, (0, 8), "no 9 0"),
+        ask("region, points: all flags", b_exchanged, (0, 7), "0 7"),
+        ask("region, points: a region has none", b_exchanged, (1, 0), "no 9 0"),
+        ask("line, points: 9 before 10", unordered, (2, 0), "no 9 0"),
+        ask("line, points: 10, the masks being right", unordered, (1, 0), "no 10 20"),
     ]
+}
+
+/// A question for the overlap list into some room, and the list or the refusal.
+pub struct Listed {
+    pub name: &'static str,
+    pub bytes: Vec<u8>,
+    pub room: usize,
+    pub line: &'static str,
+}
+
+/// The table's 16 and 17, the list that document 01 gives, and 16 in scenes whose first type is above their second.
+pub fn listed() -> Vec<Listed> {
+    let ask = |name, f: Object, g: Object, room, line| Listed { name, bytes: scene_bytes(&f, &g), room, line };
+    let empty = |kind| as_given(kind, &[]);
+    let none = || points(&[]);
+    vec![
+        ask("16", none(), none(), 0, "no 16 0"),
+        ask("17", square(0, 4), empty(REGION), 3, "no 17 0"),
+        Listed { name: "the list of e", bytes: scene_e(), room: 7, line: "1 3 3 1 4 3 1" },
+        ask("16: neither is a region, the line comes first", empty(LINE), none(), 9, "no 16 0"),
+        ask("16: no region, no points", empty(REGION), none(), 9, "no 16 3"),
+        ask("16: no region, no line", empty(REGION), empty(LINE), 9, "no 16 3"),
+        ask("16: a square, no line", square(0, 4), empty(LINE), 9, "no 16 155"),
+        ask("16: no line, a square", empty(LINE), square(0, 4), 9, "no 16 0"),
+        ask("10 before 16", square(0, 4), twice(1, 1), 9, "no 10 166"),
+    ]
+}
+
+/// Every scene made by hand that has a known line, but for the pictures.
+pub fn known() -> Vec<Known> {
+    [twelve(), refusal_table(), reading_traps(), answer_traps(), either_order()].into_iter().flatten().collect()
 }
 
 /// A cell picture's matrix, for pictures of faces alone: one letter each, lines from above parted by a slash.

@@ -1,25 +1,24 @@
-//! Conditions 8 and 10 to 15 of document 01, each over the whole scene: the earliest place at fault, if any.
+//! Conditions 10 to 15 of document 01, each over the whole scene: the earliest place at fault, if any.
 //! Each looks at every pair that its sentence speaks of. A condition may take for granted that those before it hold.
+//! Condition 8 never occurs since either type may come first; F and G are here the caller's first and second, whatever their types.
 
 use crate::mistakes::Rules;
 use crate::plane::{Point, Segment};
 use crate::scene::{Half, Object, Refusal, REGION};
 
-/// Condition 8: F's type is above G's.
-pub fn types(f: &Object, g: &Object) -> Option<Refusal> {
-    (f.kind > g.kind).then_some(Refusal { number: 8, place: g.start })
-}
-
 /// Conditions 10 to 15: the first of them at fault.
 pub fn later(f: &Object, g: &Object, rules: &Rules) -> Option<Refusal> {
-    let either =
-        |number: u32, place_in: &dyn Fn(&Object) -> Option<usize>| place_in(f).or_else(|| place_in(g)).map(|place| Refusal { number, place });
+    let [first, second] = rules.faults.of([f, g]);
+    let either = |number: u32, place_in: &dyn Fn(&Object) -> Option<usize>| {
+        place_in(first).or_else(|| place_in(second)).map(|place| Refusal { number, place })
+    };
+    let [one, other] = rules.crossings.of([f, g]);
     either(10, &order)
         .or_else(|| either(11, &partner))
         .or_else(|| either(12, &touch))
         .or_else(|| either(13, &odd_end))
         .or_else(|| either(14, &|object| wrong_ia(object, rules)))
-        .or_else(|| crossing(f, g).map(|place| Refusal { number: 15, place }))
+        .or_else(|| crossing(one, other).map(|place| Refusal { number: 15, place }))
 }
 
 fn halves(object: &Object) -> impl Iterator<Item = (usize, &Half)> {
@@ -61,7 +60,7 @@ fn wrong_ia(object: &Object, rules: &Rules) -> Option<usize> {
     halves(object).find(|(_, h)| (rules.interior_above)(&segments, &h.segment) != h.ia).map(|(place, _)| place)
 }
 
-/// 15: unequal segments of F and G share a point that is not an end of both; the record in F.
+/// 15: unequal segments of F and G share a point that is not an end of both; the record in the caller's first object.
 fn crossing(f: &Object, g: &Object) -> Option<usize> {
     let others: Vec<Segment> = g.segments();
     halves(f).find(|(_, h)| others.iter().any(|s| *s != h.segment && s.touches(&h.segment))).map(|(place, _)| place)

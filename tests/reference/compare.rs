@@ -2,9 +2,9 @@
 //! overlap list, and every bit of the answers and of the memory around them must agree.
 
 use crate::byhand;
-use crate::cells::{turned, Matrix};
 use crate::damage::{damaged, noise};
 use crate::drawing::scene_text;
+use crate::exchange::{self, Answers};
 use crate::judge::{judge, Judgement};
 use crate::library;
 use crate::maker::{full, small, some_pair};
@@ -48,29 +48,28 @@ impl Case {
 
     /// All scenes made by hand.
     pub fn all_by_hand() -> Vec<Case> {
-        let known = [byhand::twelve(), byhand::refusal_table(), byhand::reading_traps(), byhand::answer_traps()];
-        let mut cases: Vec<Case> = known.into_iter().flatten().map(|known| Case::by_hand(known.name, known.bytes)).collect();
+        let mut cases: Vec<Case> = byhand::known().into_iter().map(|known| Case::by_hand(known.name, known.bytes)).collect();
         cases.extend(byhand::drawn_matrices().iter().map(|drawn| Case::by_hand(drawn.matrix, drawn.bytes())));
         cases
     }
 }
 
-/// Asks everything about a case, and if both types are equal everything again with F and G exchanged. An error says what disagreed.
+/// Asks everything about a case, and if it has two objects everything again with these exchanged. An error says what disagreed.
 pub fn ask(case: &Case, rules: &Rules, tally: &mut Tally) -> Result<(), String> {
     let judgement = judge(&case.bytes, rules);
     if case.must_be_taken && !judgement.is_taken() && !judge(&case.bytes, &RIGHT).is_taken() {
         return Err(failure(case, &case.bytes, &format!("the maker's scene is refused by the reference: {}", judgement.line())));
     }
-    tally.scene(&judgement);
     let mut random = Random::new(!case.seed);
-    let cells = ask_one(&case.bytes, &judgement, &mut random, tally).map_err(|what| failure(case, &case.bytes, &what))?;
-    if judgement.is_taken() && judgement.f.kind == judgement.g.kind {
-        let (f, g) = case.bytes.split_at(judgement.g.start);
-        let exchanged = [g, f].concat();
-        let other = ask_one(&exchanged, &judge(&exchanged, rules), &mut random, tally).map_err(|what| failure(case, &exchanged, &what))?;
-        if other != turned(&cells) {
-            return Err(failure(case, &case.bytes, &format!("cells {cells:?}, but {other:?} with F and G exchanged")));
+    let answers = ask_one(&case.bytes, &judgement, &mut random, tally).map_err(|what| failure(case, &case.bytes, &what))?;
+    let (f, g) = (&judgement.f, &judgement.g);
+    if g.start > 0 {
+        let exchanged = exchange::bytes(&case.bytes, g.start);
+        let others = ask_one(&exchanged, &judge(&exchanged, rules), &mut random, tally).map_err(|what| failure(case, &exchanged, &what))?;
+        if others != answers.exchanged(f.kind, g.kind) {
+            return Err(failure(case, &case.bytes, &format!("the engine answers {answers:?},\nbut {others:?} with F and G exchanged")));
         }
+        tally.both_ways += 1;
     }
     Ok(())
 }
@@ -79,13 +78,17 @@ fn failure(case: &Case, bytes: &[u8], what: &str) -> String {
     format!("DISAGREEMENT on {}\n{}\n{}", case.from, what, scene_text(bytes))
 }
 
-/// Asks everything about one byte string; gives the cells.
-fn ask_one(bytes: &[u8], judgement: &Judgement, random: &mut Random, tally: &mut Tally) -> Result<Matrix, String> {
+/// Asks everything about one byte string; gives the engine's answers with all flags wanted, and with room for the list.
+fn ask_one(bytes: &[u8], judgement: &Judgement, random: &mut Random, tally: &mut Tally) -> Result<Answers, String> {
+    tally.scene(judgement);
     let scene = Lent::new(random, bytes);
+    let mut with_all_flags = None;
     for (want_f, want_g) in masks(judgement, random) {
         let expected = judgement.vectors(want_f, want_g);
-        agree(&format!("vectors, masks {want_f} and {want_g}"), &expected, &library::vectors(scene.inside(), want_f, want_g))?;
+        let answer = library::vectors(scene.inside(), want_f, want_g);
+        agree(&format!("vectors, masks {want_f} and {want_g}"), &expected, &answer)?;
         scene.is_unchanged("the scene, after vectors")?;
+        with_all_flags.get_or_insert(answer);
         tally.questions += 1;
         if expected.number == 9 {
             tally.refusal(9);
@@ -97,6 +100,7 @@ fn ask_one(bytes: &[u8], judgement: &Judgement, random: &mut Random, tally: &mut
     scene.is_unchanged("the scene, after cells")?;
     tally.questions += 1;
 
+    let mut with_room = None;
     for room in rooms(judgement, random) {
         let contents: Vec<u8> = (0..room).map(|_| random.byte()).collect();
         let mut list = Lent::new(random, &contents);
@@ -105,12 +109,14 @@ fn ask_one(bytes: &[u8], judgement: &Judgement, random: &mut Random, tally: &mut
         agree(&format!("overlap list, room {room}"), &expected, &answer)?;
         list.is_unchanged(&format!("the lent buffer of {room}, its list or what is around it"))?;
         scene.is_unchanged("the scene, after the overlap list")?;
+        with_room.get_or_insert((answer.number, list.inside()[..answer.count].to_vec()));
         tally.questions += 1;
         if expected.number > 15 {
             tally.refusal(expected.number);
         }
     }
-    Ok(cells.cell)
+    let (vectors, (number, list)) = (with_all_flags.unwrap_or_default(), with_room.unwrap_or_default());
+    Ok(Answers { numbers: [vectors.number, cells.number, number], vectors: (vectors.f, vectors.g), cells: cells.cell, list })
 }
 
 fn agree<T: PartialEq + Debug>(question: &str, expected: &T, answer: &T) -> Result<(), String> {
@@ -120,7 +126,7 @@ fn agree<T: PartialEq + Debug>(question: &str, expected: &T, answer: &T) -> Resu
     Err(format!("{question}\n  reference: {expected:?}\n  engine:    {answer:?}"))
 }
 
-/// All flags, none, a choice of them, and now and then bits that no flag has.
+/// All flags first, then none, a choice of them, and now and then bits that no flag has.
 fn masks(judgement: &Judgement, random: &mut Random) -> Vec<(u16, u16)> {
     let (all_f, all_g) = judgement.all_flags();
     let (f, g) = (random.next() as u16, random.next() as u16);
@@ -132,7 +138,7 @@ fn masks(judgement: &Judgement, random: &mut Random) -> Vec<(u16, u16)> {
     masks
 }
 
-/// Buffers of just the count, of one less, of more, of none.
+/// Buffers of just the count first, then of one less, of more, of none.
 fn rooms(judgement: &Judgement, random: &mut Random) -> Vec<usize> {
     let count = judgement.list.len();
     if !judgement.is_taken() || judgement.list.is_empty() {

@@ -93,7 +93,10 @@ fn drop_segment(object: &mut Object, segment: Segment) {
 
 fn damage_object(random: &mut Random, objects: &mut [Object; 2]) {
     let everywhere: Vec<Point> = objects.iter().flat_map(|o| o.halves.iter().flat_map(|h| [h.segment.left, h.segment.right])).collect();
-    let which = if objects[0].kind == POINTS && !random.once_in(4) { 1 } else { random.below(2) };
+    let which = match objects.iter().position(|o| o.kind == POINTS) {
+        Some(points) if !random.once_in(4) => 1 - points,
+        _ => random.below(2),
+    };
     if random.once_in(12) {
         objects.swap(0, 1);
         return;

@@ -1,20 +1,31 @@
 //! The two vectors, by brute force over all pairs: each flag is document 01's sentence, its "some" an `any` and its "every" an `all`.
-//! Definitions 2, 3, 5 and 6 are the source's, as document 01 corrects them.
+//! Definitions 2, 3, 5 and 6 are the source's, as document 01 corrects them. They are of a pair whose first type is not above its second; what is
+//! asked and answered outside this file is in the caller's order.
 
-use crate::mistakes::Rules;
+use crate::mistakes::{Order, Rules};
 use crate::plane::{inside, Fraction, Point, Segment};
 use crate::scene::{Half, Object, LINE, POINTS, REGION};
 
-/// The number of flags of F and of G for a pair of types, F's not above G's.
+/// What belongs to the objects of types f and g, given for the object of the lower type first: that one has document 01's column F.
+fn in_callers_order<T>(f: u8, g: u8, (of_lower, of_higher): (T, T)) -> (T, T) {
+    if f > g {
+        (of_higher, of_lower)
+    } else {
+        (of_lower, of_higher)
+    }
+}
+
+/// The number of flags of F and of G for a pair of types.
 pub fn flag_counts(f: u8, g: u8) -> (u32, u32) {
-    match (f, g) {
+    let ascending = match (f.min(g), f.max(g)) {
         (POINTS, POINTS) => (2, 1),
         (POINTS, LINE) => (3, 1),
         (POINTS, REGION) => (3, 0),
         (LINE, LINE) => (6, 3),
         (LINE, REGION) => (7, 1),
         _ => (8, 4),
-    }
+    };
+    in_callers_order(f, g, ascending)
 }
 
 /// All flags of a pair of types, as a mask for F and one for G.
@@ -37,14 +48,16 @@ pub fn common_dominating_point(f: &Half, g: &Half) -> bool {
 
 /// Both vectors, every flag of the pair wanted.
 pub fn vectors(f: &Object, g: &Object, rules: &Rules) -> (u16, u16) {
-    let (of_f, of_g) = match (f.kind, g.kind) {
-        (POINTS, POINTS) => points_points(f, g, rules),
-        (POINTS, LINE) => points_line(f, g, rules),
-        (POINTS, REGION) => points_region(f, g, rules),
-        (LINE, LINE) => line_line(f, g, rules),
-        (LINE, REGION) => line_region(f, g, rules),
-        _ => region_region(f, g, rules),
+    let [lower, higher] = Order::Ascending.of([f, g]);
+    let ascending = match (lower.kind, higher.kind) {
+        (POINTS, POINTS) => points_points(lower, higher, rules),
+        (POINTS, LINE) => points_line(lower, higher, rules),
+        (POINTS, REGION) => points_region(lower, higher, rules),
+        (LINE, LINE) => line_line(lower, higher, rules),
+        (LINE, REGION) => line_region(lower, higher, rules),
+        _ => region_region(lower, higher, rules),
     };
+    let (of_f, of_g) = in_callers_order(f.kind, g.kind, ascending);
     (packed(&of_f), packed(&of_g))
 }
 

@@ -1,9 +1,10 @@
-//! The reference's answer to each question about one byte string: the refusals in document 01's order, then vectors, cells or list.
+//! The reference's answer to each question about one byte string, in the caller's order: the refusals as document 01 orders them, then vectors, cells
+//! or list.
 
 use crate::cells::{matrix, overlap, Matrix};
 use crate::check;
 use crate::flags::{all_flags, vectors};
-use crate::mistakes::Rules;
+use crate::mistakes::{Order, Rules};
 use crate::plane::Segment;
 use crate::scene::{read_scene, Object, Refusal, REGION};
 
@@ -40,7 +41,8 @@ pub enum TwoZeros {
     NoChecks,
 }
 
-/// Everything that any question about these bytes may need, found once. `early` is a refusal 1 to 8, `late` one of 10 to 15.
+/// Everything that any question about these bytes may need, found once, F being the object given first. `early` is a refusal 1 to 7, `late` one of
+/// 10 to 15.
 #[derive(Default)]
 pub struct Judgement {
     pub early: Option<Refusal>,
@@ -49,7 +51,11 @@ pub struct Judgement {
     pub g: Object,
     pub vectors: (u16, u16),
     pub two_zeros: TwoZeros,
+    /// Whose mask is given first.
+    pub masks: Order,
     pub cells: Matrix,
+    /// The first type record whose type is not 3, if there is one.
+    pub no_region: Option<usize>,
     pub segments: Vec<Segment>,
     pub list: Vec<u8>,
     /// The segments of F and of G, those of both taken twice.
@@ -65,14 +71,12 @@ pub fn judge(bytes: &[u8], rules: &Rules) -> Judgement {
     match read_scene(bytes) {
         Err(refusal) => judgement.early = Some(refusal),
         Ok((f, g)) => {
-            judgement.early = check::types(&f, &g);
-            if judgement.early.is_none() {
-                judgement.late = check::later(&f, &g, rules);
-            }
+            judgement.late = check::later(&f, &g, rules);
+            judgement.no_region = [&f, &g].iter().find(|object| object.kind != REGION).map(|object| object.start);
             if judgement.is_taken() {
                 judgement.vectors = vectors(&f, &g, rules);
                 judgement.cells = matrix(&f, &g, rules);
-                if f.kind == REGION {
+                if judgement.no_region.is_none() {
                     let list = overlap(&f, &g);
                     judgement.segments = list.iter().map(|entry| entry.0).collect();
                     judgement.list = list.iter().map(|(_, m, n)| 3 * m + n).collect();
@@ -94,6 +98,11 @@ impl Judgement {
         self.early.is_none() && self.late.is_none()
     }
 
+    /// The first type is above the second: the scene is read with the objects exchanged.
+    pub fn descends(&self) -> bool {
+        self.f.kind > self.g.kind
+    }
+
     /// The flags of the pair, as a mask for F and one for G.
     pub fn all_flags(&self) -> (u16, u16) {
         all_flags(self.f.kind, self.g.kind)
@@ -105,6 +114,7 @@ impl Judgement {
             return refused(refusal);
         }
         let (all_f, all_g) = self.all_flags();
+        let (want_f, want_g) = if self.masks == Order::Ascending && self.descends() { (want_g, want_f) } else { (want_f, want_g) };
         if want_f & !all_f != 0 || want_g & !all_g != 0 {
             return refused(Refusal { number: 9, place: 0 });
         }
@@ -126,13 +136,8 @@ impl Judgement {
 
     /// The answer, with the list written into the lent buffer.
     pub fn overlap(&self, lent: &mut [u8]) -> OverlapAnswer {
-        let own_refusal = if self.f.kind != REGION {
-            Some(Refusal { number: 16, place: 0 }) // the first type is never 3 here, for G's would be below it, which is 8
-        } else if lent.len() < self.room {
-            Some(Refusal { number: 17, place: 0 })
-        } else {
-            None
-        };
+        let too_short = || (lent.len() < self.room).then_some(Refusal { number: 17, place: 0 });
+        let own_refusal = self.no_region.map(|place| Refusal { number: 16, place }).or_else(too_short);
         if let Some(refusal) = self.early.or(self.late).or(own_refusal) {
             return OverlapAnswer { number: refusal.number, place: refusal.place, count: 0 };
         }

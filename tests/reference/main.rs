@@ -10,6 +10,7 @@ mod check;
 mod compare;
 mod damage;
 mod drawing;
+mod exchange;
 mod flags;
 mod judge;
 mod library;
@@ -60,7 +61,7 @@ fn main() {
             true
         }
         ["list"] => {
-            println!("{}", list_line(&input()));
+            println!("{}", list_line(&input(), scene::MOST));
             true
         }
         ["vectors"] => answer_cases(&String::from_utf8_lossy(&input())),
@@ -92,13 +93,14 @@ fn input() -> Vec<u8> {
     bytes
 }
 
-fn list_line(bytes: &[u8]) -> String {
-    let judgement = judge(bytes, &RIGHT);
-    let answer = judgement.overlap(&mut vec![0; judgement.list.len()]);
+/// The overlap list into so much room, or `no`, number and place.
+fn list_line(bytes: &[u8], room: usize) -> String {
+    let mut list = vec![0; room];
+    let answer = judge(bytes, &RIGHT).overlap(&mut list);
     if answer.number != 0 {
         return format!("no {} {}", answer.number, answer.place);
     }
-    judgement.list.iter().map(u8::to_string).collect::<Vec<_>>().join(" ")
+    list[..answer.count].iter().map(u8::to_string).collect::<Vec<_>>().join(" ")
 }
 
 /// Both vectors, or `no`, number and place.
@@ -132,8 +134,7 @@ fn self_test() -> bool {
             println!("{name}: {answer} instead of {expected}");
         }
     };
-    let known = [byhand::twelve(), byhand::refusal_table(), byhand::reading_traps(), byhand::answer_traps()];
-    for known in known.iter().flatten() {
+    for known in byhand::known() {
         check(known.name, known.line, judge(&known.bytes, &RIGHT).line());
     }
     for drawn in byhand::drawn_matrices() {
@@ -143,15 +144,9 @@ fn self_test() -> bool {
     for masked in byhand::masked() {
         check(masked.name, masked.line, vectors_line(&judge(&masked.bytes, &RIGHT).vectors(masked.want_f, masked.want_g)));
     }
-    // the table's 16 and 17, and the list that document 01 gives
-    let refused = |number: u32, place: usize| format!("no {number} {place}");
-    let no_points = [84, 1, 69, 84, 1, 69];
-    let sixteen = judge(&no_points, &RIGHT).overlap(&mut []);
-    check("16", "no 16 0", refused(sixteen.number, sixteen.place));
-    let one_square = scene::scene_bytes(&byhand::square(0, 4), &scene::Object::of_segments(scene::REGION, &[]));
-    let seventeen = judge(&one_square, &RIGHT).overlap(&mut [0; 3]);
-    check("17", "no 17 0", refused(seventeen.number, seventeen.place));
-    check("the list of e", "1 3 3 1 4 3 1", list_line(&byhand::scene_e()));
+    for listed in byhand::listed() {
+        check(listed.name, listed.line, list_line(&listed.bytes, listed.room));
+    }
     println!("self-test: {passed} passed, {failed} failed");
     failed == 0
 }

@@ -1,4 +1,4 @@
-//! Random valid scenes of every pair of types. Both objects are chosen from one plan, by classes whose weights are often 0, so that rare
+//! Random valid scenes of every pair of types in either order. Both objects are chosen from one plan, by classes whose weights are often 0, so that rare
 //! relations come up: nothing shared, everything shared, one inside the other, closed lines, points on every boundary point.
 
 use crate::plan::Plan;
@@ -6,16 +6,37 @@ use crate::plane::{inside, turn, Fraction, Point, Segment, LIMIT};
 use crate::random::Random;
 use crate::scene::{Object, LINE, MOST, POINTS, REGION};
 
-/// The six pairs of types.
+/// The six pairs of types with the lower one first.
 pub const PAIRS: [(u8, u8); 6] = [(POINTS, POINTS), (POINTS, LINE), (POINTS, REGION), (LINE, LINE), (LINE, REGION), (REGION, REGION)];
 
-/// A pair of types, the richer ones more often.
+/// The three pairs with the higher one first.
+pub const DESCENDING: [(u8, u8); 3] = [(LINE, POINTS), (REGION, POINTS), (REGION, LINE)];
+
+/// A pair of types in either order, the richer ones more often.
 pub fn some_pair(random: &mut Random) -> (u8, u8) {
-    PAIRS[random.weighted(&[1, 2, 2, 5, 5, 5])]
+    let (f, g) = PAIRS[random.weighted(&[1, 2, 2, 5, 5, 5])];
+    if random.once_in(2) {
+        (g, f)
+    } else {
+        (f, g)
+    }
+}
+
+/// A scene of a pair in either order, made with the lower type first and exchanged if the higher one is wanted first.
+pub fn in_either_order(kinds: (u8, u8), make: impl FnOnce((u8, u8)) -> (Object, Object)) -> (Object, Object) {
+    if kinds.0 <= kinds.1 {
+        return make(kinds);
+    }
+    let (lower, higher) = make((kinds.1, kinds.0));
+    (higher, lower)
 }
 
 /// A scene on a small plan.
 pub fn small(random: &mut Random, kinds: (u8, u8)) -> (Object, Object) {
+    in_either_order(kinds, |kinds| small_ascending(random, kinds))
+}
+
+fn small_ascending(random: &mut Random, kinds: (u8, u8)) -> (Object, Object) {
     let plan = Plan::small(random);
     let chosen = match kinds {
         (POINTS, POINTS) => return points_points(random, &plan),
@@ -40,6 +61,10 @@ pub fn small(random: &mut Random, kinds: (u8, u8)) -> (Object, Object) {
 
 /// A scene whose objects have 1,024 elements each, but for a line now and then that is small beside a full object.
 pub fn full(random: &mut Random, kinds: (u8, u8)) -> (Object, Object) {
+    in_either_order(kinds, |kinds| full_ascending(random, kinds))
+}
+
+fn full_ascending(random: &mut Random, kinds: (u8, u8)) -> (Object, Object) {
     let plan = Plan::large(random);
     let mut fill = |kind: u8| {
         let edges = match kind {

@@ -1,18 +1,39 @@
 //! The rules that the reference goes by, and the ways of getting them wrong: those that document 01 names, its four mistakes to be shut out and
 //! its five imitations, some of them in two forms, and those that document 02's papers invite. A comparison under any of them must disagree.
 
+use crate::cells::turned;
 use crate::flags::{common_dominating_point, line_boundary};
 use crate::judge::{Judgement, TwoZeros};
 use crate::plane::{interior_above, Point, Segment};
-use crate::scene::{Half, Object, Refusal};
+use crate::scene::{Half, Object, Refusal, POINTS, REGION};
 
-/// What a mistake may exchange.
+/// The order in which the two objects of a scene are taken up: the one given first, or the one of the lower type.
+#[derive(Clone, Copy, PartialEq, Eq, Default)]
+pub enum Order {
+    #[default]
+    AsGiven,
+    Ascending,
+}
+
+impl Order {
+    pub fn of<'a>(&self, [f, g]: [&'a Object; 2]) -> [&'a Object; 2] {
+        if *self == Order::Ascending && f.kind > g.kind {
+            [g, f]
+        } else {
+            [f, g]
+        }
+    }
+}
+
+/// What a mistake may exchange. `faults`: whose fault goes first where a number is found in both; `crossings`: whose record 15 names first.
 #[derive(Clone, Copy)]
 pub struct Rules {
     pub line_boundary: fn(&Object) -> Vec<Point>,
     pub interior_above: fn(&[Segment], &Segment) -> bool,
     pub common_point: fn(&Half, &Half) -> bool,
     pub first_only: bool,
+    pub faults: Order,
+    pub crossings: Order,
     pub spoil: fn(&mut Judgement),
 }
 
@@ -28,7 +49,15 @@ impl Rules {
 }
 
 /// The rules of the documents.
-pub const RIGHT: Rules = Rules { line_boundary, interior_above, common_point: common_dominating_point, first_only: false, spoil: |_| () };
+pub const RIGHT: Rules = Rules {
+    line_boundary,
+    interior_above,
+    common_point: common_dominating_point,
+    first_only: false,
+    faults: Order::AsGiven,
+    crossings: Order::AsGiven,
+    spoil: |_| (),
+};
 
 pub struct Mistake {
     pub name: &'static str,
@@ -36,8 +65,9 @@ pub struct Mistake {
     pub rules: Rules,
 }
 
-/// Every mistake, by the name that `--mistake` takes: the four, from "refuse-all" on the imitations, then those about two zero masks.
-pub const MISTAKES: [Mistake; 16] = [
+/// Every mistake, by the name that `--mistake` takes: the four, from "refuse-all" on the imitations, then those about two zero masks and those about
+/// scenes whose first type is above the second.
+pub const MISTAKES: [Mistake; 25] = [
     Mistake {
         name: "next-halfsegment",
         says: "a line's end is a boundary point if the next halfsegment starts elsewhere",
@@ -90,7 +120,59 @@ pub const MISTAKES: [Mistake; 16] = [
         says: "the cells are asked with two zero masks: no part of F but its exterior meets anything",
         rules: Rules { spoil: |j| j.cells[..2].fill([false; 3]), ..RIGHT },
     },
+    Mistake {
+        name: "still-8",
+        says: "a first type above the second is refused with 8",
+        rules: Rules { spoil: |j| j.early = j.early.or(j.descends().then_some(Refusal { number: 8, place: j.g.start })), ..RIGHT },
+    },
+    Mistake { name: "masks-in-place", says: "the masks are not exchanged", rules: Rules { spoil: |j| j.masks = Order::Ascending, ..RIGHT } },
+    Mistake { name: "vectors-in-place", says: "the vectors are not exchanged", rules: Rules { spoil: vectors_in_place, ..RIGHT } },
+    Mistake { name: "cells-in-place", says: "the cells are not turned about the diagonal", rules: Rules { spoil: cells_in_place, ..RIGHT } },
+    Mistake { name: "emptiness-in-place", says: "which object is empty is not exchanged", rules: Rules { spoil: emptiness_in_place, ..RIGHT } },
+    Mistake {
+        name: "second-fault-first",
+        says: "of one number, the fault of the object with the lower type goes first",
+        rules: Rules { faults: Order::Ascending, ..RIGHT },
+    },
+    Mistake {
+        name: "15-in-the-second",
+        says: "15 names the record of the object with the lower type",
+        rules: Rules { crossings: Order::Ascending, ..RIGHT },
+    },
+    Mistake {
+        name: "16-at-the-lower",
+        says: "16 at the type record of the object with the lower type",
+        rules: Rules { spoil: |j| j.no_region = j.no_region.map(|place| if j.descends() { j.g.start } else { place }), ..RIGHT },
+    },
+    Mistake {
+        name: "16-at-the-start",
+        says: "16 at the first type record, even if that is a region's",
+        rules: Rules { spoil: |j| j.no_region = j.no_region.map(|_| 0), ..RIGHT },
+    },
 ];
+
+fn vectors_in_place(judgement: &mut Judgement) {
+    if judgement.descends() {
+        judgement.vectors = (judgement.vectors.1, judgement.vectors.0);
+    }
+}
+
+fn cells_in_place(judgement: &mut Judgement) {
+    if judgement.descends() {
+        judgement.cells = turned(&judgement.cells);
+    }
+}
+
+/// Where points or a line have no flag for it, what of the higher object meets their exterior is read off whether that object is empty.
+fn emptiness_in_place(judgement: &mut Judgement) {
+    if judgement.is_taken() && judgement.descends() {
+        let has_elements = !judgement.g.is_empty();
+        judgement.cells[0][2] = has_elements;
+        if (judgement.f.kind, judgement.g.kind) == (REGION, POINTS) {
+            judgement.cells[1][2] = has_elements;
+        }
+    }
+}
 
 fn ends_before_a_change(line: &Object) -> Vec<Point> {
     let ends: Vec<Point> = line.halves.iter().map(Half::dominating).collect();

@@ -4,7 +4,7 @@
 use crate::cells::Matrix;
 use crate::flags::flag_counts;
 use crate::judge::Judgement;
-use crate::maker::PAIRS;
+use crate::maker::{DESCENDING, PAIRS};
 use crate::plane::LIMIT;
 use crate::scene::{Object, MOST};
 use std::collections::{BTreeMap, BTreeSet};
@@ -12,7 +12,7 @@ use std::collections::{BTreeMap, BTreeSet};
 /// How often each refusal must have been met, and scenes of full size, and scenes at the limits of the range.
 const LEAST: usize = 50;
 
-/// The matrices of pairs of non-empty objects, in the order of PAIRS: the source's Table 1(b).
+/// The matrices of pairs of non-empty objects, in the order of PAIRS: the source's Table 1(b). A pair given the other way round has as many.
 const MATRICES: [usize; 6] = [5, 14, 7, 82, 43, 33];
 
 const FLAG_NAMES: [(&str, &str); 6] = [
@@ -28,6 +28,8 @@ const FLAG_NAMES: [(&str, &str); 6] = [
 pub struct Tally {
     pub scenes: usize,
     pub questions: usize,
+    /// Pairs of objects that were asked about in both orders, with answers that agree.
+    pub both_ways: usize,
     taken: usize,
     full_size: usize,
     at_limit: usize,
@@ -44,7 +46,7 @@ struct Pair {
 }
 
 impl Tally {
-    /// Counts a scene once, for all questions but their own refusals.
+    /// Counts a byte string once, for all questions but their own refusals. The exchanged scene is one of its own.
     pub fn scene(&mut self, judgement: &Judgement) {
         self.scenes += 1;
         if let Some(refusal) = judgement.early.or(judgement.late) {
@@ -77,26 +79,28 @@ impl Tally {
     pub fn report(&self, complete: bool) -> Vec<String> {
         let mut wrong = Vec::new();
         println!(
-            "{} scenes, {} taken ({} with 1,024 elements, {} at the limits), {} questions",
-            self.scenes, self.taken, self.full_size, self.at_limit, self.questions
+            "{} scenes, {} pairs both ways, {} taken ({} with 1,024 elements, {} at the limits), {} questions",
+            self.scenes, self.both_ways, self.taken, self.full_size, self.at_limit, self.questions
         );
         let times = |number| *self.refusals.get(&number).unwrap_or(&0);
         println!("refusals: {}", (1..=17).map(|number| format!("{}: {}", number, times(number))).collect::<Vec<_>>().join("  "));
-        for number in 1..=17 {
+        for number in (1..=17).filter(|number| *number != 8) {
             if complete && times(number) < LEAST {
                 wrong.push(format!("refusal {number} came fewer than {LEAST} times"));
             }
         }
+        if times(8) > 0 {
+            wrong.push("refusal 8 came, which never occurs".to_string());
+        }
         let none = Pair::default();
-        for (i, kinds) in PAIRS.iter().enumerate() {
+        for kinds in PAIRS.iter().chain(&DESCENDING) {
             let pair = self.pairs.get(kinds).unwrap_or(&none);
-            let (types, found, all) = (format!("types {}, {}", kinds.0, kinds.1), pair.matrices.len(), MATRICES[i]);
+            let (all, names) = expected(*kinds);
+            let (types, found) = (format!("types {}, {}", kinds.0, kinds.1), pair.matrices.len());
             println!("{types}: {} taken, {found} matrices of {all}", pair.taken);
             if found > all || (complete && found < all) {
                 wrong.push(format!("{types}: {found} matrices of non-empty objects instead of {all}"));
             }
-            let names = |text: &str, object: &str| text.split_whitespace().map(|name| format!("{object} {name}")).collect::<Vec<_>>();
-            let names = [names(FLAG_NAMES[i].0, "F"), names(FLAG_NAMES[i].1, "G")].concat();
             let counts = |bit: usize| pair.flags.get(bit).copied().unwrap_or([0, 0]);
             let shown: Vec<String> = names.iter().enumerate().map(|(bit, name)| format!("{name} {}/{}", counts(bit)[0], counts(bit)[1])).collect();
             println!("    set/clear: {}", shown.join(", "));
@@ -111,6 +115,15 @@ impl Tally {
         }
         wrong
     }
+}
+
+/// How many matrices a pair of types has, and its flags by name: F's, then G's.
+fn expected(kinds: (u8, u8)) -> (usize, Vec<String>) {
+    let ascending = (kinds.0.min(kinds.1), kinds.0.max(kinds.1));
+    let i = PAIRS.iter().position(|pair| *pair == ascending).expect("every pair is there, one way round");
+    let (of_f, of_g) = if kinds == ascending { FLAG_NAMES[i] } else { (FLAG_NAMES[i].1, FLAG_NAMES[i].0) };
+    let names = |text: &str, object: &str| text.split_whitespace().map(|name| format!("{object} {name}")).collect::<Vec<_>>();
+    (MATRICES[i], [names(of_f, "F"), names(of_g, "G")].concat())
 }
 
 fn reaches_limit(object: &Object) -> bool {

@@ -6,7 +6,7 @@ use crate::plane::{Half, Point, Segment};
 /// Elements of one object at most.
 pub const MOST: usize = 1024;
 
-#[derive(Clone, Copy, PartialEq, Eq, Debug)]
+#[derive(Clone, Copy, PartialEq, Eq, PartialOrd, Debug)]
 pub enum Kind {
     Points,
     Line,

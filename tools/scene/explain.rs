@@ -32,7 +32,7 @@ fn flag_lists(taken: &Taken) -> String {
         let flags = flags::of(taken.kinds)[object];
         let width = flags.iter().map(|flag| flag.name.len()).max().unwrap_or(0);
         let (set, clear): (Vec<_>, Vec<_>) = flags::set(flags, taken.vectors[object]).partition(|(_, set)| *set);
-        let lines: String = set.iter().map(|(flag, _)| format!("  {:width$}  {}\n", flag.name, flag.says)).collect();
+        let lines: String = set.iter().map(|(flag, _)| format!("  {:width$}  {}\n", flag.name, flag.says(taken.kinds))).collect();
         let rest: Vec<&str> = clear.iter().map(|(flag, _)| flag.name).collect();
         let not_set = if rest.is_empty() { String::new() } else { format!("  not set: {}\n", rest.join(", ")) };
         let none = if flags.is_empty() { ": it has none" } else { "" };

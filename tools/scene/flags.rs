@@ -1,13 +1,23 @@
 //! The flags of each pair of types, bit 0 first, with what each one says. "Above" is left, and "below" right, where a segment is vertical.
+//! The tables are of pairs whose first type is not above the second; given the other way round, objects keep their flags and change their names.
 
 use crate::bytes::Kind;
+use crate::listing;
 
 pub struct Flag {
     pub name: &'static str,
-    pub says: &'static str,
+    /// With the object of the lower type called F.
+    says: &'static str,
 }
 
-/// F's flags and G's. A pair that is not in document 01's table has none.
+impl Flag {
+    /// What the flag says of two objects of these types.
+    pub fn says(&self, kinds: [Kind; 2]) -> String {
+        if kinds[0] > kinds[1] { listing::exchanged(self.says) } else { self.says.to_string() }
+    }
+}
+
+/// F's flags and G's.
 pub fn of(kinds: [Kind; 2]) -> [&'static [Flag]; 2] {
     use Kind::{Line, Points, Region};
     match kinds {
@@ -17,7 +27,10 @@ pub fn of(kinds: [Kind; 2]) -> [&'static [Flag]; 2] {
         [Line, Line] => [&LINE_LINE_F, &LINE_LINE_G],
         [Line, Region] => [&LINE_REGION_F, &LINE_REGION_G],
         [Region, Region] => [&REGION_REGION_F, &REGION_REGION_G],
-        _ => [&[], &[]],
+        [higher, lower] => {
+            let [of_lower, of_higher] = of([lower, higher]);
+            [of_higher, of_lower]
+        }
     }
 }
 
@@ -91,3 +104,28 @@ const REGION_REGION_G: [Flag; 4] = [
     flag("(1/2)", "a segment of G is inside F, the interior of G above it"),
     flag("(2/1)", "a segment of G is inside F, the interior of G below it"),
 ];
+
+#[cfg(test)]
+mod tests {
+    use super::*;
+    use Kind::{Line, Points, Region};
+
+    fn names(flags: &[Flag]) -> Vec<&str> {
+        flags.iter().map(|flag| flag.name).collect()
+    }
+
+    #[test]
+    fn either_order() {
+        for [lower, higher] in [[Points, Line], [Points, Region], [Line, Region]] {
+            assert_eq!(of([lower, higher]).map(names), [1, 0].map(|object| names(of([higher, lower])[object])));
+        }
+    }
+
+    #[test]
+    fn the_callers_names() {
+        let kinds = [Line, Points];
+        assert_eq!(of(kinds)[0][0].says(kinds), "a boundary point of F is not in G");
+        assert_eq!(of(kinds)[1][2].says(kinds), "a point of G is a boundary point of F");
+        assert_eq!(of([Points, Line])[0][2].says([Points, Line]), "a point of F is a boundary point of G");
+    }
+}

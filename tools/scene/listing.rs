@@ -35,6 +35,16 @@ pub struct Listing {
 
 pub const NAMES: [&str; 2] = ["F", "G"];
 
+/// A sentence about F and G with the names of the two exchanged.
+pub fn exchanged(sentence: &str) -> String {
+    let other = |letter: char| match letter {
+        'F' => 'G',
+        'G' => 'F',
+        letter => letter,
+    };
+    sentence.chars().map(other).collect()
+}
+
 pub fn read(bytes: &[u8]) -> Listing {
     let mut listing = Listing { rows: Vec::new(), rest: Rest::Nothing, stop: 0 };
     for object in 0..2 {

@@ -14,7 +14,6 @@ pub fn of(number: usize) -> Refusal {
         5 => ("the left end of a segment is not before its right end", BYTES),
         6 => ("an object has more than 1,024 elements", "Leave out elements: an object has at most 1,024 points or 512 segments."),
         7 => ("there are bytes after the second object", BYTES),
-        8 => ("F's type is above G's", "Exchange the two objects: points come before lines, and lines before regions."),
         10 => (
             "an element is not strictly after the one before it",
             "Two segments run along each other from a common end: split the longer one where the shorter ends. In bytes that `scene make` did not make, elements may be out of order.",

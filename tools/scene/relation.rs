@@ -1,24 +1,38 @@
 //! What a planner would call the way F lies to G, by the nine cells: the eight names of regions, carried over to points and lines, with
-//! "cross" and "on boundary" where dimensions differ. Lines that share interior points cross, unless they share a segment: then they overlap.
+//! "cross", "on boundary" and "has on boundary" where dimensions differ. Lines that share interior points cross, unless they share a
+//! segment: then they overlap.
 
 use crate::answer::{Cells, Taken};
 use crate::bytes::Kind;
 use crate::flags;
+use crate::listing;
 
 pub struct Relation {
     pub name: &'static str,
-    pub says: &'static str,
+    pub says: String,
 }
 
 pub fn of(answer: &Taken) -> Relation {
     let [f_empty, g_empty] = empty(&answer.cells);
     let (name, says) = match name(answer) {
-        _ if f_empty && g_empty => ("both empty", "Neither object has an element."),
-        name if f_empty => (name, "F is empty."),
-        name if g_empty => (name, "G is empty."),
-        name => (name, says(name, answer.kinds)),
+        _ if f_empty && g_empty => ("both empty", "Neither object has an element.".to_string()),
+        name if f_empty => (name, "F is empty.".to_string()),
+        name if g_empty => (name, "G is empty.".to_string()),
+        name => (name, in_either_order(name, answer.kinds)),
     };
     Relation { name, says }
+}
+
+/// The sentences are those of a first type that is not above the second; of the other pairs they say the converse, with F and G exchanged.
+fn in_either_order(name: &str, [f, g]: [Kind; 2]) -> String {
+    if f > g { listing::exchanged(says(converse(name), [g, f])) } else { says(name, [f, g]).to_string() }
+}
+
+/// What the way G lies to F is called.
+fn converse(name: &str) -> &str {
+    let pairs = [("inside", "contains"), ("covered by", "covers"), ("on boundary", "has on boundary")];
+    let other = |(one, other): (&'static str, &'static str)| if name == one { Some(other) } else { (name == other).then_some(one) };
+    pairs.into_iter().find_map(other).unwrap_or(name)
 }
 
 /// An object that is not empty has an interior, and each point of it is in one column or row.
@@ -35,6 +49,7 @@ fn name(answer: &Taken) -> &'static str {
     match ii {
         false if !touch => "disjoint",
         false if f_within && !same_dimension => "on boundary",
+        false if g_within && !same_dimension => "has on boundary",
         false => "meet",
         true if f_within && g_within => "equal",
         true if f_within && (ib || bb) => "covered by",
@@ -105,6 +120,33 @@ mod tests {
         assert_eq!(lines.map(|line| named(&format!("ok {line}"))), ["on boundary", "meet", "inside", "covered by", "cross"]);
         let lines = ["2 3 34 1 010010111", "2 3 100 1 001011111", "2 3 17 1 100100111", "2 3 49 1 100110111", "2 3 93 1 111101111"];
         assert_eq!(lines.map(|line| named(&format!("ok {line}"))), ["on boundary", "meet", "inside", "covered by", "cross"]);
+    }
+
+    /// The answer with the objects exchanged, of unequal types.
+    fn turned(line: &str) -> String {
+        let fields: Vec<&str> = line.split(' ').collect();
+        let cells: String = [0, 3, 6, 1, 4, 7, 2, 5, 8].map(|i| &fields[4][i..i + 1]).concat();
+        format!("ok {} {} {} {} {cells}", fields[1], fields[0], fields[3], fields[2])
+    }
+
+    fn said(line: &str) -> String {
+        match parse(&format!("{line}\n")) {
+            Some(Answer::Taken(taken)) => of(&taken).says,
+            other => panic!("{other:?}"),
+        }
+    }
+
+    #[test]
+    fn the_higher_type_first() {
+        let lines = ["1 3 2 0 010000111", "1 3 6 0 011000111", "1 3 1 0 100000111", "1 3 3 0 110000111", "1 3 7 0 111000111"];
+        assert_eq!(lines.map(|line| named(&turned(line))), ["has on boundary", "meet", "contains", "covers", "cross"]);
+        let lines = ["2 3 34 1 010010111", "2 3 100 1 001011111", "2 3 17 1 100100111", "2 3 49 1 100110111", "2 3 93 1 111101111"];
+        assert_eq!(lines.map(|line| named(&turned(line))), ["has on boundary", "meet", "contains", "covers", "cross"]);
+        for line in lines {
+            assert_eq!(said(&turned(line)), listing::exchanged(&said(&format!("ok {line}"))));
+        }
+        assert_eq!(said("ok 3 2 1 34 001110001"), "All of G lies on the boundary of F.");
+        assert_eq!(named("ok 2 1 0 0 001000001"), "disjoint");
     }
 
     #[test]

@@ -3,10 +3,11 @@
 use crate::answer::Answer;
 use crate::{draw, explain, make, show};
 
-const TEXTS: [&str; 3] = [
+const TEXTS: [&str; 4] = [
     "MULTIPOINT ((0 0), (2 2))\nLINESTRING (0 0, 4 0, 4 3)\n",
     "LINESTRING (2 2, 4 2, 6 2)\nPOLYGON ((0 0, 4 0, 4 2, 4 4, 0 4, 0 0))\n",
     "POLYGON ((0 0, 4 0, 4 4, 0 4, 0 0), (1 1, 2 1, 2 2, 1 1))\nMULTIPOLYGON EMPTY\n",
+    "POLYGON ((0 0, 4 0, 4 4, 0 0))\nPOINT (2 2)\n",
 ];
 
 fn all_views(bytes: &[u8]) {
@@ -32,6 +33,17 @@ fn any_bytes() {
                 all_views(&changed);
             }
         }
+    }
+}
+
+/// The objects stand in the bytes as in the text, whatever their types.
+#[test]
+fn in_the_order_of_the_text() {
+    for text in TEXTS {
+        let lines: Vec<&str> = text.lines().collect();
+        let [given, turned] = [[0, 1], [1, 0]].map(|order| make::scene(&order.map(|i| lines[i]).join("\n"), false).unwrap());
+        assert!((1..given.len()).any(|second| [&given[second..], &given[..second]].concat() == turned));
+        assert_eq!(make::scene(&show::text(&turned).unwrap(), false).unwrap(), turned);
     }
 }
 

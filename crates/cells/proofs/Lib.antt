@@ -1,2 +1,3 @@
 -- Demand 3 over the bytes of a scene.
 pub mod Taken
+pub mod AskedTwice

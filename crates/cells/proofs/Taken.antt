@@ -3,7 +3,7 @@ use Prim.Native.Nat.{ℕ, zero, suc, _<_}
 use native.Mathlib.Omega.{arith}
 use mathlib.Core.Path.{_≡_, refl, sym, ap, _∙_, subst}
 use mathlib.Core.Logic.{_↔_}
-use mathlib.Core.Bool.{Bool, true, false, not}
+use mathlib.Core.Bool.{Bool, true, false, not, cond}
 use mathlib.Core.List.{List, [], _∷_}
 use lib.Dec.{T, leb, eqb, le→leb, eqb·suc-zero}
 use Rattle.whole.specs.Count.{_∈_, here}
@@ -17,28 +17,30 @@ use Rattle.scene.specs.declared.Shape.the-variants.{Points, Line, Region}
 use Rattle.scene.specs.declared.Layout.{Layout}
 use Rattle.scene.specs.declared.Scene.{Scene}
 use Rattle.scene.specs.declared.CheckedScene.{CheckedScene}
-use Rattle.scene.specs.Read.{shapeNumber}
+use Rattle.scene.specs.Read.{shapeNumber, descends, turned, givenFirst, givenSecond}
 use Rattle.scene.specs.Conditions as C
 use Rattle.scene.specs.Conditions.{half, isLeft, hasSegments, segments, elements, keep, checkScene}
 use Rattle.check_verdict.specs.SharedPoints.{CheckedMeans}
 use Rattle.check_verdict.proofs.CheckedMeans.{checked-means}
-use Rattle.check_verdict.proofs.Laws.{SoundObject, SoundScene, sound-scene, split, regular, ia-is, across, segment-in, left-in, in-left}
+use Rattle.check_verdict.proofs.Laws.{SoundObject, SoundScene, sound-scene, ascending, split, regular, ia-is, across, segment-in, left-in, in-left}
 use Rattle.scene_segments.proofs.Indices.{keep-in, element-in, in-element}
 use Rattle.flags.specs.Flags as F
 use Rattle.flags.specs.Flags.{Edge, Elements, outline, segmentsOf, flagsOfF, flagsOfG, pack}
 use Rattle.flags.specs.Elements.{edges, edgeOf, pointOf, pointsOf, elementsAs, elementsOf}
 use Rattle.flags_vectors.specs.declared.Vectors.{Vectors}
+use Rattle.flags_vectors.specs.Vectors.{sceneVectors}
+use Rattle.flags_masks.specs.declared.Wanted.{Wanted}
 use Rattle.flags_masks.specs.Wanted.{masksFor}
 use Rattle.flags.proofs.Elements.{outline-edges}
 use Rattle.flags_masks.proofs.Masks.{every-flag-f, every-flag-g}
 use Rattle.cells.specs.declared.Explored.{Explored}
 use Rattle.cells.specs.declared.CellsAnswer.{CellsAnswer}
-use Rattle.cells_matrix.specs.Matrix.{Part, Meet, matrixOf, cellAt}
+use Rattle.cells_matrix.specs.Matrix.{Part, Meet, matrixOf, cellAt, transposed}
 use Rattle.cells.specs.Explored as E
 use Rattle.cells.specs.Explored.{wholeVectors, exploredIn, matrixFrom, answered, cellsAnswerOf, cellsValues, NoCellWrong}
 use Rattle.cells_matrix.proofs.Common.{filled, filled-of}
 use Rattle.cells_matrix.proofs.RegionRegion.{Sound}
-use Rattle.cells_matrix.proofs.Theorem.{Accepted, Good, shapeOf, isEmpty, no-cell-wrong}
+use Rattle.cells_matrix.proofs.Theorem.{Accepted, Good, shapeOf, isEmpty, no-cell-wrong, cell-transposed, meet-swap}
 
 filled-none : {A : Type 0} (b : List A) → ((a : A) → a ∈ b → ⊥) → filled b ≡ false
 filled-none [] h = refl
@@ -99,7 +101,7 @@ module _ (s : List ℕ) (l : Layout) (o : SoundObject s l) where
       (λ h. outline-filled (edges s l) (subst (λ (r : List Segment). T (filled r)) (sym (outline-edges s l)) (filled-of (segment-in o (ap hasSegments e) 0 h))))
 
 module _ (s : List ℕ) where
-  shape-as : (l : Layout) (k : Shape) → shapeOf (elementsAs s l k) ≡ k
+  pub shape-as : (l : Layout) (k : Shape) → shapeOf (elementsAs s l k) ≡ k
   shape-as l Points = refl
   shape-as l Line = refl
   shape-as l Region = refl
@@ -139,11 +141,18 @@ module _ (s : List ℕ) (sc : Scene) (o : SoundScene s sc) where
       ascends : (a b : Shape) → a ≡ sc .f .shape → b ≡ sc .g .shape → T (leb (shapeNumber a) (shapeNumber b))
       ascends a b e q =
           subst (λ (a : Shape). T (leb (shapeNumber a) (shapeNumber b))) (sym e)
-          (subst (λ (b : Shape). T (leb (shapeNumber (sc .f .shape)) (shapeNumber b))) (sym q) (le→leb (shapeNumber (sc .f .shape)) (shapeNumber (sc .g .shape)) (o .ascending)))
+          (subst (λ (b : Shape). T (leb (shapeNumber (sc .f .shape)) (shapeNumber b))) (sym q) (le→leb (shapeNumber (sc .f .shape)) (shapeNumber (sc .g .shape)) (ascending o)))
 
-  matrix-is : matrixFrom (exploredIn s sc) ≡ matrixOf (shapeOf of-f) (shapeOf of-g) (pack (flagsOfF of-f of-g)) (pack (flagsOfG of-f of-g)) (isEmpty of-f) (isEmpty of-g)
+  -- the matrix of F and G
+  abbrev both : Vectors
+  both = sceneVectors s sc (masksFor Wanted.All sc)
+
+  abbrev pair : List (List Bool)
+  pair = matrixOf (sc .f .shape) (sc .g .shape) (both .f) (both .g) (E.isEmpty (sc .f)) (E.isEmpty (sc .g))
+
+  pair-is : pair ≡ matrixOf (shapeOf of-f) (shapeOf of-g) (pack (flagsOfF of-f of-g)) (pack (flagsOfG of-f of-g)) (isEmpty of-f) (isEmpty of-g)
   unfolding masksFor
-  matrix-is =
+  pair-is =
       let a = shape-as s (sc .f) (sc .f .shape) in
       let b = shape-as s (sc .g) (sc .g .shape) in
       let v = every-flag-f s (sc .f) (sc .g) in
@@ -152,20 +161,48 @@ module _ (s : List ℕ) (sc : Scene) (o : SoundScene s sc) where
       let y = empty-as s (sc .g) (o .g-sound) (sc .g .shape) refl in
       cc
 
-  cells-right : (r c : Part) → T (cellAt (matrixFrom (exploredIn s sc)) r c) ↔ Meet r (C.object s (sc .f)) c (C.object s (sc .g))
-  cells-right r c =
-      subst (λ (m : List (List Bool)). T (cellAt m r c) ↔ Meet r (C.object s (sc .f)) c (C.object s (sc .g))) (sym matrix-is)
+  pair-right : (r c : Part) → T (cellAt pair r c) ↔ Meet r (C.object s (sc .f)) c (C.object s (sc .g))
+  pair-right r c =
+      subst (λ (m : List (List Bool)). T (cellAt m r c) ↔ Meet r (C.object s (sc .f)) c (C.object s (sc .g))) (sym pair-is)
       (subst (λ (a : Object). T (cellAt m r c) ↔ Meet r a c (C.object s (sc .g))) (object-is s (sc .f))
       (subst (λ (b : Object). T (cellAt m r c) ↔ Meet r (F.object of-f) c b) (object-is s (sc .g)) (no-cell-wrong of-f of-g accepted r c)))
     where
       m : List (List Bool)
       m = matrixOf (shapeOf of-f) (shapeOf of-g) (pack (flagsOfF of-f of-g)) (pack (flagsOfG of-f of-g)) (isEmpty of-f) (isEmpty of-g)
 
+  -- in the caller's order: turned about the diagonal exactly where the objects were exchanged
+  given-is : matrixFrom (exploredIn s sc) ≡ cond (turned sc) (transposed pair) pair
+  given-is = go (turned sc) (sym (o .taken .by-types))
+    where
+      explored : Bool → Explored
+      explored t = record {
+        f = cond t (sc .g) (sc .f) .shape;
+        g = cond t (sc .f) (sc .g) .shape;
+        v = cond t (both .g) (both .f);
+        w = cond t (both .f) (both .g);
+        «f_empty» = E.isEmpty (cond t (sc .g) (sc .f));
+        «g_empty» = E.isEmpty (cond t (sc .f) (sc .g));
+      }
+
+      go : (t : Bool) → descends (cond t (sc .g) (sc .f) .shape) (cond t (sc .f) (sc .g) .shape) ≡ t → matrixFrom (explored t) ≡ cond t (transposed pair) pair
+      go true e = rw e
+      go false e = rw e
+
+  cells-right : (r c : Part) → T (cellAt (matrixFrom (exploredIn s sc)) r c) ↔ Meet r (C.object s (givenFirst sc)) c (C.object s (givenSecond sc))
+  cells-right r c =
+      subst (λ (m : List (List Bool)). T (cellAt m r c) ↔ Meet r (C.object s (givenFirst sc)) c (C.object s (givenSecond sc))) (sym given-is) (go (turned sc))
+    where
+      go : (t : Bool) → T (cellAt (cond t (transposed pair) pair) r c) ↔ Meet r (C.object s (cond t (sc .g) (sc .f))) c (C.object s (cond t (sc .f) (sc .g)))
+      go true =
+          let turn = cell-transposed pair r c in
+          (λ h. meet-swap (pair-right c r .0 (subst T turn h)), λ m. subst T (sym turn) (pair-right c r .1 (meet-swap m)))
+      go false = pair-right r c
+
 -- Demand 3, of every byte string
 pub scene-cells : (s : List ℕ) → NoCellWrong s (cellsValues (cellsAnswerOf s) .cells)
 unfolding cellsAnswerOf checkScene
 scene-cells s sc e r c =
-    subst (λ (x : CheckedScene). T (cellAt (cellsValues (answered s x) .cells) r c) ↔ Meet r (C.object s (sc .f)) c (C.object s (sc .g))) (sym e)
+    subst (λ (x : CheckedScene). T (cellAt (cellsValues (answered s x) .cells) r c) ↔ Meet r (C.object s (givenFirst sc)) c (C.object s (givenSecond sc))) (sym e)
     (cells-right s sc (sound-scene [] [] s sc e) r c)
 
 -- as the contract says it of its result
@@ -178,9 +215,9 @@ as-explored s k e {x} q =
 
 -- a scene that is taken, from its parts
 module _ (s : List ℕ) (sc : Scene) where
-  abbrev exploredBy : Vectors → Explored
-  exploredBy both =
-      record { f = sc .f .shape; g = sc .g .shape; v = both .f; w = both .g; «f_empty» = E.isEmpty (sc .f); «g_empty» = E.isEmpty (sc .g) }
+  abbrev exploredBy : Layout → Layout → Vectors → Explored
+  exploredBy first second both =
+      record { f = first .shape; g = second .shape; v = both .f; w = both .g; «f_empty» = E.isEmpty first; «g_empty» = E.isEmpty second }
 
-  pub taken-by : {both : Vectors} → both ≡ wholeVectors s sc → exploredBy both ≡ exploredIn s sc
-  taken-by e = ap exploredBy e
+  pub taken-by : {first second : Layout} {both : Vectors} → first ≡ givenFirst sc → second ≡ givenSecond sc → both ≡ wholeVectors s sc → exploredBy first second both ≡ exploredIn s sc
+  taken-by a b v = λ i. exploredBy (a i) (b i) (v i)

@@ -8,38 +8,38 @@ use lib.Dec.{T, eqb}
 use Rattle.scene.specs.declared.Layout.{Layout}
 use Rattle.scene.specs.declared.Scene.{Scene}
 use Rattle.scene.specs.declared.CheckedScene.{CheckedScene}
-use Rattle.scene.specs.Read.{shapeNumber}
+use Rattle.scene.specs.Read.{shapeNumber, givenFirst, givenSecond}
 use Rattle.scene.specs.Conditions.{object, checkScene}
 use Rattle.flags_masks.specs.declared.Wanted.{Wanted}
 use Rattle.flags_vectors.specs.declared.Vectors.{Vectors}
-use Rattle.flags_vectors.specs.Vectors.{masksIn, sceneVectors}
+use Rattle.flags_vectors.specs.Vectors.{vectorsIn}
 use Rattle.cells.specs.declared.Explored.{Explored}
 use Rattle.cells.specs.declared.CellsAnswer.{CellsAnswer}
-use Rattle.cells_matrix.specs.Matrix.{Part, Meet, matrixOf, noCells, cellAt}
+use Rattle.cells_matrix.specs.Matrix.{Part, Meet, matrixGiven, noCells, cellAt}
 
 -- "an object is empty when it has no elements"
 abbrev pub isEmpty : Layout → Bool
 isEmpty l = eqb (l .count) 0
 
--- "its two vectors are those of demand 2 with every flag of the type pair wanted"
+-- "its two vectors are those of demand 2 with every flag of the type pair wanted"; "in the caller's order"
 module _ (s : List ℕ) (sc : Scene) where
   abbrev pub wholeVectors : Vectors
-  wholeVectors = sceneVectors s sc (masksIn sc Wanted.All)
+  wholeVectors = vectorsIn s sc Wanted.All
 
   abbrev pub exploredIn : Explored
   exploredIn =
       record {
-        f = sc .f .shape;
-        g = sc .g .shape;
+        f = givenFirst sc .shape;
+        g = givenSecond sc .shape;
         v = wholeVectors .f;
         w = wholeVectors .g;
-        «f_empty» = isEmpty (sc .f);
-        «g_empty» = isEmpty (sc .g);
+        «f_empty» = isEmpty (givenFirst sc);
+        «g_empty» = isEmpty (givenSecond sc);
       }
 
 -- the matrix of what was explored: from the two vectors, the two types and emptiness alone
 abbrev pub matrixFrom : Explored → List (List Bool)
-matrixFrom e = matrixOf (e .f) (e .g) (e .v) (e .w) (e .«f_empty») (e .«g_empty»)
+matrixFrom e = matrixGiven (e .f) (e .g) (e .v) (e .w) (e .«f_empty») (e .«g_empty»)
 
 -- ---- the answer
 
@@ -68,7 +68,8 @@ cellsValues (CellsAnswer.Refused r) = record { number = r .number; place = r .pl
 
 -- ---- what it means
 
--- Demand 3, of the bytes: for a scene that is taken, each cell is yes if and only if some point with fraction coordinates lies in the row's part of F and in
--- the column's part of G
+-- Demand 3, of the bytes: for a scene that is taken, each cell is yes if and only if some point with fraction coordinates lies in the row's part of the object
+-- given first and in the column's part of the object given second
 abbrev pub NoCellWrong : List ℕ → List (List Bool) → Type 0
-NoCellWrong s m = (sc : Scene) → checkScene s ≡ CheckedScene.Taken sc → (r c : Part) → T (cellAt m r c) ↔ Meet r (object s (sc .f)) c (object s (sc .g))
+NoCellWrong s m =
+    (sc : Scene) → checkScene s ≡ CheckedScene.Taken sc → (r c : Part) → T (cellAt m r c) ↔ Meet r (object s (givenFirst sc)) c (object s (givenSecond sc))

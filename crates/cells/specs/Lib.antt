@@ -1,2 +1,3 @@
 -- The cells question over a scene's bytes.
 pub mod Explored
+pub mod AskedTwice

@@ -2,7 +2,7 @@
 use scene::Refusal;
 use scene::Shape;
 
-// What a taken scene's cells follow from: the two types, the two vectors with every flag wanted, and which objects are empty.
+// What a taken scene's cells follow from, in the caller's order: the two types, the two vectors with every flag wanted, and which objects are empty.
 pub struct Explored {
     pub f: Shape,
     pub g: Shape,

@@ -7,6 +7,7 @@ use flags_vectors::SceneAnswer;
 use flags_vectors::Vectors;
 use flags_vectors::question;
 use scene::Scene;
+use scene::order;
 ghost use mathlib.Core.Path.{_≡_};
 ghost use mathlib.Core.List.{List};
 ghost use Prim.Native.Nat.{ℕ};
@@ -18,17 +19,17 @@ ghost use Rattle.cells.specs.Explored.{wholeVectors, exploredIn, cellsAn
 fn taken(scene: Scene, both: Vectors) -> Explored
     ensures { λ r. ⌜ ((s : List ℕ) → both ≡ wholeVectors s scene → r ≡ exploredIn s scene) ⌝ }
 {
-    let f = scene.f;
-    let g = scene.g;
-    let of_f = f.shape;
-    let of_g = g.shape;
+    let first = order::given_first(scene);
+    let second = order::given_second(scene);
+    let f = first.shape;
+    let g = second.shape;
     Explored {
-        f: of_f,
-        g: of_g,
+        f,
+        g,
         v: both.f,
         w: both.g,
-        f_empty: f.count == 0,
-        g_empty: g.count == 0,
+        f_empty: first.count == 0,
+        g_empty: second.count == 0,
     }
 }
 

@@ -1,11 +1,12 @@
 // The nine-intersection matrix of two objects, from their types, vectors and emptiness alone.
 use crate::Explored;
 use scene::Shape;
+use scene::records;
 ghost use mathlib.Core.Path.{_≡_};
 ghost use mathlib.Core.Bool.{_||_, not, true};
 ghost use Prim.Native.Nat.{_/_, _<_};
 ghost use Rattle.whole.specs.Count.{odd};
-ghost use Rattle.cells_matrix.specs.Matrix.{matrixOf};
+ghost use Rattle.cells_matrix.specs.Matrix.{matrixOf, transposed};
 ghost use Rattle.cells.specs.Explored.{matrixFrom};
 
 // Is the bit with this place value set in a vector?
@@ -36,7 +37,7 @@ fn negate(b: bool) -> bool
     !b
 }
 
-// One matrix for each pair of types that a scene can have: rows are interior, boundary, exterior of F, columns the same of G.
+// One matrix for each pair of types that does not descend: rows are interior, boundary, exterior of F, columns the same of G.
 fn points_points(v: u16, w: u16) -> [[bool; 3]; 3]
     ensures { λ r. ⌜ r ≡ matrixOf Shape.Points Shape.Points v w true true ⌝ }
 {
@@ -131,9 +132,9 @@ fn region_region(v: u16, w: u16) -> [[bool; 3]; 3]
     ]
 }
 
-// The matrix: a function of the types, the vectors and the emptiness of the two objects, and of nothing else.
-pub fn matrix(e: Explored) -> [[bool; 3]; 3]
-    ensures { λ r. ⌜ r ≡ matrixFrom e ⌝ }
+// The matrix of two objects whose types do not descend.
+fn ascending(e: Explored) -> [[bool; 3]; 3]
+    ensures { λ r. ⌜ r ≡ matrixOf (e .f) (e .g) (e .v) (e .w) (e .«f_empty») (e .«g_empty») ⌝ }
 {
     let f = e.f;
     let g = e.g;
@@ -153,5 +154,45 @@ pub fn matrix(e: Explored) -> [[bool; 3]; 3]
             Shape::Line => [[false; 3]; 3],
             Shape::Region => region_region(e.v, e.w),
         },
+    }
+}
+
+// The two objects exchanged.
+fn exchanged(e: Explored) -> Explored
+    ensures { λ r. ⌜ r ≡ record { f = e .g; g = e .f; v = e .w; w = e .v; «f_empty» = e .«g_empty»; «g_empty» = e .«f_empty» } ⌝ }
+{
+    let f = e.f;
+    let g = e.g;
+    Explored {
+        f: g,
+        g: f,
+        v: e.w,
+        w: e.v,
+        f_empty: e.g_empty,
+        g_empty: e.f_empty,
+    }
+}
+
+// Rows for columns.
+fn transposed(m: [[bool; 3]; 3]) -> [[bool; 3]; 3]
+    ensures { λ r. ⌜ r ≡ transposed m ⌝ }
+{
+    [
+        [m[0][0], m[1][0], m[2][0]],
+        [m[0][1], m[1][1], m[2][1]],
+        [m[0][2], m[1][2], m[2][2]],
+    ]
+}
+
+// The matrix: a function of the types, the vectors and the emptiness of the two objects, and of nothing else.
+pub fn matrix(e: Explored) -> [[bool; 3]; 3]
+    ensures { λ r. ⌜ r ≡ matrixFrom e ⌝ }
+{
+    let f = e.f;
+    let g = e.g;
+    if records::shape_number(g) < records::shape_number(f) {
+        transposed(ascending(exchanged(e)))
+    } else {
+        ascending(e)
     }
 }

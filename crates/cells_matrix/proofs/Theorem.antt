@@ -2,21 +2,19 @@
 use Prim.Native.Nat.{ℕ}
 use mathlib.Core.Path.{_≡_, refl, sym, ap₂, subst, fun-ext}
 use mathlib.Core.Logic.{_↔_}
-use mathlib.Core.Bool.{Bool, true, false, not, _&&_, _||_}
+use mathlib.Core.Bool.{Bool, false, not}
 use mathlib.Core.List.{List, [], _∷_}
 use lib.Dec.{T, leb}
 use lib.ListN.{getD}
-use Rattle.plane.specs.declared.Point.{Point}
-use Rattle.plane.specs.declared.Segment.{Segment}
-use Rattle.plane.specs.Plane.{HPoint, FractionPoint, fractions, Object, inInterior, inBoundary, inExterior}
+use Rattle.plane.specs.Plane.{fractions, Object, inInterior, inBoundary, inExterior}
 use Rattle.plane.proofs.Scale.{ScaleFree, inInterior-scale, inBoundary-scale, inExterior-scale, fractions-pos, as-fractions, at-fractions}
-use Rattle.plane.proofs.Accepted.{Split, Regular, Across}
+use Rattle.plane.proofs.Accepted.{Split, Across}
 use Rattle.scene.specs.declared.Shape.{Shape}
 use Rattle.scene.specs.declared.Shape.the-variants.{Points, Line, Region}
 use Rattle.scene.specs.Read.{shapeNumber}
-use Rattle.flags.specs.Flags.{Edge, Elements, outline, object, segmentsOf, flagsOfF, flagsOfG, pack, hasBit}
+use Rattle.flags.specs.Flags.{Edge, Elements, outline, object, segmentsOf, flagsOfF, flagsOfG, pack}
 use Rattle.flags.proofs.Bits.{pack-bit}
-use Rattle.cells_matrix.specs.Matrix.{Part, interior, boundary, exterior, lies, Meet, matrixBy, matrixOf, cellAt}
+use Rattle.cells_matrix.specs.Matrix.{Part, interior, boundary, exterior, lies, Meet, matrixBy, matrixOf, cellAt, transposed}
 use Rattle.cells_matrix.proofs.Common.{Cell, filled}
 use Rattle.cells_matrix.proofs.PointsPoints as PP
 use Rattle.cells_matrix.proofs.PointsLine as PL
@@ -149,3 +147,20 @@ pub no-cell-wrong : (F G : Elements) → Accepted F G → (r c : Part)
     → T (cellAt (matrixOf (shapeOf F) (shapeOf G) (pack (flagsOfF F G)) (pack (flagsOfG F G)) (isEmpty F) (isEmpty G)) r c) ↔ Meet r (object F) c (object G)
 no-cell-wrong F G h r c =
     cell-meets r c (object F) (object G) (subst (λ (m : List (List Bool)). Cell (cellAt m r c) (lies r (object F)) (lies c (object G))) (sym (vectors-matrix F G)) (nine F G h r c))
+
+-- ---- in the caller's order
+
+-- rows and columns exchanged
+pub cell-transposed : (m : List (List Bool)) (r c : Part) → cellAt (transposed m) r c ≡ cellAt m c r
+cell-transposed m interior interior = refl
+cell-transposed m interior boundary = refl
+cell-transposed m interior exterior = refl
+cell-transposed m boundary interior = refl
+cell-transposed m boundary boundary = refl
+cell-transposed m boundary exterior = refl
+cell-transposed m exterior interior = refl
+cell-transposed m exterior boundary = refl
+cell-transposed m exterior exterior = refl
+
+pub meet-swap : {r c : Part} {F G : Object} → Meet r F c G → Meet c G r F
+meet-swap m = record { at = m .at; in-F = m .in-G; in-G = m .in-F }

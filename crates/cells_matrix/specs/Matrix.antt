@@ -1,14 +1,15 @@
 -- The nine-intersection matrix: document 01's question "Cells". Three rows (interior, boundary, exterior of F) of three columns (the same of G), from the
 -- two types, the two vectors and the two emptiness bits alone; and what a cell means, in points with fraction coordinates.
 use Prim.Native.Nat.{ℕ}
-use mathlib.Core.Bool.{Bool, true, false, not, _||_}
-use mathlib.Core.List.{List, [], _∷_}
+use mathlib.Core.Bool.{Bool, true, false, not, _||_, cond}
+use mathlib.Core.List.{List, [], _∷_, map}
 use lib.Dec.{T}
 use lib.ListN.{getD}
 use Rattle.plane.specs.Plane.{FractionPoint, fractions, HPoint, Object, inInterior, inBoundary, inExterior}
 use Rattle.flags.specs.Flags.{hasBit}
 use Rattle.scene.specs.declared.Shape.{Shape}
 use Rattle.scene.specs.declared.Shape.the-variants.{Points, Line, Region}
+use Rattle.scene.specs.Read.{descends}
 
 -- ---- the parts of an object
 
@@ -32,8 +33,8 @@ pub record Meet (r : Part) (F : Object) (c : Part) (G : Object) : Type 0 where
 abbrev pub noCells : List (List Bool)
 noCells = (false ∷ false ∷ false ∷ []) ∷ (false ∷ false ∷ false ∷ []) ∷ (false ∷ false ∷ false ∷ []) ∷ []
 
--- The table, over the flags: v and w say whether a bit of F's and of G's vector is set, e and g whether F and G are empty. "EE" is always yes; a type
--- pair with F's type above G's is turned away, and has no matrix.
+-- The table, over the flags: v and w say whether a bit of F's and of G's vector is set, e and g whether F and G are empty. "EE" is always yes. F's type is
+-- never above G's, so that a pair of types that descends has no table of its own.
 abbrev pub matrixBy : Shape → Shape → (ℕ → Bool) → (ℕ → Bool) → Bool → Bool → List (List Bool)
 matrixBy Points Points v w e g = (v 1 ∷ false ∷ v 0 ∷ []) ∷ (false ∷ false ∷ false ∷ []) ∷ (w 0 ∷ false ∷ true ∷ []) ∷ []
 matrixBy Points Line v w e g = (v 1 ∷ v 2 ∷ v 0 ∷ []) ∷ (false ∷ false ∷ false ∷ []) ∷ (not g ∷ w 0 ∷ true ∷ []) ∷ []
@@ -61,3 +62,16 @@ index exterior = 2
 
 abbrev pub cellAt : List (List Bool) → Part → Part → Bool
 cellAt m r c = getD (getD m (index r) []) (index c) false
+
+-- ---- in the caller's order
+
+abbrev pub parts : List Part
+parts = interior ∷ boundary ∷ exterior ∷ []
+
+-- 02, Paper 1: "so the cells turned about the diagonal"
+abbrev pub transposed : List (List Bool) → List (List Bool)
+transposed m = map (λ r. map (λ c. cellAt m c r) parts) parts
+
+-- the matrix of two objects, whichever type comes first: where the types descend, that of the objects exchanged, turned about the diagonal
+abbrev pub matrixGiven : Shape → Shape → ℕ → ℕ → Bool → Bool → List (List Bool)
+matrixGiven t u v w e g = cond (descends t u) (transposed (matrixOf u t w v g e)) (matrixOf t u v w e g)

@@ -11,7 +11,7 @@ use Rattle.scene.specs.declared.Fault.{Fault}
 use Rattle.scene.specs.declared.Fault.the-variants.{At, Nothing}
 use Rattle.scene.specs.declared.CheckedObject.{CheckedObject}
 use Rattle.scene.specs.declared.CheckedScene.{CheckedScene}
-use Rattle.scene.specs.Read.{judge, readScene, readAlone, IsObject, IsScene}
+use Rattle.scene.specs.Read.{judge, givenFirst, givenSecond, readScene, readAlone, IsObject, IsScene}
 use Rattle.scene.specs.Conditions.{segments, outOfOrder, unpaired, touchingItself, Rule, rule, conditions, objectRules, orElse, overBoth, touchingAcross, sceneRules, checkedScene, checkSceneBy, checkScene, checkedObject, checkObject}
 use Rattle.scene.proofs.Taken.{taken-alone, taken-scene}
 use Rattle.check_verdict.specs.SharedPoints.{FaultMeans, OnlyEndsIn, EarliestIn, OnlyEndsInEach, EarliestInEither, OnlyEndsAcross, EarliestAcross, RefusalSays, CheckedMeans, CheckedObjectMeans}
@@ -30,13 +30,13 @@ module _ (s : List ℕ) (l : Layout) (is : IsObject s l) where
   unfolding touchingItself
   fault-in = fault-exactly s l is (segments s l) (segments-ordered s l is)
 
-module _ (s : List ℕ) (sc : Scene) (is-f : IsObject s (sc .f)) (is-g : IsObject s (sc .g)) where
+module _ (s : List ℕ) (sc : Scene) (is-first : IsObject s (givenFirst sc)) (is-second : IsObject s (givenSecond sc)) where
   pub none-across : (touchingAcross s sc ≡ Nothing) ↔ OnlyEndsAcross s sc
-  none-across = no-fault-exactly s (sc .f) is-f (segments s (sc .g)) (segments-ordered s (sc .g) is-g)
+  none-across = no-fault-exactly s (givenFirst sc) is-first (segments s (givenSecond sc)) (segments-ordered s (givenSecond sc) is-second)
 
-  pub fault-across : outOfOrder s (sc .f) ≡ Nothing → unpaired s (sc .f) ≡ Nothing
-      → (f : Fault) → (touchingAcross s sc ≡ f) ↔ FaultMeans s (sc .f) (segments s (sc .g)) f
-  fault-across = fault-exactly s (sc .f) is-f (segments s (sc .g)) (segments-ordered s (sc .g) is-g)
+  pub fault-across : outOfOrder s (givenFirst sc) ≡ Nothing → unpaired s (givenFirst sc) ≡ Nothing
+      → (f : Fault) → (touchingAcross s sc ≡ f) ↔ FaultMeans s (givenFirst sc) (segments s (givenSecond sc)) f
+  fault-across = fault-exactly s (givenFirst sc) is-first (segments s (givenSecond sc)) (segments-ordered s (givenSecond sc) is-second)
 
 -- ---- a refusal under an earlier number, the condition's own, and a later one
 
@@ -69,11 +69,11 @@ module _ {A B : Type 0} (s : List ℕ) (a : A) (refuse : Refusal → B) (taken :
 -- ---- a scene that was read
 
 module _ (s : List ℕ) (sc : Scene) (read : IsScene s sc) where
-  is-f : IsObject s (sc .f)
-  is-f = taken-scene s sc read .f-read
+  is-first : IsObject s (givenFirst sc)
+  is-first = taken-scene s sc read .first-read
 
-  is-g : IsObject s (sc .g)
-  is-g = taken-scene s sc read .g-taken .read
+  is-second : IsObject s (givenSecond sc)
+  is-second = taken-scene s sc read .second-taken .read
 
   abbrev Says : ℕ → ℕ → Type 0
   Says n p = RefusalSays 12 (EarliestInEither s sc) (OnlyEndsInEach s sc) n p × RefusalSays 15 (EarliestAcross s sc) (OnlyEndsAcross s sc) n p
@@ -91,28 +91,28 @@ module _ (s : List ℕ) (sc : Scene) (read : IsScene s sc) where
   several = all s sc CheckedScene.Refused (CheckedScene.Taken sc) (CheckedMeans s) Says refused
 
   -- 12
-  none-in-each : orElse (touchingItself s (sc .f)) (touchingItself s (sc .g)) ≡ Nothing → OnlyEndsInEach s sc
+  none-in-each : orElse (touchingItself s (givenFirst sc)) (touchingItself s (givenSecond sc)) ≡ Nothing → OnlyEndsInEach s sc
   none-in-each e =
-      let n = neither (touchingItself s (sc .f)) (touchingItself s (sc .g)) e in
-      (none-in s (sc .f) is-f .0 (n .0), none-in s (sc .g) is-g .0 (n .1))
+      let n = neither (touchingItself s (givenFirst sc)) (touchingItself s (givenSecond sc)) e in
+      (none-in s (givenFirst sc) is-first .0 (n .0), none-in s (givenSecond sc) is-second .0 (n .1))
 
-  module _ (order : orElse (outOfOrder s (sc .f)) (outOfOrder s (sc .g)) ≡ Nothing) (paired : orElse (unpaired s (sc .f)) (unpaired s (sc .g)) ≡ Nothing) where
-    in-order : (outOfOrder s (sc .f) ≡ Nothing) × (outOfOrder s (sc .g) ≡ Nothing)
-    in-order = neither (outOfOrder s (sc .f)) (outOfOrder s (sc .g)) order
+  module _ (order : orElse (outOfOrder s (givenFirst sc)) (outOfOrder s (givenSecond sc)) ≡ Nothing) (paired : orElse (unpaired s (givenFirst sc)) (unpaired s (givenSecond sc)) ≡ Nothing) where
+    in-order : (outOfOrder s (givenFirst sc) ≡ Nothing) × (outOfOrder s (givenSecond sc) ≡ Nothing)
+    in-order = neither (outOfOrder s (givenFirst sc)) (outOfOrder s (givenSecond sc)) order
 
-    in-pairs : (unpaired s (sc .f) ≡ Nothing) × (unpaired s (sc .g) ≡ Nothing)
-    in-pairs = neither (unpaired s (sc .f)) (unpaired s (sc .g)) paired
+    in-pairs : (unpaired s (givenFirst sc) ≡ Nothing) × (unpaired s (givenSecond sc) ≡ Nothing)
+    in-pairs = neither (unpaired s (givenFirst sc)) (unpaired s (givenSecond sc)) paired
 
-    earliest-in-either : (p : ℕ) → orElse (touchingItself s (sc .f)) (touchingItself s (sc .g)) ≡ At p → EarliestInEither s sc p
-    earliest-in-either p = go (touchingItself s (sc .f)) refl
+    earliest-in-either : (p : ℕ) → orElse (touchingItself s (givenFirst sc)) (touchingItself s (givenSecond sc)) ≡ At p → EarliestInEither s sc p
+    earliest-in-either p = go (touchingItself s (givenFirst sc)) refl
       where
-        go : (f : Fault) → touchingItself s (sc .f) ≡ f → orElse f (touchingItself s (sc .g)) ≡ At p → EarliestInEither s sc p
-        go (At q) e x = inl (fault-in s (sc .f) is-f (in-order .0) (in-pairs .0) (At p) .0 (e ∙ x))
-        go Nothing e x = inr (none-in s (sc .f) is-f .0 e, fault-in s (sc .g) is-g (in-order .1) (in-pairs .1) (At p) .0 x)
+        go : (f : Fault) → touchingItself s (givenFirst sc) ≡ f → orElse f (touchingItself s (givenSecond sc)) ≡ At p → EarliestInEither s sc p
+        go (At q) e x = inl (fault-in s (givenFirst sc) is-first (in-order .0) (in-pairs .0) (At p) .0 (e ∙ x))
+        go Nothing e x = inr (none-in s (givenFirst sc) is-first .0 e, fault-in s (givenSecond sc) is-second (in-order .1) (in-pairs .1) (At p) .0 x)
 
     -- 15
     earliest-across : (p : ℕ) → touchingAcross s sc ≡ At p → EarliestAcross s sc p
-    earliest-across p = fault-across s sc is-f is-g (in-order .0) (in-pairs .0) (At p) .0
+    earliest-across p = fault-across s sc is-first is-second (in-order .0) (in-pairs .0) (At p) .0
 
   module _ (nine rest : List (Rule Scene)) (before : Numbers (λ n. n < 12) (conditions nine s sc)) (after : Numbers (λ n. 15 < n) (conditions rest s sc)) where
     early : (n p : ℕ) → n < 12 → Says n p
@@ -120,7 +120,6 @@ module _ (s : List ℕ) (sc : Scene) (read : IsScene s sc) where
 
     by-rules : SceneAnswer (sceneRules nine rest)
     by-rules =
-        step (λ p _. early 8 p (omega arith)) (λ _.
         several (λ n. n < 12) early nine (map overBoth objectRules ++ (rule 15 touchingAcross ∷ rest)) before
         (step (λ p _. early 10 p (omega arith)) (λ order.
         step (λ p _. early 11 p (omega arith)) (λ paired.
@@ -129,10 +128,10 @@ module _ (s : List ℕ) (sc : Scene) (read : IsScene s sc) where
         step (λ p _. (later 13 p (omega arith) each, earlier 13 p (omega arith))) (λ _.
         step (λ p _. (later 14 p (omega arith) each, earlier 14 p (omega arith))) (λ _.
         step (λ p e. (later 15 p (omega arith) each, own p (earliest-across order paired p e))) (λ clear.
-        let across = none-across s sc is-f is-g .0 clear in
+        let across = none-across s sc is-first is-second .0 clear in
         subst SceneAnswer (append-nil rest)
         (several (λ n. 15 < n) (λ n p h. (later n p (omega arith) each, later n p h across)) rest [] after
-        (record { means = (read, each, across) }))))))))))
+        (record { means = (read, each, across) })))))))))
 
 -- ---- one object that was read
 

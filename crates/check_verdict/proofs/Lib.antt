@@ -4,3 +4,4 @@ pub mod Laws
 pub mod Numbers
 pub mod SharedPoints
 pub mod CheckedMeans
+pub mod EitherOrder

@@ -15,7 +15,7 @@ use Rattle.scene.specs.declared.Record.{Record}
 use Rattle.scene.specs.declared.Record.the-variants.{Good, Bad}
 use Rattle.scene.specs.declared.CheckedObject.{CheckedObject}
 use Rattle.scene.specs.declared.CheckedScene.{CheckedScene}
-use Rattle.scene.specs.Read.{Condition, decide, judge, byte, kindAt, shapeOf, startsObject, standsIn, isEnd, recordConditions, recordAt, endPlace, after, most, oneMore, next, elementsFrom, begun, readObject, endsWith, withG, withF, readScene, alone, readAlone}
+use Rattle.scene.specs.Read.{Condition, decide, judge, byte, kindAt, shapeOf, startsObject, standsIn, isEnd, recordConditions, recordAt, endPlace, after, most, oneMore, next, elementsFrom, begun, readObject, endsWith, arranged, withSecond, withFirst, readScene, alone, readAlone}
 use Rattle.scene.specs.Conditions.{Rule, conditions, sceneRules, checkedScene, checkSceneBy, checkScene}
 
 -- ---- a list of conditions
@@ -95,16 +95,16 @@ module _ (s : List ℕ) where
 
   pub small-scene : SmallScene (readScene s)
   unfolding readScene
-  small-scene = with-f (readObject s 0) (small-object 0)
+  small-scene = with-first (readObject s 0) (small-object 0)
     where
-      with-g : (f : Layout) (o : CheckedObject) → SmallObject o → SmallScene (withG s f o)
-      with-g f (CheckedObject.Refused r) h = h
-      with-g f (CheckedObject.Taken g) h =
-          judged Small CheckedScene.Refused SmallScene (λ r h. h) (CheckedScene.Taken (record { f = f; g = g })) tt (endsWith s g ∷ []) (omega arith, tt)
+      with-second : (a : Layout) (o : CheckedObject) → SmallObject o → SmallScene (withSecond s a o)
+      with-second a (CheckedObject.Refused r) h = h
+      with-second a (CheckedObject.Taken b) h =
+          judged Small CheckedScene.Refused SmallScene (λ r h. h) (CheckedScene.Taken (arranged a b)) tt (endsWith s b ∷ []) (omega arith, tt)
 
-      with-f : (o : CheckedObject) → SmallObject o → SmallScene (withF s o)
-      with-f (CheckedObject.Refused r) h = h
-      with-f (CheckedObject.Taken f) h = with-g f (readObject s (after f)) (small-object (after f))
+      with-first : (o : CheckedObject) → SmallObject o → SmallScene (withFirst s o)
+      with-first (CheckedObject.Refused r) h = h
+      with-first (CheckedObject.Taken a) h = with-second a (readObject s (after a)) (small-object (after a))
 
 -- ---- no refusal has number 0
 
@@ -125,4 +125,4 @@ pub numbered : (s : List ℕ) → Numbered (checkScene s)
 unfolding checkScene
 numbered s =
     numbered-by (sceneRules [] []) s
-    (λ sc. (omega arith, (omega arith, (omega arith, (omega arith, (omega arith, (omega arith, (omega arith, tt))))))))
+    (λ sc. (omega arith, (omega arith, (omega arith, (omega arith, (omega arith, (omega arith, tt)))))))

@@ -11,14 +11,15 @@ use Rattle.scene.specs.declared.Fault.{Fault}
 use Rattle.scene.specs.declared.Fault.the-variants.{At, Nothing}
 use Rattle.scene.specs.declared.CheckedObject.{CheckedObject}
 use Rattle.scene.specs.declared.CheckedScene.{CheckedScene}
-use Rattle.scene.specs.Read.{Condition, condition, decide, judge, readScene, readAlone, IsObject, IsScene}
-use Rattle.scene.specs.Conditions.{outOfOrder, unpaired, touchingItself, oddEnd, wrongIa, orElse, touchingAcross, typesDescend, Rule, conditions, sceneRules, checkedScene, checkSceneBy, checkedObject, checkObject, objectRules}
+use Rattle.scene.specs.Read.{Condition, condition, decide, judge, givenFirst, givenSecond, readScene, readAlone, IsObject, IsScene}
+use Rattle.scene.specs.Conditions.{outOfOrder, unpaired, touchingItself, oddEnd, wrongIa, orElse, touchingAcross, Rule, conditions, sceneRules, checkedScene, checkSceneBy, checkedObject, checkObject, objectRules}
 use native.Mathlib.Omega.{arith}
 use Rattle.sweep_laws.specs.Swept.{objectOf, InOrder, Passes}
 use Rattle.check_verdict.specs.declared.Verdict.{Verdict}
 use Rattle.check_verdict.specs.declared.Verdict.the-variants.{Sound, Refused}
 use Rattle.check_conditions.specs.Faults.{faultUnder}
 use Rattle.check_verdict.specs.Refusals.{sceneFaultUnder, verdict, settle, objectVerdict, geometryRules, geometryVerdict}
+use Rattle.scene.proofs.Taken.{both-of-given, given-of-both}
 use Rattle.scene.proofs.Given.{neither}
 use Rattle.scene_segments.proofs.Walk.{between, between-next, between-none}
 use Rattle.check_conditions.proofs.Earliest.{fault-11, fault-12, fault-13, fault-14, fault-15}
@@ -58,37 +59,33 @@ object-numbered s l is =
     decide-alike 13 (oddEnd s l) (faultUnder s l l 13) _ _ (sym (fault-13 s l)) (λ _.
     decide-alike 14 (wrongIa s l) (faultUnder s l l 14) _ _ (sym (fault-14 s l is order paired)) (λ _. refl)))))
 
-pub geometry-numbered : (s : List ℕ) (sc : Scene) → IsObject s (sc .f) → IsObject s (sc .g)
+pub geometry-numbered : (s : List ℕ) (sc : Scene) → IsObject s (givenFirst sc) → IsObject s (givenSecond sc)
     → geometryVerdict s sc ≡ verdict (numbered (sceneFaultUnder s sc) 10 16)
 unfolding geometryVerdict outOfOrder
-geometry-numbered s sc is-f is-g =
-    decide-alike 10 (orElse (outOfOrder s (sc .f)) (outOfOrder s (sc .g))) (sceneFaultUnder s sc 10) _ _ refl (λ order.
-    let o = neither (outOfOrder s (sc .f)) (outOfOrder s (sc .g)) order in
-    decide-alike 11 (orElse (unpaired s (sc .f)) (unpaired s (sc .g))) (sceneFaultUnder s sc 11) _ _ (ap₂ orElse (sym (fault-11 s (sc .f) is-f (o .0))) (sym (fault-11 s (sc .g) is-g (o .1)))) (λ paired.
-    let p = neither (unpaired s (sc .f)) (unpaired s (sc .g)) paired in
-    decide-alike 12 (orElse (touchingItself s (sc .f)) (touchingItself s (sc .g))) (sceneFaultUnder s sc 12) _ _ (ap₂ orElse (sym (fault-12 s (sc .f) is-f (o .0))) (sym (fault-12 s (sc .g) is-g (o .1)))) (λ _.
-    decide-alike 13 (orElse (oddEnd s (sc .f)) (oddEnd s (sc .g))) (sceneFaultUnder s sc 13) _ _ (ap₂ orElse (sym (fault-13 s (sc .f))) (sym (fault-13 s (sc .g)))) (λ _.
-    decide-alike 14 (orElse (wrongIa s (sc .f)) (wrongIa s (sc .g))) (sceneFaultUnder s sc 14) _ _ (ap₂ orElse (sym (fault-14 s (sc .f) is-f (o .0) (p .0))) (sym (fault-14 s (sc .g) is-g (o .1) (p .1)))) (λ _.
-    decide-alike 15 (touchingAcross s sc) (sceneFaultUnder s sc 15) _ _ (sym (fault-15 s (sc .g) is-g (o .1) (sc .f) is-f)) (λ _. refl))))))
+geometry-numbered s sc is-first is-second =
+    decide-alike 10 (orElse (outOfOrder s (givenFirst sc)) (outOfOrder s (givenSecond sc))) (sceneFaultUnder s sc 10) _ _ refl (λ order.
+    let o = neither (outOfOrder s (givenFirst sc)) (outOfOrder s (givenSecond sc)) order in
+    decide-alike 11 (orElse (unpaired s (givenFirst sc)) (unpaired s (givenSecond sc))) (sceneFaultUnder s sc 11) _ _ (ap₂ orElse (sym (fault-11 s (givenFirst sc) is-first (o .0))) (sym (fault-11 s (givenSecond sc) is-second (o .1)))) (λ paired.
+    let p = neither (unpaired s (givenFirst sc)) (unpaired s (givenSecond sc)) paired in
+    decide-alike 12 (orElse (touchingItself s (givenFirst sc)) (touchingItself s (givenSecond sc))) (sceneFaultUnder s sc 12) _ _ (ap₂ orElse (sym (fault-12 s (givenFirst sc) is-first (o .0))) (sym (fault-12 s (givenSecond sc) is-second (o .1)))) (λ _.
+    decide-alike 13 (orElse (oddEnd s (givenFirst sc)) (oddEnd s (givenSecond sc))) (sceneFaultUnder s sc 13) _ _ (ap₂ orElse (sym (fault-13 s (givenFirst sc))) (sym (fault-13 s (givenSecond sc)))) (λ _.
+    decide-alike 14 (orElse (wrongIa s (givenFirst sc)) (wrongIa s (givenSecond sc))) (sceneFaultUnder s sc 14) _ _ (ap₂ orElse (sym (fault-14 s (givenFirst sc) is-first (o .0) (p .0))) (sym (fault-14 s (givenSecond sc) is-second (o .1) (p .1)))) (λ _.
+    decide-alike 15 (touchingAcross s sc) (sceneFaultUnder s sc 15) _ _ (sym (fault-15 s (givenSecond sc) is-second (o .1) (givenFirst sc) is-first)) (λ _. refl))))))
 
 -- ---- 10 to 15 refuse no scene in which they find no fault
 
 pub passes-sound : (s : List ℕ) (sc : Scene) → InOrder s sc → Passes s sc → geometryVerdict s sc ≡ Sound
 unfolding geometryVerdict
 passes-sound s sc order p =
-    rw (
-      order true,
-      order false,
-      p .paired true,
-      p .paired false,
-      p .apart true,
-      p .apart false,
-      p .even true,
-      p .even false,
-      p .right-ia true,
-      p .right-ia false,
-      p .across,
-    )
+    let o = given outOfOrder order in
+    let a = given unpaired (p .paired) in
+    let b = given touchingItself (p .apart) in
+    let c = given oddEnd (p .even) in
+    let d = given wrongIa (p .right-ia) in
+    rw (o .0, o .1, a .0, a .1, b .0, b .1, c .0, c .1, d .0, d .1, p .across)
+  where
+    given : (f : List ℕ → Layout → Fault) → ((first : Bool) → f s (objectOf s sc first) ≡ Nothing) → (f s (givenFirst sc) ≡ Nothing) × (f s (givenSecond sc) ≡ Nothing)
+    given f q = given-of-both (λ (l : Layout). f s l ≡ Nothing) sc (q true) (q false)
 
 -- and in one that they do not refuse they find none
 refuses-not : {r : Refusal} → Refused r ≡ Sound → ⊥
@@ -101,11 +98,11 @@ sound-first n Nothing rest e = (refl, e)
 pub sound-passes : (s : List ℕ) (sc : Scene) → geometryVerdict s sc ≡ Sound → InOrder s sc × Passes s sc
 unfolding geometryVerdict
 sound-passes s sc e =
-    let a = sound-first 10 (orElse (outOfOrder s (sc .f)) (outOfOrder s (sc .g))) _ e in
-    let b = sound-first 11 (orElse (unpaired s (sc .f)) (unpaired s (sc .g))) _ (a .1) in
-    let c = sound-first 12 (orElse (touchingItself s (sc .f)) (touchingItself s (sc .g))) _ (b .1) in
-    let d = sound-first 13 (orElse (oddEnd s (sc .f)) (oddEnd s (sc .g))) _ (c .1) in
-    let i = sound-first 14 (orElse (wrongIa s (sc .f)) (wrongIa s (sc .g))) _ (d .1) in (
+    let a = sound-first 10 (either outOfOrder) _ e in
+    let b = sound-first 11 (either unpaired) _ (a .1) in
+    let c = sound-first 12 (either touchingItself) _ (b .1) in
+    let d = sound-first 13 (either oddEnd) _ (c .1) in
+    let i = sound-first 14 (either wrongIa) _ (d .1) in (
       of-both outOfOrder (a .0),
       record {
         paired = of-both unpaired (b .0);
@@ -116,9 +113,18 @@ sound-passes s sc e =
       },
     )
   where
-    of-both : (f : List ℕ → Layout → Fault) → orElse (f s (sc .f)) (f s (sc .g)) ≡ Nothing → (first : Bool) → f s (objectOf s sc first) ≡ Nothing
-    of-both f q true = neither (f s (sc .f)) (f s (sc .g)) q .0
-    of-both f q false = neither (f s (sc .f)) (f s (sc .g)) q .1
+    either : (List ℕ → Layout → Fault) → Fault
+    either f = orElse (f s (givenFirst sc)) (f s (givenSecond sc))
+
+    of-both : (f : List ℕ → Layout → Fault) → either f ≡ Nothing → (first : Bool) → f s (objectOf s sc first) ≡ Nothing
+    of-both f q first =
+        let n = neither (f s (givenFirst sc)) (f s (givenSecond sc)) q in
+        let w = both-of-given (λ (l : Layout). f s l ≡ Nothing) sc (n .0) (n .1) in
+        go first (w .0) (w .1)
+      where
+        go : (first : Bool) → f s (sc .f) ≡ Nothing → f s (sc .g) ≡ Nothing → f s (objectOf s sc first) ≡ Nothing
+        go true x y = x
+        go false x y = y
 
 -- ---- one list of conditions after another
 
@@ -141,7 +147,7 @@ module _ {A : Type 0} (refuse : Refusal → A) (taken : A) where
         → judge refuse taken (conditions (rules ++ more) s b) ≡ settle refuse (verdict (conditions rules s b)) (judge refuse taken (conditions more s b))
     judge-rules rules more = ap (judge refuse taken) (conditions-append rules more) ∙ judge-append (conditions rules s b) (conditions more s b)
 
--- ---- the check of a question: 1 to 7, then 8, its nine, 10 to 15, and its later ones
+-- ---- the check of a question: 1 to 7, its nine, 10 to 15, and its later ones
 
 pub check-refused : (rules : List (Rule Scene)) (s : List ℕ) (r : Refusal) → readScene s ≡ CheckedScene.Refused r → checkSceneBy rules s ≡ CheckedScene.Refused r
 unfolding checkSceneBy
@@ -149,15 +155,13 @@ check-refused rules s r e = rw e
 
 pub check-read : (nine later : List (Rule Scene)) (s : List ℕ) (sc : Scene) → IsScene s sc
     → checkSceneBy (sceneRules nine later) s
-    ≡ decide CheckedScene.Refused 8 (typesDescend s sc)
-    (settle CheckedScene.Refused (verdict (conditions nine s sc))
-    (settle CheckedScene.Refused (geometryVerdict s sc) (judge CheckedScene.Refused (CheckedScene.Taken sc) (conditions later s sc))))
+    ≡ settle CheckedScene.Refused (verdict (conditions nine s sc))
+    (settle CheckedScene.Refused (geometryVerdict s sc) (judge CheckedScene.Refused (CheckedScene.Taken sc) (conditions later s sc)))
 unfolding checkSceneBy geometryVerdict
 check-read nine later s sc e =
     ap (checkedScene (sceneRules nine later) s) e
-    ∙ ap (decide CheckedScene.Refused 8 (typesDescend s sc))
-    (judge-rules CheckedScene.Refused (CheckedScene.Taken sc) s sc nine (geometryRules ++ later)
-    ∙ ap (settle CheckedScene.Refused (verdict (conditions nine s sc))) (judge-rules CheckedScene.Refused (CheckedScene.Taken sc) s sc geometryRules later))
+    ∙ judge-rules CheckedScene.Refused (CheckedScene.Taken sc) s sc nine (geometryRules ++ later)
+    ∙ ap (settle CheckedScene.Refused (verdict (conditions nine s sc))) (judge-rules CheckedScene.Refused (CheckedScene.Taken sc) s sc geometryRules later)
 
 -- and of one object
 pub object-refused : (s : List ℕ) (r : Refusal) → readAlone s ≡ CheckedObject.Refused r → checkObject s ≡ CheckedObject.Refused r

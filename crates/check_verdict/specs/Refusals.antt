@@ -8,16 +8,17 @@ use Rattle.scene.specs.declared.Layout.{Layout}
 use Rattle.scene.specs.declared.Scene.{Scene}
 use Rattle.scene.specs.declared.Refusal.{Refusal}
 use Rattle.scene.specs.declared.Fault.{Fault}
-use Rattle.scene.specs.Read.{Condition, judge}
+use Rattle.scene.specs.Read.{Condition, judge, givenFirst, givenSecond}
 use Rattle.scene.specs.Conditions.{Rule, rule, conditions, objectRules, orElse, overBoth, touchingAcross}
 use Rattle.check_conditions.specs.Faults.{faultUnder}
 use Rattle.check_verdict.specs.declared.Verdict.{Verdict}
 use Rattle.check_verdict.specs.declared.Verdict.the-variants.{Sound, Refused}
 
--- the earliest record of a scene at fault under the condition n: 10 to 14 are about both objects, F first, and 15 is about the records of F
+-- the earliest record of a scene at fault under the condition n: 10 to 14 are about both objects, the one given first before the other, and 15 is about the
+-- records of the one given first
 abbrev pub sceneFaultUnder : List ℕ → Scene → ℕ → Fault
 sceneFaultUnder s sc n =
-    cond (eqb n 15) (faultUnder s (sc .f) (sc .g) n) (orElse (faultUnder s (sc .f) (sc .g) n) (faultUnder s (sc .g) (sc .f) n))
+    cond (eqb n 15) (faultUnder s (givenFirst sc) (givenSecond sc) n) (orElse (faultUnder s (givenFirst sc) (givenSecond sc) n) (faultUnder s (givenSecond sc) (givenFirst sc) n))
 
 -- the first of several conditions that refuses, if any does
 abbrev pub verdict : List Condition → Verdict

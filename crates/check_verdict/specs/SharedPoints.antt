@@ -14,7 +14,7 @@ use Rattle.scene.specs.declared.Fault.{Fault}
 use Rattle.scene.specs.declared.Fault.the-variants.{At, Nothing}
 use Rattle.scene.specs.declared.CheckedObject.{CheckedObject}
 use Rattle.scene.specs.declared.CheckedScene.{CheckedScene}
-use Rattle.scene.specs.Read.{place, readAlone, IsScene}
+use Rattle.scene.specs.Read.{place, givenFirst, givenSecond, readAlone, IsScene}
 use Rattle.scene.specs.Conditions.{hasSegments, half, segments}
 
 -- ---- segments
@@ -60,22 +60,22 @@ module _ (s : List ℕ) (l : Layout) where
   abbrev pub EarliestIn : ℕ → Type 0
   EarliestIn = EarliestAtFault s l (segments s l)
 
--- over a scene, F's records come before G's
+-- over a scene, the records of the object given first come before the other's
 module _ (s : List ℕ) (sc : Scene) where
   abbrev pub OnlyEndsInEach : Type 0
-  OnlyEndsInEach = OnlyEndsIn s (sc .f) × OnlyEndsIn s (sc .g)
+  OnlyEndsInEach = OnlyEndsIn s (givenFirst sc) × OnlyEndsIn s (givenSecond sc)
 
   abbrev pub EarliestInEither : ℕ → Type 0
-  EarliestInEither p = EarliestIn s (sc .f) p ⊎ (OnlyEndsIn s (sc .f) × EarliestIn s (sc .g) p)
+  EarliestInEither p = EarliestIn s (givenFirst sc) p ⊎ (OnlyEndsIn s (givenFirst sc) × EarliestIn s (givenSecond sc) p)
 
--- ---- 15: "unequal segments of F and G share a point that is not an end of both"; "for 15 the record in F"
+-- ---- 15: "unequal segments of F and G share a point that is not an end of both"; 02, Paper 1: "for 15 the record is the caller's first object's"
 
 module _ (s : List ℕ) (sc : Scene) where
   abbrev pub OnlyEndsAcross : Type 0
-  OnlyEndsAcross = OnlyEndsShared (segments s (sc .f)) (segments s (sc .g))
+  OnlyEndsAcross = OnlyEndsShared (segments s (givenFirst sc)) (segments s (givenSecond sc))
 
   abbrev pub EarliestAcross : ℕ → Type 0
-  EarliestAcross = EarliestAtFault s (sc .f) (segments s (sc .g))
+  EarliestAcross = EarliestAtFault s (givenFirst sc) (segments s (givenSecond sc))
 
 -- ---- the verdict
 

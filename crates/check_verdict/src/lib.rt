@@ -1,21 +1,19 @@
-// The conditions 8 and 10 to 15 of document 01 over the bytes of a scene or of one object, and the whole check of either.
-// A question with conditions of its own calls them in their order: `types_fault`, its 9, `geometry_verdict` or `noted_verdict`, then its 16
-// and 17.
+// The conditions 10 to 15 of document 01 over the bytes of a scene or of one object, and the whole check of either.
+// A question with conditions of its own calls them in their order: its 9, `geometry_verdict` or `noted_verdict`, then its 16 and 17.
 use scene::CheckedObject;
 use scene::CheckedScene;
 use scene::Fault;
 use scene::Layout;
 use scene::Refusal;
 use scene::Scene;
-use scene::records;
+use scene::order;
 ghost use mathlib.Core.Path.{_≡_};
-ghost use mathlib.Core.List.{List};
-ghost use Prim.Native.Nat.{ℕ, _≤_};
+ghost use Prim.Native.Nat.{_≤_};
 ghost use lib.Dec.{T};
 ghost use lib.ListN.{length};
 ghost use Rattle.whole.specs.Decides.{Decides};
-ghost use Rattle.scene.specs.Read.{IsObject, IsScene};
-ghost use Rattle.scene.specs.Conditions.{typesDescend, checkScene, checkObject};
+ghost use Rattle.scene.specs.Read.{givenFirst, givenSecond, IsObject, IsScene};
+ghost use Rattle.scene.specs.Conditions.{checkScene, checkObject};
 ghost use Rattle.sweep_laws.specs.Noted.{Noted};
 ghost use Rattle.check_verdict.specs.Refusals.{sceneFaultUnder, objectVerdict, geometryVerdict};
 ghost use Rattle.check_verdict.specs.SharedPoints.{CheckedMeans, CheckedObjectMeans};
@@ -26,34 +24,19 @@ pub enum Verdict {
     Refused(Refusal),
 }
 
-// 8: F's type above G's, at G's type record.
-pub fn types_fault(scene: Scene) -> Fault
-    ensures { λ r. ⌜ ((s : List ℕ) → r ≡ typesDescend s scene) ⌝ }
-{
-    let f = scene.f;
-    let g = scene.g;
-    let of_f = f.shape;
-    let of_g = g.shape;
-    if records::shape_number(of_f) <= records::shape_number(of_g) {
-        Fault::Nothing
-    } else {
-        Fault::At(g.start)
-    }
-}
-
 // The earliest record of a scene at fault under one of the conditions 10 to 15.
 fn scene_fault(s: &[u8], scene: Scene, number: u8) -> Fault
-    requires { ⌜ IsObject (now s) (scene .f) × IsObject (now s) (scene .g) ⌝ }
+    requires { ⌜ IsObject (now s) (givenFirst scene) × IsObject (now s) (givenSecond scene) ⌝ }
     ensures { λ r. ⌜ r ≡ sceneFaultUnder (now (s .entry)) scene number ⌝ }
 {
-    let f = scene.f;
-    let g = scene.g;
+    let first = order::given_first(scene);
+    let second = order::given_second(scene);
     if number == 15 {
-        return check_conditions::fault_under(s, f, g, number);
+        return check_conditions::fault_under(s, first, second, number);
     }
-    match check_conditions::fault_under(s, f, g, number) {
+    match check_conditions::fault_under(s, first, second, number) {
         Fault::At(place) => Fault::At(place),
-        Fault::Nothing => check_conditions::fault_under(s, g, f, number),
+        Fault::Nothing => check_conditions::fault_under(s, second, first, number),
     }
 }
 
@@ -77,7 +60,7 @@ pub fn object_verdict(s: &[u8], l: Layout) -> Verdict
 
 // The first refusal under 10 to 15 of a scene, condition by condition.
 fn plain_verdict(s: &[u8], scene: Scene) -> Verdict
-    requires { ⌜ IsObject (now s) (scene .f) × IsObject (now s) (scene .g) ⌝ }
+    requires { ⌜ IsObject (now s) (givenFirst scene) × IsObject (now s) (givenSecond scene) ⌝ }
     ensures { λ r. ⌜ r ≡ geometryVerdict (now (s .entry)) scene ⌝ }
 {
     let mut number: u8 = 10;
@@ -135,12 +118,9 @@ pub fn check_scene(s: &[u8]) -> CheckedScene
 {
     match scene_reading::read_scene(s) {
         CheckedScene::Refused(r) => CheckedScene::Refused(r),
-        CheckedScene::Taken(scene) => match types_fault(scene) {
-            Fault::At(place) => CheckedScene::Refused(Refusal { number: 8, place }),
-            Fault::Nothing => match geometry_verdict(s, scene) {
-                Verdict::Refused(r) => CheckedScene::Refused(r),
-                Verdict::Sound => CheckedScene::Taken(scene),
-            },
+        CheckedScene::Taken(scene) => match geometry_verdict(s, scene) {
+            Verdict::Refused(r) => CheckedScene::Refused(r),
+            Verdict::Sound => CheckedScene::Taken(scene),
         },
     }
 }

@@ -243,7 +243,7 @@ flags-agree-G (region F) (region G) = class-01 G F & class-10 G F & class-12 G F
 
 -- ---- bit by bit
 
-agree-at : {l : List Bool} {m : List (Type 0)} → Agree l m → (k : ℕ) → Decides (sentence m k) (getD l k false)
+pub agree-at : {l : List Bool} {m : List (Type 0)} → Agree l m → (k : ℕ) → Decides (sentence m k) (getD l k false)
 agree-at done k = test-is false
 agree-at (h & rest) zero = h
 agree-at (h & rest) (suc k) = agree-at rest k

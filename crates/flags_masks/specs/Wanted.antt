@@ -5,11 +5,13 @@ use mathlib.Core.List.{List, [], _∷_}
 use lib.Bits.{bitAnd}
 use lib.Dec.{T, eqb}
 use lib.ListN.{length, getD}
+use Rattle.scene.specs.declared.Scene.{Scene}
+use Rattle.scene.specs.Read.{shapeNumber, asGiven}
 use Rattle.flags_masks.specs.declared.FlagMasks.{FlagMasks}
 use Rattle.flags_masks.specs.declared.Wanted.{Wanted}
 use Rattle.flags.specs.Flags.{Elements, points, line, region, flagsOfF, flagsOfG, pack, hasBit}
 
--- The flags of F and of G, a bit for each: a row for each type of F, a column for each type of G. A pair with F's type above G's has none.
+-- The flags of F and of G, a bit for each: a row for each type of F, a column for each type of G. F's type is never above G's.
 abbrev pub flagMasks : List (List (ℕ × ℕ))
 flagMasks =
     ((3, 1) ∷ (7, 1) ∷ (7, 0) ∷ [])
@@ -27,10 +29,14 @@ maskOfF f g = masksOf f g .0
 abbrev pub maskOfG : ℕ → ℕ → ℕ
 maskOfG f g = masksOf f g .1
 
--- What is wanted of a pair of types: the flags of two masks, or all that the pair has
-unfoldable pub masksFor : Wanted → ℕ → ℕ → FlagMasks
-masksFor (Wanted.These masks) f g = masks
-masksFor Wanted.All f g = record { f = maskOfF f g; g = maskOfG f g }
+-- What is wanted of F and of G: the flags of two masks, which are "in the caller's order", or all that the pair of types has
+unfoldable pub masksFor : Wanted → Scene → FlagMasks
+masksFor (Wanted.These masks) sc = record { f = asGiven sc (masks .f) (masks .g); g = asGiven sc (masks .g) (masks .f) }
+masksFor Wanted.All sc =
+    record {
+      f = maskOfF (shapeNumber (sc .f .shape)) (shapeNumber (sc .g .shape));
+      g = maskOfG (shapeNumber (sc .f .shape)) (shapeNumber (sc .g .shape));
+    }
 
 -- "A flag not wanted is 0."
 abbrev pub only : ℕ → ℕ → ℕ

@@ -1,6 +1,7 @@
 // The wanted masks: which flags each pair of types has, which of them are wanted, and whether a wanted bit has no flag.
 use scene::Scene;
 use scene::Shape;
+use scene::order;
 use scene::records;
 ghost use mathlib.Core.Path.{_≡_};
 ghost use Rattle.scene.specs.Read.{shapeNumber};
@@ -18,7 +19,7 @@ pub enum Wanted {
     All,
 }
 
-// The flags that each pair has: a row for each type of F, a column for each type of G. A pair with F's type above G's has no flags.
+// The flags that each pair has: a row for each type of F, a column for each type of G. F's type is never above G's.
 const FLAG_MASKS: [[FlagMasks; 3]; 3] = [
     [
         FlagMasks { f: 3, g: 1 },
@@ -45,13 +46,31 @@ pub fn masks_of(f: Shape, g: Shape) -> FlagMasks
     FLAG_MASKS[row][column]
 }
 
-// The masks of what is wanted, for a pair of types.
-pub fn masks_for(wanted: Wanted, f: Shape, g: Shape) -> FlagMasks
-    ensures { λ r. ⌜ r ≡ masksFor wanted (shapeNumber f) (shapeNumber g) ⌝ }
+// Two masks in the caller's order, as those of F and of G.
+fn arranged(masks: FlagMasks, scene: Scene) -> FlagMasks
+    ensures { λ r. ⌜ r ≡ masksFor (Wanted.These masks) scene ⌝ }
 {
+    if order::is_turned(scene) {
+        FlagMasks {
+            f: masks.g,
+            g: masks.f,
+        }
+    } else {
+        masks
+    }
+}
+
+// The masks of what is wanted, of F and of G.
+pub fn masks_for(wanted: Wanted, scene: Scene) -> FlagMasks
+    ensures { λ r. ⌜ r ≡ masksFor wanted scene ⌝ }
+{
+    let f = scene.f;
+    let g = scene.g;
+    let of_f = f.shape;
+    let of_g = g.shape;
     match wanted {
-        Wanted::These(masks) => masks,
-        Wanted::All => masks_of(f, g),
+        Wanted::These(masks) => arranged(masks, scene),
+        Wanted::All => masks_of(of_f, of_g),
     }
 }
 

@@ -9,10 +9,9 @@ use Rattle.whole.proofs.Logic.{is-true, or-left, or-right}
 use Rattle.scene.specs.declared.Shape.{Shape}
 use Rattle.scene.specs.declared.Scene.{Scene}
 use Rattle.scene.specs.declared.Refusal.{Refusal}
-use Rattle.scene.specs.declared.Fault.the-variants.{At, Nothing}
 use Rattle.scene.specs.declared.CheckedScene.{CheckedScene}
 use Rattle.scene.specs.Read.{readScene, IsScene}
-use Rattle.scene.specs.Conditions.{rule, sceneRules, typesDescend, checkSceneBy, checkScene}
+use Rattle.scene.specs.Conditions.{rule, sceneRules, checkSceneBy, checkScene}
 use Rattle.check_verdict.specs.declared.Verdict.the-variants.{Sound, Refused}
 use Rattle.check_verdict.specs.Refusals.{geometryVerdict}
 use Rattle.check_verdict.proofs.Laws.{SoundScene, sound-scene}
@@ -33,7 +32,7 @@ use Rattle.flags_masks.specs.declared.FlagMasks.{FlagMasks}
 use Rattle.flags_masks.specs.declared.Wanted.{Wanted}
 use Rattle.flags_masks.specs.Wanted.{masksFor, only, vectorOfF, vectorOfG}
 use Rattle.flags_masks.proofs.Masks.{none-stray}
-use Rattle.flags_vectors.specs.Vectors.{sceneVectors, masksIn, strayIn, strayWanted, vectorsRules, checkVectors, answered, answerOf}
+use Rattle.flags_vectors.specs.Vectors.{sceneVectors, vectorsIn, strayIn, strayWanted, vectorsRules, checkVectors, answered, answerOf}
 
 -- ---- a scene that is taken
 
@@ -73,32 +72,27 @@ unfolding answerOf
 unread s wanted r e = rw (check-refused (vectorsRules wanted) s r e)
 
 module _ (s : List ℕ) (sc : Scene) (is : IsScene s sc) where
-  pub sound : typesDescend s sc ≡ Nothing → geometryVerdict s sc ≡ Sound → checkScene s ≡ CheckedScene.Taken sc
+  pub sound : geometryVerdict s sc ≡ Sound → checkScene s ≡ CheckedScene.Taken sc
   unfolding checkScene
-  sound d g = rw (check-read [] [] s sc is, d, g)
+  sound g = rw (check-read [] [] s sc is, g)
 
   module _ (wanted : Wanted) where
-    pub descending : (p : ℕ) → typesDescend s sc ≡ At p → SceneAnswer.Refused (record { number = 8; place = p }) ≡ answerOf s wanted
+    pub stray : strayIn sc (masksFor wanted sc) ≡ true → SceneAnswer.Refused (record { number = 9; place = 0 }) ≡ answerOf s wanted
     unfolding answerOf
-    descending p d = rw (check-read (rule 9 (strayWanted wanted) ∷ []) [] s sc is, d)
+    stray e = rw (check-read (rule 9 (strayWanted wanted) ∷ []) [] s sc is, e)
 
-    module _ (rising : typesDescend s sc ≡ Nothing) where
-      pub stray : strayIn sc (masksIn sc wanted) ≡ true → SceneAnswer.Refused (record { number = 9; place = 0 }) ≡ answerOf s wanted
+    module _ (tidy : strayIn sc (masksFor wanted sc) ≡ false) where
+      pub at-fault : (r : Refusal) → geometryVerdict s sc ≡ Refused r → SceneAnswer.Refused r ≡ answerOf s wanted
       unfolding answerOf
-      stray e = rw (check-read (rule 9 (strayWanted wanted) ∷ []) [] s sc is, rising, e)
+      at-fault r g = rw (check-read (rule 9 (strayWanted wanted) ∷ []) [] s sc is, tidy, g)
 
-      module _ (tidy : strayIn sc (masksIn sc wanted) ≡ false) where
-        pub at-fault : (r : Refusal) → geometryVerdict s sc ≡ Refused r → SceneAnswer.Refused r ≡ answerOf s wanted
-        unfolding answerOf
-        at-fault r g = rw (check-read (rule 9 (strayWanted wanted) ∷ []) [] s sc is, rising, tidy, g)
-
-        pub taken : geometryVerdict s sc ≡ Sound → {v : Vectors} → v ≡ sceneVectors s sc (masksIn sc wanted) → SceneAnswer.Taken sc v ≡ answerOf s wanted
-        unfolding answerOf
-        taken g e = ap (SceneAnswer.Taken sc) e ∙ rw (check-read (rule 9 (strayWanted wanted) ∷ []) [] s sc is, rising, tidy, g)
+      pub taken : geometryVerdict s sc ≡ Sound → {v : Vectors} → v ≡ vectorsIn s sc wanted → SceneAnswer.Taken sc v ≡ answerOf s wanted
+      unfolding answerOf
+      taken g e = ap (SceneAnswer.Taken sc) e ∙ rw (check-read (rule 9 (strayWanted wanted) ∷ []) [] s sc is, tidy, g)
 
 -- ---- all flags wanted: 9 asks nothing
 
-tidy-all : (sc : Scene) → strayIn sc (masksIn sc Wanted.All) ≡ false
+tidy-all : (sc : Scene) → strayIn sc (masksFor Wanted.All sc) ≡ false
 unfolding masksFor
 tidy-all sc = none-stray (sc .f .shape) (sc .g .shape)
 
@@ -122,12 +116,12 @@ module _ (s : List ℕ) {a : SceneAnswer} (is : a ≡ answerOf s Wanted.All) whe
       go (CheckedScene.Refused q) h = let x : q ≡ r = cc in ap CheckedScene.Refused x
       go (CheckedScene.Taken sc) h = absurd (let x : _≡_ {A = ℕ} 0 1 = cc in omega arith)
 
-  pub all-taken : (sc : Scene) (v : Vectors) → a ≡ SceneAnswer.Taken sc v → (checkScene s ≡ CheckedScene.Taken sc) × (v ≡ sceneVectors s sc (masksIn sc Wanted.All))
+  pub all-taken : (sc : Scene) (v : Vectors) → a ≡ SceneAnswer.Taken sc v → (checkScene s ≡ CheckedScene.Taken sc) × (v ≡ vectorsIn s sc Wanted.All)
   all-taken sc v e = go (checkScene s) (sym by-check ∙ e)
     where
-      go : (k : CheckedScene) → answered s Wanted.All k ≡ SceneAnswer.Taken sc v → (k ≡ CheckedScene.Taken sc) × (v ≡ sceneVectors s sc (masksIn sc Wanted.All))
+      go : (k : CheckedScene) → answered s Wanted.All k ≡ SceneAnswer.Taken sc v → (k ≡ CheckedScene.Taken sc) × (v ≡ vectorsIn s sc Wanted.All)
       go (CheckedScene.Refused q) h = absurd (let x : _≡_ {A = ℕ} 0 1 = cc in omega arith)
       go (CheckedScene.Taken k) h =
           let x : k ≡ sc = cc in
-          let y : sceneVectors s k (masksIn k Wanted.All) ≡ v = cc in
-          (ap CheckedScene.Taken x, sym y ∙ ap (λ (k : Scene). sceneVectors s k (masksIn k Wanted.All)) x)
+          let y : vectorsIn s k Wanted.All ≡ v = cc in
+          (ap CheckedScene.Taken x, sym y ∙ ap (λ (k : Scene). vectorsIn s k Wanted.All) x)

@@ -2,13 +2,13 @@
 use Prim.Native.Nat.{ℕ}
 use mathlib.Core.Path.{_≡_}
 use mathlib.Core.Logic.{_↔_}
-use mathlib.Core.Bool.{Bool, not}
+use mathlib.Core.Bool.{Bool, not, cond}
 use mathlib.Core.List.{List, [], _∷_}
 use lib.Dec.{T}
 use Rattle.scene.specs.declared.Scene.{Scene}
 use Rattle.scene.specs.declared.CheckedScene.{CheckedScene}
 use Rattle.scene.specs.declared.Fault.{Fault}
-use Rattle.scene.specs.Read.{shapeNumber, unless}
+use Rattle.scene.specs.Read.{shapeNumber, unless, turned, asGiven}
 use Rattle.scene.specs.Conditions.{Rule, rule, sceneRules, checkSceneBy}
 use Rattle.flags_vectors.specs.declared.Vectors.{Vectors}
 use Rattle.flags_vectors.specs.declared.VectorsAnswer.{VectorsAnswer}
@@ -20,7 +20,7 @@ use Rattle.flags_masks.specs.declared.FlagMasks.{FlagMasks}
 use Rattle.flags_masks.specs.declared.Wanted.{Wanted}
 use Rattle.flags_masks.specs.Wanted.{masksFor, anyStray, only, vectorOfF, vectorOfG}
 
--- both vectors of a scene that is taken, each with the flags of its own mask
+-- the vectors of F and of G in a scene that is taken, each with the flags of its own mask
 abbrev pub sceneVectors : List ℕ → Scene → FlagMasks → Vectors
 sceneVectors s sc masks =
     record {
@@ -28,18 +28,21 @@ sceneVectors s sc masks =
       g = vectorOfG (elementsOf s (sc .f)) (elementsOf s (sc .g)) (masks .g);
     }
 
--- what is wanted of the scene
-abbrev pub masksIn : Scene → Wanted → FlagMasks
-masksIn sc wanted = masksFor wanted (shapeNumber (sc .f .shape)) (shapeNumber (sc .g .shape))
+-- "all that is .. returned .. in the caller's order": the first vector is that of the object given first
+abbrev pub givenVectors : Scene → Vectors → Vectors
+givenVectors sc v = record { f = asGiven sc (v .f) (v .g); g = asGiven sc (v .g) (v .f) }
+
+abbrev pub vectorsIn : List ℕ → Scene → Wanted → Vectors
+vectorsIn s sc wanted = givenVectors sc (sceneVectors s sc (masksFor wanted sc))
 
 -- 9, and "For 9 .. it is 0"
 abbrev pub strayIn : Scene → FlagMasks → Bool
 strayIn sc masks = anyStray (shapeNumber (sc .f .shape)) (shapeNumber (sc .g .shape)) (masks .f) (masks .g)
 
 abbrev pub strayWanted : Wanted → List ℕ → Scene → Fault
-strayWanted wanted s sc = unless (not (strayIn sc (masksIn sc wanted))) 0
+strayWanted wanted s sc = unless (not (strayIn sc (masksFor wanted sc))) 0
 
--- "Then 8 to 17 in order": 9 after 8 and before 10. "Number 9 belongs to the vectors question only."
+-- "Then 8 to 17 in order": 9 before 10. "Number 9 belongs to the vectors question only."
 abbrev pub vectorsRules : Wanted → List (Rule Scene)
 vectorsRules wanted = sceneRules (rule 9 (strayWanted wanted) ∷ []) []
 
@@ -49,7 +52,7 @@ checkVectors s wanted = checkSceneBy (vectorsRules wanted) s
 -- the answer with the scene that was read, and the vectors alone
 abbrev pub answered : List ℕ → Wanted → CheckedScene → SceneAnswer
 answered s wanted (CheckedScene.Refused r) = SceneAnswer.Refused r
-answered s wanted (CheckedScene.Taken sc) = SceneAnswer.Taken sc (sceneVectors s sc (masksIn sc wanted))
+answered s wanted (CheckedScene.Taken sc) = SceneAnswer.Taken sc (vectorsIn s sc wanted)
 
 unfoldable pub answerOf : List ℕ → Wanted → SceneAnswer
 answerOf s wanted = answered s wanted (checkVectors s wanted)
@@ -84,12 +87,20 @@ vectorsValues (VectorsAnswer.Refused r) = record { number = r .number; place = r
 abbrev pub FlagsRight : ℕ → List (Type 0) → ℕ → Type 0
 FlagsRight mask sentences v = (k : ℕ) → T (hasBit v k) ↔ T (hasBit mask k) × sentence sentences k
 
--- Of the bytes, two masks and two vectors: where the scene is taken, "A flag asked for is set if a witness exists, and clear if none does, over all pairs of
--- elements", and "A flag not wanted is 0": it is wanted exactly if its own mask has its bit
+-- the sentences of the flags of the object given first, and of the one given second: the object of the lower type has those of F, whoever gave it
+module _ (s : List ℕ) (sc : Scene) where
+  abbrev pub sentencesOfFirst : List (Type 0)
+  sentencesOfFirst = cond (turned sc) (sentencesOfG (elementsOf s (sc .f)) (elementsOf s (sc .g))) (sentencesOfF (elementsOf s (sc .f)) (elementsOf s (sc .g)))
+
+  abbrev pub sentencesOfSecond : List (Type 0)
+  sentencesOfSecond = cond (turned sc) (sentencesOfF (elementsOf s (sc .f)) (elementsOf s (sc .g))) (sentencesOfG (elementsOf s (sc .f)) (elementsOf s (sc .g)))
+
+-- Of the bytes, two masks and two vectors, in the caller's order: where the scene is taken, "A flag asked for is set if a witness exists, and clear if none
+-- does, over all pairs of elements", and "A flag not wanted is 0": it is wanted exactly if its own mask has its bit
 abbrev pub NoFlagWrong : List ℕ → ℕ → ℕ → ℕ → ℕ → Type 0
 NoFlagWrong s wantF wantG v w =
     (sc : Scene) → checkVectors s (these wantF wantG) ≡ CheckedScene.Taken sc
-    → FlagsRight wantF (sentencesOfF (elementsOf s (sc .f)) (elementsOf s (sc .g))) v × FlagsRight wantG (sentencesOfG (elementsOf s (sc .f)) (elementsOf s (sc .g))) w
+    → FlagsRight wantF (sentencesOfFirst s sc) v × FlagsRight wantG (sentencesOfSecond s sc) w
 
 -- ---- one call for all
 
@@ -98,5 +109,5 @@ abbrev pub MaskedFromAll : List ℕ → FlagMasks → Type 0
 MaskedFromAll s masks =
     (sc : Scene) → checkVectors s (Wanted.These masks) ≡ CheckedScene.Taken sc
     → (checkVectors s Wanted.All ≡ CheckedScene.Taken sc)
-    × (sceneVectors s sc masks .f ≡ only (masks .f) (sceneVectors s sc (masksIn sc Wanted.All) .f))
-    × (sceneVectors s sc masks .g ≡ only (masks .g) (sceneVectors s sc (masksIn sc Wanted.All) .g))
+    × (vectorsIn s sc (Wanted.These masks) .f ≡ only (masks .f) (vectorsIn s sc Wanted.All .f))
+    × (vectorsIn s sc (Wanted.These masks) .g ≡ only (masks .g) (vectorsIn s sc Wanted.All .g))

@@ -2,7 +2,7 @@
 use scene::Refusal;
 use scene::Scene;
 
-// A 16-bit vector for each object.
+// A 16-bit vector for each object: of F and G, or of the two objects in the caller's order.
 pub struct Vectors {
     pub f: u16,
     pub g: u16,

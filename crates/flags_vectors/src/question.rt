@@ -9,9 +9,9 @@ use flags_masks::Wanted;
 use flags_meetings::Meetings;
 use flags_table::walks;
 use scene::CheckedScene;
-use scene::Fault;
 use scene::Refusal;
 use scene::Scene;
+use scene::order;
 ghost use mathlib.Core.Path.{_≡_};
 ghost use Rattle.scene.specs.declared.CheckedScene.{CheckedScene as Checked};
 ghost use Rattle.scene.specs.Conditions.{checkScene};
@@ -23,7 +23,7 @@ ghost use Rattle.check_verdict.specs.SharedPoints.{CheckedMeans};
 ghost use Rattle.flags_meetings.specs.Met.{meetings};
 ghost use Rattle.flags_classes.specs.Classed.{classesOfF, classesOfG};
 ghost use Rattle.flags_table.specs.Walks.{readsMeetings, readsClasses};
-ghost use Rattle.flags_vectors.specs.Vectors.{sceneVectors, these, checkVectors, answerOf, vectorsOf, vectorsValues, NoFlagWrong};
+ghost use Rattle.flags_vectors.specs.Vectors.{sceneVectors, givenVectors, these, checkVectors, answerOf, vectorsOf, vectorsValues, NoFlagWrong};
 
 // How the elements of a scene meet at points, where a wanted flag is read off that.
 fn wanted_meetings(s: &[u8], scene: Scene, masks: FlagMasks, notes: &[u8]) -> Meetings
@@ -78,36 +78,40 @@ fn swept_vectors(s: &[u8], scene: Scene, masks: FlagMasks, notes: &[u8]) -> Vect
     }
 }
 
+// The vectors of F and G, in the caller's order.
+fn as_given(scene: Scene, v: Vectors) -> Vectors
+    ensures { λ r. ⌜ r ≡ givenVectors scene v ⌝ }
+{
+    if order::is_turned(scene) {
+        Vectors { f: v.g, g: v.f }
+    } else {
+        v
+    }
+}
+
 // A scene and what is wanted: taken, with the scene and a vector for each object, or refused with one number and one place.
 pub fn answer(s: &[u8], wanted: Wanted) -> SceneAnswer
     ensures { λ r. ⌜ r ≡ answerOf (now (s .entry)) wanted ⌝ }
 {
     match scene_reading::read_scene(s) {
         CheckedScene::Refused(r) => SceneAnswer::Refused(r),
-        CheckedScene::Taken(scene) => match check_verdict::types_fault(scene) {
-            Fault::At(place) => SceneAnswer::Refused(Refusal { number: 8, place }),
-            Fault::Nothing => {
-                let f = scene.f;
-                let g = scene.g;
-                let of_f = f.shape;
-                let of_g = g.shape;
-                let masks = flags_masks::masks_for(wanted, of_f, of_g);
-                if flags_masks::any_stray(scene, masks.f, masks.g) {
-                    return SceneAnswer::Refused(Refusal {
-                        number: 9,
-                        place: 0,
-                    });
-                }
-                let mut notes = [0u8; 2048];
-                match check_verdict::noted_verdict(s, scene, &mut notes) {
-                    Verdict::Sound => SceneAnswer::Taken {
-                        scene,
-                        vectors: swept_vectors(s, scene, masks, &notes),
-                    },
-                    Verdict::Refused(r) => SceneAnswer::Refused(r),
-                }
+        CheckedScene::Taken(scene) => {
+            let masks = flags_masks::masks_for(wanted, scene);
+            if flags_masks::any_stray(scene, masks.f, masks.g) {
+                return SceneAnswer::Refused(Refusal {
+                    number: 9,
+                    place: 0,
+                });
             }
-        },
+            let mut notes = [0u8; 2048];
+            match check_verdict::noted_verdict(s, scene, &mut notes) {
+                Verdict::Sound => SceneAnswer::Taken {
+                    scene,
+                    vectors: as_given(scene, swept_vectors(s, scene, masks, &notes)),
+                },
+                Verdict::Refused(r) => SceneAnswer::Refused(r),
+            }
+        }
     }
 }
 

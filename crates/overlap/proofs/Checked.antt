@@ -7,14 +7,15 @@ use mathlib.Core.List.{List, []}
 use lib.Dec.{T, leb, leb→le}
 use lib.ListN.{length}
 use borrow.Author.Tests.{le-leb, lt-leb}
+use Rattle.scene.specs.declared.Layout.{Layout}
 use Rattle.scene.specs.declared.Scene.{Scene}
 use Rattle.scene.specs.declared.Refusal.{Refusal}
 use Rattle.scene.specs.declared.Fault.{Fault}
 use Rattle.scene.specs.declared.Fault.the-variants.{At, Nothing}
 use Rattle.scene.specs.declared.CheckedScene.{CheckedScene}
-use Rattle.scene.specs.Read.{unless, decide, readScene, IsScene}
-use Rattle.scene.specs.Conditions.{isRegion, orElse, typesDescend, sceneRules}
-use Rattle.scene.proofs.Taken.{never-taken, same-scene}
+use Rattle.scene.specs.Read.{unless, decide, givenFirst, givenSecond, readScene, IsScene}
+use Rattle.scene.specs.Conditions.{isRegion, orElse, sceneRules}
+use Rattle.scene.proofs.Taken.{never-taken, same-scene, both-of-given}
 use Rattle.scene.proofs.Given.{NoFault, checked-scene}
 use Rattle.check_verdict.specs.declared.Verdict.the-variants.{Sound, Refused}
 use Rattle.check_verdict.specs.Refusals.{geometryVerdict}
@@ -60,18 +61,13 @@ module _ (s : List ℕ) (room : ℕ) where
   unread r e = sym (check-refused (sceneRules [] (listRules room)) s r e)
 
   module _ (sc : Scene) (is : IsScene s sc) where
-    pub descending : (p : ℕ) → typesDescend s sc ≡ At p → CheckedScene.Refused (record { number = 8; place = p }) ≡ checkList s room
+    pub at-fault : (r : Refusal) → geometryVerdict s sc ≡ Refused r → CheckedScene.Refused r ≡ checkList s room
     unfolding checkList
-    descending p d = rw (check-read [] (listRules room) s sc is, d)
+    at-fault r g = rw (check-read [] (listRules room) s sc is, g)
 
-    module _ (rising : typesDescend s sc ≡ Nothing) where
-      pub at-fault : (r : Refusal) → geometryVerdict s sc ≡ Refused r → CheckedScene.Refused r ≡ checkList s room
-      unfolding checkList
-      at-fault r g = rw (check-read [] (listRules room) s sc is, rising, g)
-
-      pub sound-list : geometryVerdict s sc ≡ Sound → judged s sc room ≡ checkList s room
-      unfolding checkList
-      sound-list g = rw (check-read [] (listRules room) s sc is, rising, g)
+    pub sound-list : geometryVerdict s sc ≡ Sound → judged s sc room ≡ checkList s room
+    unfolding checkList
+    sound-list g = rw (check-read [] (listRules room) s sc is, g)
 
 -- ---- what 16 and 17 say where they have no fault
 
@@ -79,9 +75,11 @@ not-nothing : {p : ℕ} → At p ≡ Nothing → ⊥
 not-nothing e = let z : _≡_ {A = ℕ} 0 1 = cc in omega arith
 
 pub both-regions : (s : List ℕ) (sc : Scene) → notRegions s sc ≡ Nothing → T (isRegion (sc .f .shape)) × T (isRegion (sc .g .shape))
-both-regions s sc = go (isRegion (sc .f .shape)) (isRegion (sc .g .shape))
+both-regions s sc e =
+    let w = go (isRegion (givenFirst sc .shape)) (isRegion (givenSecond sc .shape)) e in
+    both-of-given (λ (l : Layout). T (isRegion (l .shape))) sc (w .0) (w .1)
   where
-    go : (a b : Bool) → orElse (unless a (sc .f .start)) (unless b (sc .g .start)) ≡ Nothing → T a × T b
+    go : (a b : Bool) → orElse (unless a (givenFirst sc .start)) (unless b (givenSecond sc .start)) ≡ Nothing → T a × T b
     go true true e = (tt, tt)
     go true false e = absurd (not-nothing e)
     go false b e = absurd (not-nothing e)
@@ -103,14 +101,14 @@ pub listable : (s : List ℕ) (room : ℕ) (sc : Scene) → checkList s room ≡
 unfolding checkList
 listable s room sc e = record {
   taken = (sound-scene [] (listRules room) s sc e, regions .0, regions .1);
-  fits = enough (length (listOf s sc)) room (faults .1 .1 .1 .1 .1 .1 .1 .1 .0);
+  fits = enough (length (listOf s sc)) room (faults .1 .1 .1 .1 .1 .1 .1 .0);
 }
   where
     faults : NoFault s sc (sceneRules [] (listRules room))
     faults = checked-scene (sceneRules [] (listRules room)) s sc e .1
 
     regions : T (isRegion (sc .f .shape)) × T (isRegion (sc .g .shape))
-    regions = both-regions s sc (faults .1 .1 .1 .1 .1 .1 .1 .0)
+    regions = both-regions s sc (faults .1 .1 .1 .1 .1 .1 .0)
 
 -- ---- the check in points
 

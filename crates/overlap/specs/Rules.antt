@@ -7,7 +7,7 @@ use lib.Dec.{leb}
 use Rattle.scene.specs.declared.Scene.{Scene}
 use Rattle.scene.specs.declared.Fault.{Fault}
 use Rattle.scene.specs.declared.CheckedScene.{CheckedScene}
-use Rattle.scene.specs.Read.{unless, judge}
+use Rattle.scene.specs.Read.{unless, judge, givenFirst, givenSecond}
 use Rattle.scene.specs.Conditions.{isRegion, Rule, rule, orElse, conditions, sceneRules, checkSceneBy}
 use Rattle.flags.specs.Elements.{edges}
 use Rattle.overlap.specs.Bytes.{overlapBytes}
@@ -16,9 +16,10 @@ use Rattle.sweep_laws.specs.Noted.{Noted}
 abbrev pub listOf : List ℕ → Scene → List ℕ
 listOf s sc = overlapBytes (edges s (sc .f)) (edges s (sc .g))
 
--- 16: "overlap list, a type is not 3"; "for 16 the first such type record"
+-- 16: "overlap list, a type is not 3"; "for 16 the first such type record" in the bytes
 abbrev pub notRegions : List ℕ → Scene → Fault
-notRegions s sc = orElse (unless (isRegion (sc .f .shape)) (sc .f .start)) (unless (isRegion (sc .g .shape)) (sc .g .start))
+notRegions s sc =
+    orElse (unless (isRegion (givenFirst sc .shape)) (givenFirst sc .start)) (unless (isRegion (givenSecond sc .shape)) (givenSecond sc .start))
 
 -- 17: "overlap list, buffer shorter than the count"; "For 9 and 17 it is 0"
 abbrev pub shorter : ℕ → List ℕ → Scene → Fault

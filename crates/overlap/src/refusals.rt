@@ -5,6 +5,7 @@ use scene::CheckedScene;
 use scene::Fault;
 use scene::Refusal;
 use scene::Scene;
+use scene::order;
 ghost use mathlib.Core.Path.{_≡_};
 ghost use mathlib.Core.List.{List};
 ghost use Prim.Native.Nat.{ℕ, _≤_};
@@ -16,17 +17,17 @@ ghost use Rattle.overlap.specs.Rules.{notRegions, judged, checkList, Not
 fn regions_fault(scene: Scene) -> Fault
     ensures { λ r. ⌜ ((s : List ℕ) → r ≡ notRegions s scene) ⌝ }
 {
-    let f = scene.f;
-    let g = scene.g;
-    let of_f = f.shape;
-    let of_g = g.shape;
-    if !scene_segments::is_region(of_f) {
-        return Fault::At(f.start);
+    let first = order::given_first(scene);
+    let second = order::given_second(scene);
+    let of_first = first.shape;
+    let of_second = second.shape;
+    if !scene_segments::is_region(of_first) {
+        return Fault::At(first.start);
     }
-    if scene_segments::is_region(of_g) {
+    if scene_segments::is_region(of_second) {
         Fault::Nothing
     } else {
-        Fault::At(g.start)
+        Fault::At(second.start)
     }
 }
 
@@ -58,12 +59,9 @@ pub fn check_list(s: &[u8], room: usize, notes: &mut [u8]) -> CheckedScene
 {
     match scene_reading::read_scene(s) {
         CheckedScene::Refused(r) => CheckedScene::Refused(r),
-        CheckedScene::Taken(scene) => match check_verdict::types_fault(scene) {
-            Fault::At(place) => CheckedScene::Refused(Refusal { number: 8, place }),
-            Fault::Nothing => match check_verdict::noted_verdict(s, scene, notes) {
-                Verdict::Sound => judge(s, scene, room),
-                Verdict::Refused(r) => CheckedScene::Refused(r),
-            },
+        CheckedScene::Taken(scene) => match check_verdict::noted_verdict(s, scene, notes) {
+            Verdict::Sound => judge(s, scene, room),
+            Verdict::Refused(r) => CheckedScene::Refused(r),
         },
     }
 }

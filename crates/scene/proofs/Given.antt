@@ -17,7 +17,7 @@ use Rattle.scene.specs.declared.Fault.{Fault}
 use Rattle.scene.specs.declared.Fault.the-variants.{At, Nothing}
 use Rattle.scene.specs.declared.CheckedObject.{CheckedObject}
 use Rattle.scene.specs.declared.CheckedScene.{CheckedScene}
-use Rattle.scene.specs.Read.{place, bodyLength, coordinatesGood, standsIn, pointAt, segmentAt, decide, judge, readScene, readAlone}
+use Rattle.scene.specs.Read.{place, bodyLength, coordinatesGood, standsIn, pointAt, segmentAt, decide, judge, givenFirst, givenSecond, readScene, readAlone}
 use Rattle.scene.specs.Conditions.{Rule, conditions, orElse, overBoth, hasSegments, isRegion, checkedScene, checkSceneBy, checkedObject, checkObject, objectRules}
 use Rattle.scene.proofs.Passed.{Passed}
 use Rattle.scene.proofs.Indices.{not-nothing}
@@ -53,16 +53,16 @@ neither (At p) b e = absurd (not-nothing e)
 neither Nothing b e = (refl, e)
 
 module _ (s : List ℕ) (sc : Scene) where
-  pub in-neither : (rules : List (Rule Layout)) → NoFault s sc (map overBoth rules) → NoFault s (sc .f) rules × NoFault s (sc .g) rules
+  pub in-neither : (rules : List (Rule Layout)) → NoFault s sc (map overBoth rules) → NoFault s (givenFirst sc) rules × NoFault s (givenSecond sc) rules
   in-neither [] n = (tt, tt)
   in-neither (r ∷ rules) n =
-      let first = neither (r .fault s (sc .f)) (r .fault s (sc .g)) (n .0) in
+      let first = neither (r .fault s (givenFirst sc)) (r .fault s (givenSecond sc)) (n .0) in
       let more = in-neither rules (n .1) in
       ((first .0, more .0), (first .1, more .1))
 
-  pub over-both : (rules : List (Rule Layout)) → NoFault s (sc .f) rules → NoFault s (sc .g) rules → NoFault s sc (map overBoth rules)
-  over-both [] f g = tt
-  over-both (r ∷ rules) f g = (ap (λ (x : Fault). orElse x (r .fault s (sc .g))) (f .0) ∙ g .0, over-both rules (f .1) (g .1))
+  pub over-both : (rules : List (Rule Layout)) → NoFault s (givenFirst sc) rules → NoFault s (givenSecond sc) rules → NoFault s sc (map overBoth rules)
+  over-both [] a b = tt
+  over-both (r ∷ rules) a b = (ap (λ (x : Fault). orElse x (r .fault s (givenSecond sc))) (a .0) ∙ b .0, over-both rules (a .1) (b .1))
 
 pub checked-scene : (rules : List (Rule Scene)) (s : List ℕ) (sc : Scene) → checkSceneBy rules s ≡ CheckedScene.Taken sc → TakenScene s sc × NoFault s sc rules
 unfolding checkSceneBy

@@ -5,15 +5,15 @@ use native.Mathlib.Nat.{add-zero, zero-add, add-comm}
 use native.Mathlib.Omega.{arith}
 use mathlib.Core.Path.{_≡_, refl, sym, ap, subst, _∙_}
 use mathlib.Core.List.{List, _++_, map}
-use lib.ListN.{length, take, drop, length-append, take-append-drop, List·getD-append}
-use lib.Seq.{getD-append-add, length-take-le}
+use lib.ListN.{length, length-append, List·getD-append}
+use lib.Seq.{getD-append-add}
 use Rattle.scene.specs.declared.Layout.{Layout}
 use Rattle.scene.specs.declared.Scene.{Scene}
 use Rattle.scene.specs.declared.CheckedObject.{CheckedObject}
 use Rattle.scene.specs.declared.CheckedScene.{CheckedScene}
-use Rattle.scene.specs.Read.{byte, after, readObject, readScene, readAlone, IsObject}
+use Rattle.scene.specs.Read.{byte, after, arranged, readObject, readScene, readAlone, IsObject}
 use Rattle.scene.specs.Conditions.{overBoth, checkObject, objectRules}
-use Rattle.scene.proofs.Taken.{TakenAlone, TakenScene, taken-object, taken-alone, taken-scene, alone-read, scene-read, not-taken, same-layout}
+use Rattle.scene.proofs.Taken.{TakenAlone, Arranged, arrange, taken-object, taken-alone, alone-read, scene-read, not-taken, same-layout}
 use Rattle.scene.proofs.Given.{NoFault, checked-object, object-checked, in-neither, over-both}
 use Rattle.scene.proofs.Moved.{moved, movedObject, unmoved, Agree, agree-itself, moved-object, taken-reach}
 use Rattle.scene.proofs.Standing.{Stands, faultless-there, faultless-here}
@@ -115,48 +115,30 @@ module _ (a b : List ℕ) where
 
 -- ---- the scene that two objects form
 
-abbrev pub beside : List ℕ → Layout → Layout → Scene
-beside a l m = record { f = l; g = moved (length a) m }
+module _ (a b : List ℕ) (l m : Layout) where
+  abbrev pub beside : Scene
+  beside = arranged l (moved (length a) m)
 
-module _ (a b : List ℕ) where
-  module _ (l m : Layout) where
-    pub both-read : readAlone a ≡ CheckedObject.Taken l → readAlone b ≡ CheckedObject.Taken m → readScene (a ++ b) ≡ CheckedScene.Taken (beside a l m)
-    both-read e q =
-        scene-read (a ++ b) (beside a l m) (first-read a b l e)
-        (subst (λ (at : ℕ). readObject (a ++ b) at ≡ CheckedObject.Taken (moved (length a) m)) (taken-alone a l e .all) (second-read a b m q))
-        (omega (arith, length-append a b, taken-alone b m q .all))
+  module _ (first : readAlone a ≡ CheckedObject.Taken l) (second : readAlone b ≡ CheckedObject.Taken m) where
+    pub beside-read : readScene (a ++ b) ≡ CheckedScene.Taken beside
+    beside-read =
+        scene-read (a ++ b) l (moved (length a) m) (first-read a b l first) there (omega (arith, length-append a b, taken-alone b m second .all))
+      where
+        there : readObject (a ++ b) (after l) ≡ CheckedObject.Taken (moved (length a) m)
+        there = subst (λ (at : ℕ). readObject (a ++ b) at ≡ CheckedObject.Taken (moved (length a) m)) (taken-alone a l first .all) (second-read a b m second)
 
-    pub both-faultless : checkObject a ≡ CheckedObject.Taken l → checkObject b ≡ CheckedObject.Taken m → NoFault (a ++ b) (beside a l m) (map overBoth objectRules)
-    both-faultless e q = over-both (a ++ b) (beside a l m) objectRules (first-faultless a b l e) (second-faultless a b m q)
+    pub beside-given : Arranged l (moved (length a) m) beside
+    beside-given = arrange l (moved (length a) m) (omega (arith, taken-alone a l first .object .starts, taken-alone a l first .all))
 
-    pub both-checked : readAlone a ≡ CheckedObject.Taken l → readAlone b ≡ CheckedObject.Taken m → NoFault (a ++ b) (beside a l m) (map overBoth objectRules)
-        → (checkObject a ≡ CheckedObject.Taken l) × (checkObject b ≡ CheckedObject.Taken m)
-    both-checked e q n = let c = in-neither (a ++ b) (beside a l m) objectRules n in (first-checked a b l e (c .0), second-checked a b m q (c .1))
+    -- 10 to 14, whose rules find no fault in the scene where they find none in either object
+    pub beside-faultless : checkObject a ≡ CheckedObject.Taken l → checkObject b ≡ CheckedObject.Taken m → NoFault (a ++ b) beside (map overBoth objectRules)
+    beside-faultless e q =
+        over-both (a ++ b) beside objectRules (subst (λ (x : Layout). NoFault (a ++ b) x objectRules) (sym (beside-given .first)) (first-faultless a b l e))
+        (subst (λ (x : Layout). NoFault (a ++ b) x objectRules) (sym (beside-given .second)) (second-faultless a b m q))
 
-  -- a scene whose first object is as long as a
-  pub both-alone : (sc : Scene) → readScene (a ++ b) ≡ CheckedScene.Taken sc → after (sc .f) ≡ length a → (readAlone a ≡ CheckedObject.Taken (sc .f)) × Alone (length a) b (sc .g)
-  both-alone sc e all = (
-    first-alone a b (sc .f) (read (taken .f-taken .starts) (taken .f-read)) all,
-    second-alone a b (sc .g) (read (taken .g-taken .object .starts ∙ all) (taken .g-taken .read)) (sym (taken .g-taken .all)),
-  )
-    where
-      taken : TakenScene (a ++ b) sc
-      taken = taken-scene (a ++ b) sc e
-
-      read : {l : Layout} {at : ℕ} → l .start ≡ at → IsObject (a ++ b) l → readObject (a ++ b) at ≡ CheckedObject.Taken l
-      read {l} q = subst (λ (at : ℕ). readObject (a ++ b) at ≡ CheckedObject.Taken l) q
-
--- every taken scene is two objects side by side: the bytes up to the end of its first, and those after
-module _ (s : List ℕ) (sc : Scene) where
-  abbrev pub firstBytes : List ℕ
-  firstBytes = take (after (sc .f)) s
-
-  abbrev pub secondBytes : List ℕ
-  secondBytes = drop (after (sc .f)) s
-
-  pub joined : firstBytes ++ secondBytes ≡ s
-  joined = take-append-drop (after (sc .f)) s
-
-  pub parted : readScene s ≡ CheckedScene.Taken sc → (readAlone firstBytes ≡ CheckedObject.Taken (sc .f)) × Alone (length firstBytes) secondBytes (sc .g)
-  parted e =
-      both-alone firstBytes secondBytes sc (ap readScene joined ∙ e) (sym (length-take-le (after (sc .f)) s (taken-scene s sc e .f-taken .ends)))
+    pub beside-checked : NoFault (a ++ b) beside (map overBoth objectRules) → (checkObject a ≡ CheckedObject.Taken l) × (checkObject b ≡ CheckedObject.Taken m)
+    beside-checked n =
+        let c = in-neither (a ++ b) beside objectRules n in (
+          first-checked a b l first (subst (λ (x : Layout). NoFault (a ++ b) x objectRules) (beside-given .first) (c .0)),
+          second-checked a b m second (subst (λ (x : Layout). NoFault (a ++ b) x objectRules) (beside-given .second) (c .1)),
+        )

@@ -175,11 +175,11 @@ module _ {d : ℕ} {s : List ℕ} {l : Layout} {t : List ℕ} {to : ℕ} where
 -- ---- 10 to 14: each finds in t the fault that it finds in s, moved
 
 module _ {d : ℕ} {s : List ℕ} {l : Layout} {t : List ℕ} {to : ℕ} (o : Stands d s l t to) where
-  abbrev Moves : List (Rule Layout) → Type 0
+  abbrev pub Moves : List (Rule Layout) → Type 0
   Moves [] = Unit {0}
   Moves (r ∷ rules) = (r .fault t (placed to l) ≡ movedFault d (r .fault s l)) × Moves rules
 
-  moved-faults : Moves objectRules
+  pub moved-faults : Moves objectRules
   moved-faults = (moved-out-of-order o, (moved-unpaired o, (moved-touching-itself o, (moved-odd-end o, (moved-wrong-ia o, tt)))))
 
   pub faultless-there : NoFault s l objectRules → NoFault t (placed to l) objectRules

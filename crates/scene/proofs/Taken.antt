@@ -3,12 +3,12 @@ use Prim.Native.Nat.{ℕ, zero, suc, _+_, _-_, _<_, _≤_, zero-le}
 use native.Mathlib.Nat.{lt-irrefl}
 use native.Mathlib.Decide.{decLt, ℕ-discrete}
 use native.Mathlib.Omega.{arith}
-use mathlib.Core.Path.{_≡_, refl, sym, ap, subst, _∙_}
-use mathlib.Core.Bool.{Bool, true, false, not, true≢false, false≢true}
+use mathlib.Core.Path.{_≡_, refl, sym, ap, ap₂, subst, _∙_}
+use mathlib.Core.Bool.{Bool, true, false, not, cond, true≢false, false≢true}
 use mathlib.Core.List.{List, [], _∷_}
 use lib.ListN.{length}
-use lib.Dec.{T, leb, eqb, eqb→eq}
-use borrow.Author.Tests.{eq-eqb, ne-eqb, leb-true, le-leb}
+use lib.Dec.{T, leb, ltb, eqb, eqb→eq}
+use borrow.Author.Tests.{eq-eqb, ne-eqb, leb-true, le-leb, ltb-true, ltb-false, lt-ltb, le-ltb}
 use Rattle.scene.specs.declared.Shape.{Shape}
 use Rattle.scene.specs.declared.Shape.the-variants.{Points, Line, Region}
 use Rattle.scene.specs.declared.Kind.{Kind}
@@ -20,7 +20,7 @@ use Rattle.scene.specs.declared.Record.{Record}
 use Rattle.scene.specs.declared.Record.the-variants.{Good, Bad}
 use Rattle.scene.specs.declared.CheckedObject.{CheckedObject}
 use Rattle.scene.specs.declared.CheckedScene.{CheckedScene}
-use Rattle.scene.specs.Read.{kindAt, shapeNumber, standsIn, startsObject, isEnd, recordAt, place, endPlace, after, next, most, elementsFrom, begun, readObject, shapeOf, byte, unless, decide, judge, endsWith, alone, readAlone, withG, withF, readScene, IsObject}
+use Rattle.scene.specs.Read.{kindAt, shapeNumber, standsIn, startsObject, isEnd, recordAt, place, endPlace, after, next, most, elementsFrom, begun, readObject, shapeOf, byte, unless, decide, judge, endsWith, alone, readAlone, descends, arranged, turned, givenFirst, givenSecond, withSecond, withFirst, readScene, IsObject}
 use Rattle.scene.proofs.Passed.{Passed, passed, same-shape}
 
 abbrev pub layout : Shape → ℕ → ℕ → Layout
@@ -214,9 +214,12 @@ pub record TakenAlone (s : List ℕ) (at : ℕ) (l : Layout) : Type 0 where
   pub all : length s ≡ after l
 
 pub record TakenScene (s : List ℕ) (sc : Scene) : Type 0 where
-  pub f-taken : TakenObject s 0 (sc .f)
-  pub f-read : IsObject s (sc .f)
-  pub g-taken : TakenAlone s (after (sc .f)) (sc .g)
+  pub first-taken : TakenObject s 0 (givenFirst sc)
+  pub first-read : IsObject s (givenFirst sc)
+  pub second-taken : TakenAlone s (after (givenFirst sc)) (givenSecond sc)
+  pub ascending : shapeNumber (sc .f .shape) ≤ shapeNumber (sc .g .shape)
+  -- the objects are exchanged exactly where the types given descend
+  pub by-types : turned sc ≡ descends (givenFirst sc .shape) (givenSecond sc .shape)
 
 pub never-taken : {r : Refusal} {sc : Scene} → CheckedScene.Refused r ≡ CheckedScene.Taken sc → ⊥
 never-taken e = let z : _≡_ {A = ℕ} 0 1 = cc in omega arith
@@ -246,19 +249,83 @@ taken-alone s l e = go (readObject s 0) refl e
         let y = not-seven s 0 l′ q CheckedObject.Refused (CheckedObject.Taken l′) (CheckedObject.Taken l) (λ r. not-taken) x in
         subst (TakenAlone s 0) (same-layout (y .1)) (y .0)
 
+-- ---- the order of two objects
+
+-- the objects of a scene are those given, in their order or exchanged
+module _ (P : Layout → Type 0) (sc : Scene) where
+  pub both-of-given : P (givenFirst sc) → P (givenSecond sc) → P (sc .f) × P (sc .g)
+  both-of-given = go (turned sc)
+    where
+      go : (t : Bool) → P (cond t (sc .g) (sc .f)) → P (cond t (sc .f) (sc .g)) → P (sc .f) × P (sc .g)
+      go true a b = (b, a)
+      go false a b = (a, b)
+
+  pub given-of-both : P (sc .f) → P (sc .g) → P (givenFirst sc) × P (givenSecond sc)
+  given-of-both a b = go (turned sc)
+    where
+      go : (t : Bool) → P (cond t (sc .g) (sc .f)) × P (cond t (sc .f) (sc .g))
+      go true = (b, a)
+      go false = (a, b)
+
+-- two objects, one before the other in the bytes, and the scene that they are read as
+pub record Arranged (a b : Layout) (sc : Scene) : Type 0 where
+  pub first : givenFirst sc ≡ a
+  pub second : givenSecond sc ≡ b
+  pub rises : shapeNumber (sc .f .shape) ≤ shapeNumber (sc .g .shape)
+  pub where-descending : turned sc ≡ descends (a .shape) (b .shape)
+
+pub arrange : (a b : Layout) → a .start < b .start → Arranged a b (arranged a b)
+arrange a b h = go (descends (a .shape) (b .shape)) refl
+  where
+    go : (d : Bool) → descends (a .shape) (b .shape) ≡ d → Arranged a b (cond d (record { f = b; g = a }) (record { f = a; g = b }))
+    go true e =
+        let t : ltb (a .start) (b .start) ≡ true = lt-ltb (a .start) (b .start) h in
+        record { first = rw t; second = rw t; rises = omega (arith, ltb-true (shapeNumber (b .shape)) (shapeNumber (a .shape)) e); where-descending = t ∙ sym e }
+    go false e =
+        let t : ltb (b .start) (a .start) ≡ false = le-ltb (b .start) (a .start) (omega arith) in
+        record { first = rw t; second = rw t; rises = ltb-false (shapeNumber (b .shape)) (shapeNumber (a .shape)) e; where-descending = t ∙ sym e }
+
+-- where the second begins, the first has ended
+pub second-later : (s : List ℕ) (a b : Layout) → readObject s 0 ≡ CheckedObject.Taken a → readObject s (after a) ≡ CheckedObject.Taken b → a .start < b .start
+second-later s a b p q = omega (arith, taken-object s 0 a p .starts, taken-object s (after a) b q .starts)
+
 pub taken-scene : (s : List ℕ) (sc : Scene) → readScene s ≡ CheckedScene.Taken sc → TakenScene s sc
 unfolding readScene
-taken-scene s sc e = of-f (readObject s 0) refl e
+taken-scene s sc e = of-first (readObject s 0) refl e
   where
-    of-g : (f : Layout) → readObject s 0 ≡ CheckedObject.Taken f → (o : CheckedObject) → readObject s (after f) ≡ o → withG s f o ≡ CheckedScene.Taken sc → TakenScene s sc
-    of-g f p (CheckedObject.Refused r) q x = absurd (never-taken x)
-    of-g f p (CheckedObject.Taken g) q x =
-        let y = not-seven s (after f) g q CheckedScene.Refused (CheckedScene.Taken (record { f = f; g = g })) (CheckedScene.Taken sc) (λ r. never-taken) x in
-        subst (TakenScene s) (same-scene (y .1)) (record { f-taken = taken-object s 0 f p; f-read = is-object s 0 f p; g-taken = y .0 })
+    of-second : (a : Layout) → readObject s 0 ≡ CheckedObject.Taken a → (o : CheckedObject) → readObject s (after a) ≡ o → withSecond s a o ≡ CheckedScene.Taken sc → TakenScene s sc
+    of-second a p (CheckedObject.Refused r) q x = absurd (never-taken x)
+    of-second a p (CheckedObject.Taken b) q x = subst (TakenScene s) (same-scene (y .1)) there
+      where
+        y : TakenAlone s (after a) b × (CheckedScene.Taken (arranged a b) ≡ CheckedScene.Taken sc)
+        y = not-seven s (after a) b q CheckedScene.Refused (CheckedScene.Taken (arranged a b)) (CheckedScene.Taken sc) (λ r. never-taken) x
 
-    of-f : (o : CheckedObject) → readObject s 0 ≡ o → withF s o ≡ CheckedScene.Taken sc → TakenScene s sc
-    of-f (CheckedObject.Refused r) q x = absurd (never-taken x)
-    of-f (CheckedObject.Taken f) q x = of-g f q (readObject s (after f)) refl x
+        o : Arranged a b (arranged a b)
+        o = arrange a b (second-later s a b p q)
+
+        there : TakenScene s (arranged a b)
+        there = record {
+          first-taken = subst (TakenObject s 0) (sym (o .first)) (taken-object s 0 a p);
+          first-read = subst (IsObject s) (sym (o .first)) (is-object s 0 a p);
+          second-taken = subst (λ (l : Layout). TakenAlone s (after l) (givenSecond (arranged a b))) (sym (o .first)) (subst (TakenAlone s (after a)) (sym (o .second)) (y .0));
+          ascending = o .rises;
+          by-types = o .where-descending ∙ ap₂ (λ (l m : Layout). descends (l .shape) (m .shape)) (sym (o .first)) (sym (o .second));
+        }
+
+    of-first : (o : CheckedObject) → readObject s 0 ≡ o → withFirst s o ≡ CheckedScene.Taken sc → TakenScene s sc
+    of-first (CheckedObject.Refused r) q x = absurd (never-taken x)
+    of-first (CheckedObject.Taken a) q x = of-second a q (readObject s (after a)) refl x
+
+-- F and G, wherever they stand
+module _ {s : List ℕ} {sc : Scene} (t : TakenScene s sc) where
+  pub objects-read : IsObject s (sc .f) × IsObject s (sc .g)
+  objects-read = both-of-given (IsObject s) sc (t .first-read) (t .second-taken .read)
+
+  pub f-taken : TakenObject s (sc .f .start) (sc .f)
+  f-taken = taken-object s (sc .f .start) (sc .f) (objects-read .0)
+
+  pub g-taken : TakenObject s (sc .g .start) (sc .g)
+  g-taken = taken-object s (sc .g .start) (sc .g) (objects-read .1)
 
 -- and back: an object, or two, with no bytes after
 no-seven : {A : Type 0} (refuse : Refusal → A) (a : A) (s : List ℕ) (l : Layout) → length s ≡ after l → judge refuse a (endsWith s l ∷ []) ≡ a
@@ -268,10 +335,10 @@ pub alone-read : (s : List ℕ) (l : Layout) → readObject s 0 ≡ CheckedObjec
 unfolding readAlone
 alone-read s l e all = ap (alone s) e ∙ no-seven CheckedObject.Refused (CheckedObject.Taken l) s l all
 
-pub scene-read : (s : List ℕ) (sc : Scene) → readObject s 0 ≡ CheckedObject.Taken (sc .f) → readObject s (after (sc .f)) ≡ CheckedObject.Taken (sc .g)
-    → length s ≡ after (sc .g) → readScene s ≡ CheckedScene.Taken sc
+pub scene-read : (s : List ℕ) (a b : Layout) → readObject s 0 ≡ CheckedObject.Taken a → readObject s (after a) ≡ CheckedObject.Taken b → length s ≡ after b
+    → readScene s ≡ CheckedScene.Taken (arranged a b)
 unfolding readScene
-scene-read s sc f g all = ap (withF s) f ∙ ap (withG s (sc .f)) g ∙ no-seven CheckedScene.Refused (CheckedScene.Taken sc) s (sc .g) all
+scene-read s a b p q all = ap (withFirst s) p ∙ ap (withSecond s a) q ∙ no-seven CheckedScene.Refused (CheckedScene.Taken (arranged a b)) s b all
 
 -- no object takes more than 19,459 bytes, and no scene more than 38,918
 abbrev pub longest : ℕ
@@ -290,4 +357,4 @@ object-short s at l t = omega (arith, short l (t .few), t .starts)
 
 pub scene-short : (s : List ℕ) (sc : Scene) → TakenScene s sc → length s ≤ 38918
 scene-short s sc t =
-    omega (arith, object-short s 0 (sc .f) (t .f-taken), object-short s (after (sc .f)) (sc .g) (t .g-taken .object), t .g-taken .all)
+    omega (arith, object-short s 0 (givenFirst sc) (t .first-taken), object-short s (after (givenFirst sc)) (givenSecond sc) (t .second-taken .object), t .second-taken .all)

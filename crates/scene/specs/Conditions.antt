@@ -1,9 +1,9 @@
--- The conditions 8 and 10 to 15 of document 01's "What is turned away", each as "the earliest place at fault, if any", and the lists that give
--- their order. 9, 16 and 17 belong to single questions, which put them into the list at their places.
+-- The conditions 10 to 15 of document 01's "What is turned away", each as "the earliest place at fault, if any", and the lists that give their order. 8 "never
+-- occurs" since 02's Paper 1; 9, 16 and 17 belong to single questions, which put them into the list at their places.
 use Prim.Native.Nat.{ℕ, zero, suc, _-_}
 use mathlib.Core.Bool.{Bool, true, false, not, _&&_, cond, Bool·beq}
 use mathlib.Core.List.{List, [], _∷_, _++_, map}
-use lib.Dec.{leb, ltb}
+use lib.Dec.{ltb}
 use Rattle.whole.specs.Count.{odd, some}
 use Rattle.plane.specs.declared.Segment.{Segment}
 use Rattle.plane.specs.declared.Halfsegment.{Halfsegment}
@@ -16,7 +16,7 @@ use Rattle.scene.specs.declared.Fault.{Fault}
 use Rattle.scene.specs.declared.Fault.the-variants.{At, Nothing}
 use Rattle.scene.specs.declared.CheckedObject.{CheckedObject}
 use Rattle.scene.specs.declared.CheckedScene.{CheckedScene}
-use Rattle.scene.specs.Read.{pointAt, halfsegmentAt, iaAt, shapeNumber, place, unless, Condition, condition, judge, readScene, readAlone}
+use Rattle.scene.specs.Read.{pointAt, halfsegmentAt, iaAt, place, givenFirst, givenSecond, Condition, condition, judge, readScene, readAlone}
 
 -- ---- the elements of an object, by their index
 
@@ -143,25 +143,21 @@ module _ {A : Type 0} where
 abbrev pub objectRules : List (Rule Layout)
 objectRules = rule 10 outOfOrder ∷ rule 11 unpaired ∷ rule 12 touchingItself ∷ rule 13 oddEnd ∷ rule 14 wrongIa ∷ []
 
--- over a scene, F's records come before G's
+-- over a scene: "the earliest in those bytes if several", so the object given first comes first
 abbrev pub orElse : Fault → Fault → Fault
 orElse (At p) other = At p
 orElse Nothing other = other
 
 abbrev pub overBoth : Rule Layout → Rule Scene
-overBoth r = rule (r .number) (λ s sc. orElse (r .fault s (sc .f)) (r .fault s (sc .g)))
+overBoth r = rule (r .number) (λ s sc. orElse (r .fault s (givenFirst sc)) (r .fault s (givenSecond sc)))
 
--- 8: "F's type above G's"; "for 8 G's type record"
-abbrev pub typesDescend : List ℕ → Scene → Fault
-typesDescend s sc = unless (leb (shapeNumber (sc .f .shape)) (shapeNumber (sc .g .shape))) (sc .g .start)
-
--- 15: "unequal segments of F and G share a point that is not an end of both"; "for 15 the record in F"
+-- 15: "unequal segments of F and G share a point that is not an end of both"; 02, Paper 1: "for 15 the record is the caller's first object's"
 abbrev pub touchingAcross : List ℕ → Scene → Fault
-touchingAcross s sc = touching s (sc .f) (segments s (sc .g))
+touchingAcross s sc = touching s (givenFirst sc) (segments s (givenSecond sc))
 
 -- A question's own conditions stand in their places: 9 among them, and 16 and 17 after them.
 abbrev pub sceneRules : List (Rule Scene) → List (Rule Scene) → List (Rule Scene)
-sceneRules nine later = rule 8 typesDescend ∷ (nine ++ (map overBoth objectRules ++ (rule 15 touchingAcross ∷ later)))
+sceneRules nine later = nine ++ (map overBoth objectRules ++ (rule 15 touchingAcross ∷ later))
 
 -- ---- checking
 

@@ -63,7 +63,6 @@ scenes =
     ∷ (84 ∷ 1 ∷ P (pos 1000001) (pos 0) gives 4 at 2)
     ∷ (84 ∷ 2 ∷ L 3 0 3 0 1 gives 5 at 2)
     ∷ (84 ∷ 1 ∷ 69 ∷ 84 ∷ 1 ∷ 69 ∷ 0 ∷ [] gives 7 at 6)
-    ∷ (84 ∷ 2 ∷ 69 ∷ 84 ∷ 1 ∷ 69 ∷ [] gives 8 at 3)
     ∷ (object 1 (P (pos 1) (pos 1) ++ P (pos 1) (pos 1)) ++ object 1 [] gives 10 at 11)
     ∷ (object 2 (L 0 0 4 0 1) ++ object 2 [] gives 11 at 2)
     ∷ (object 2 (L 0 0 4 0 1 ++ L 2 0 2 3 1 ++ L 2 0 2 3 0 ++ L 0 0 4 0 0) ++ object 2 [] gives 12 at 2)
@@ -87,7 +86,7 @@ scenes =
     ∷ (object 2 (L 1000001 0 0 0 1) gives 4 at 2)
     ∷ (object 2 (L 4 0 0 0 1) gives 5 at 2)
     ∷ (object 1 (P (pos 0) (negsuc 1000000)) gives 4 at 2)
-    -- 1 to 7 anywhere come before 8 to 15 anywhere, and 10 in G before 11 in F
+    -- 1 to 7 anywhere come before 10 to 15 anywhere, and 10 in the second object before 11 in the first
     ∷ (object 2 [] ++ object 1 [] ++ (69 ∷ []) gives 7 at 6)
     ∷ (object 2 (L 0 0 4 0 1) ++ object 2 (L 0 0 4 0 1 ++ L 0 0 4 0 1) gives 10 at 41)
     -- 10: collinear halfsegments on the same side at one point; records that differ in ia alone
@@ -99,6 +98,13 @@ scenes =
     ∷ (object 2 (L 0 0 1 1 1 ++ L 0 1 1 0 1 ++ L 0 1 1 0 0 ++ L 0 0 1 1 0) ++ object 2 [] gives 12 at 2)
     -- 13: on a right half, where two sides of a triangle end
     ∷ (object 3 (R 0 0 4 0 1 1 ++ R 0 0 4 4 1 0 ++ R 0 0 4 0 0 1 ++ R 0 0 4 4 0 0) ++ object 3 [] gives 13 at 40)
+    -- types that descend: what was 8 is taken; for each number the object given first comes first, and for 15 the record is its own
+    ∷ (object 2 [] ++ object 1 [] gives 0 at 0)
+    ∷ (object 3 (square 1) ++ object 1 (P (pos 2) (pos 0)) gives 0 at 0)
+    ∷ (object 2 (L 0 0 4 0 1 ++ L 0 0 4 0 1) ++ object 1 (P (pos 1) (pos 1) ++ P (pos 1) (pos 1)) gives 10 at 20)
+    ∷ (object 2 (L 0 0 4 0 1) ++ object 1 (P (pos 1) (pos 1) ++ P (pos 1) (pos 1)) gives 10 at 32)
+    ∷ (object 3 (square 1) ++ object 2 (L 2 3 2 5 1 ++ L 2 3 2 5 0) gives 15 at 59)
+    ∷ (object 2 (L 2 3 2 5 1 ++ L 2 3 2 5 0) ++ object 3 (square 1) gives 15 at 2)
     -- points against segments are never 15
     ∷ (object 1 (P (pos 2) (pos 0)) ++ object 3 (square 1) gives 0 at 0)
     ∷ []

@@ -230,20 +230,43 @@ readObject s at =
 
 -- ---- a scene
 
+-- 02, Paper 1: "A scene with F's type above G's should be read as the scene with the objects exchanged". So F's type is never above G's, whichever object the
+-- bytes have first.
+abbrev pub descends : Shape → Shape → Bool
+descends a b = ltb (shapeNumber b) (shapeNumber a)
+
+abbrev pub arranged : Layout → Layout → Scene
+arranged a b = cond (descends (a .shape) (b .shape)) (record { f = b; g = a }) (record { f = a; g = b })
+
+-- The objects were exchanged: F's records stand after G's.
+abbrev pub turned : Scene → Bool
+turned sc = ltb (sc .g .start) (sc .f .start)
+
+-- "in the caller's order": of what is F's and what is G's, that of the object given first, or, with the two exchanged, of the object given second. And of what
+-- the caller gives for each of the two objects, that which is for F, or for G.
+abbrev pub asGiven : {A : Type 0} → Scene → A → A → A
+asGiven sc a b = cond (turned sc) b a
+
+abbrev pub givenFirst : Scene → Layout
+givenFirst sc = asGiven sc (sc .f) (sc .g)
+
+abbrev pub givenSecond : Scene → Layout
+givenSecond sc = asGiven sc (sc .g) (sc .f)
+
 -- "A scene is two objects, F then G, and no more": 7 is the first byte after the last end
 abbrev pub endsWith : List ℕ → Layout → Condition
 endsWith s l = condition 7 (unless (leb (length s) (after l)) (after l))
 
-abbrev pub withG : List ℕ → Layout → CheckedObject → CheckedScene
-withG s f (CheckedObject.Refused r) = CheckedScene.Refused r
-withG s f (CheckedObject.Taken g) = judge CheckedScene.Refused (CheckedScene.Taken (record { f = f; g = g })) (endsWith s g ∷ [])
+abbrev pub withSecond : List ℕ → Layout → CheckedObject → CheckedScene
+withSecond s a (CheckedObject.Refused r) = CheckedScene.Refused r
+withSecond s a (CheckedObject.Taken b) = judge CheckedScene.Refused (CheckedScene.Taken (arranged a b)) (endsWith s b ∷ [])
 
-abbrev pub withF : List ℕ → CheckedObject → CheckedScene
-withF s (CheckedObject.Refused r) = CheckedScene.Refused r
-withF s (CheckedObject.Taken f) = withG s f (readObject s (after f))
+abbrev pub withFirst : List ℕ → CheckedObject → CheckedScene
+withFirst s (CheckedObject.Refused r) = CheckedScene.Refused r
+withFirst s (CheckedObject.Taken a) = withSecond s a (readObject s (after a))
 
 unfoldable pub readScene : List ℕ → CheckedScene
-readScene s = withF s (readObject s 0)
+readScene s = withFirst s (readObject s 0)
 
 -- "A call on one object takes 1 to 7 .. over its bytes alone, 7 being bytes after its end."
 abbrev pub alone : List ℕ → CheckedObject → CheckedObject
@@ -271,7 +294,7 @@ pub record Values : Type 0 where
   pub types : List ℕ
 
 abbrev pub sceneValues : CheckedScene → Values
-sceneValues (CheckedScene.Taken sc) = record { number = 0; place = 0; types = shapeNumber (sc .f .shape) ∷ shapeNumber (sc .g .shape) ∷ [] }
+sceneValues (CheckedScene.Taken sc) = record { number = 0; place = 0; types = shapeNumber (givenFirst sc .shape) ∷ shapeNumber (givenSecond sc .shape) ∷ [] }
 sceneValues (CheckedScene.Refused r) = record { number = r .number; place = r .place; types = 0 ∷ 0 ∷ [] }
 
 abbrev pub objectValues : CheckedObject → Values

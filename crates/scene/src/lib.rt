@@ -23,6 +23,7 @@ pub struct Layout {
     pub count: usize,
 }
 
+// The two objects of a scene, F's type not above G's.
 pub struct Scene {
     pub f: Layout,
     pub g: Layout,
@@ -57,4 +58,5 @@ pub enum CheckedScene {
 }
 
 pub mod bytes;
+pub mod order;
 pub mod records;

@@ -6,9 +6,9 @@ use scene::Kind;
 use scene::Layout;
 use scene::Record;
 use scene::Refusal;
-use scene::Scene;
 use scene::Shape;
 use scene::bytes;
+use scene::order;
 use scene::records;
 ghost use mathlib.Core.Path.{_≡_};
 ghost use Prim.Native.Nat.{_+_, _≤_};
@@ -160,12 +160,12 @@ pub fn read_scene(s: &[u8]) -> CheckedScene
 {
     match read_object(s, 0) {
         CheckedObject::Refused(r) => CheckedScene::Refused(r),
-        CheckedObject::Taken(f) => match read_object(s, records::after(f)) {
+        CheckedObject::Taken(a) => match read_object(s, records::after(a)) {
             CheckedObject::Refused(r) => CheckedScene::Refused(r),
-            CheckedObject::Taken(g) => {
-                let end = records::after(g);
+            CheckedObject::Taken(b) => {
+                let end = records::after(b);
                 if s.len() <= end {
-                    CheckedScene::Taken(Scene { f, g })
+                    CheckedScene::Taken(order::arranged(a, b))
                 } else {
                     CheckedScene::Refused(Refusal {
                         number: 7,

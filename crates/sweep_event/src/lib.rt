@@ -2,7 +2,9 @@
 // Where a neighbour does not let it in, where it is not found, or where an ia is wrong, the sweep stops, and then a condition finds a fault.
 use scene::Scene;
 use scene::bytes;
+use scene::order;
 use sweep_status::note;
+use sweep_status::owner;
 use sweep_status::place;
 ghost use mathlib.Core.Path.{_≡_};
 ghost use mathlib.Core.Bool.{Bool·beq};
@@ -12,10 +14,10 @@ ghost use lib.Dec.{ltb};
 ghost use lib.ListN.{length, take};
 ghost use Rattle.whole.specs.Count.{bit, odd, count};
 ghost use Rattle.whole.specs.Decides.{Decides};
-ghost use Rattle.scene.specs.Read.{segmentAt, IsScene};
+ghost use Rattle.scene.specs.Read.{segmentAt, givenSecond, IsScene};
 ghost use Rattle.scene.specs.Conditions.{isRegion};
 ghost use Rattle.sweep_laws.specs.Swept.{objectOf, strandOf, isFirst, strandAt, Entry};
-ghost use Rattle.sweep_laws.specs.Event.{Place, RightIa, FitsAt, Began, OwnAt, EndsAt, Ended};
+ghost use Rattle.sweep_laws.specs.Event.{Place, oddOf, RightIa, FitsAt, Began, OwnAt, EndsAt, Ended};
 ghost use Rattle.sweep_laws.specs.Ready.{Ready};
 ghost use Rattle.sweep_event.specs.Steps.{Steps};
 
@@ -27,8 +29,8 @@ pub enum Step {
 
 // ---- a segment begins
 
-// Are an odd number of the first k entries F's? G starts at an offset.
-fn has_odd_first(start: u16, status: &[u16], k: usize) -> bool
+// Do an odd number of the first k entries stand before an offset?
+fn has_odd_before(start: u16, status: &[u16], k: usize) -> bool
     requires { ⌜ k ≤ length (now status) ⌝ }
     ensures { λ r. ⌜ r ≡ odd (count (λ e. ltb e start) (take k (now (status .entry)))) ⌝ }
 {
@@ -41,13 +43,27 @@ fn has_odd_first(start: u16, status: &[u16], k: usize) -> bool
     odd
 }
 
-// Are an odd number of the first k entries of F, or not of F?
-fn has_odd_own(start: u16, first: bool, status: &[u16], k: usize) -> bool
+// Do an odd number of them stand before it, or not before it?
+fn has_odd_beside(start: u16, before: bool, status: &[u16], k: usize) -> bool
     requires { ⌜ k ≤ length (now status) ⌝ }
-    ensures { λ r. ⌜ r ≡ odd (count (λ e. Bool·beq first (ltb e start)) (take k (now (status .entry)))) ⌝ }
+    ensures { λ r. ⌜ r ≡ odd (count (λ e. Bool·beq before (ltb e start)) (take k (now (status .entry)))) ⌝ }
 {
-    let odd = has_odd_first(start, status, k);
-    if first { odd } else { odd != (k % 2 == 1) }
+    let odd = has_odd_before(start, status, k);
+    if before { odd } else { odd != (k % 2 == 1) }
+}
+
+// Are an odd number of the first k entries of F, or not of F?
+fn has_odd_of(scene: Scene, first: bool, status: &[u16], k: usize) -> bool
+    requires { ⌜ (k ≤ length (now status)) × (givenSecond scene .start < 65536) ⌝ }
+    ensures { λ r. ⌜ ((s : List ℕ) → r ≡ oddOf s scene first (take k (now (status .entry)))) ⌝ }
+{
+    let second = order::given_second(scene);
+    has_odd_beside(
+        second.start as u16,
+        first != order::is_turned(scene),
+        status,
+        k,
+    )
 }
 
 fn has_region(scene: Scene, first: bool) -> bool
@@ -104,8 +120,7 @@ pub fn begin(
     if !place::fits_under(s, at, status, k, n) {
         return Step::Stop;
     }
-    let g = scene.g;
-    let own = has_odd_own(g.start as u16, first, status, k);
+    let own = has_odd_of(scene, first, status, k);
     if !has_right_ia(s, scene, first, at, own) {
         return Step::Stop;
     }
@@ -120,8 +135,7 @@ fn is_own(s: &[u8], scene: Scene, first: bool, at: usize, e: usize) -> bool
     requires { ⌜ IsScene (now s) scene × Entry (now s) scene at × (isFirst (now s) scene at ≡ first) × Entry (now s) scene e ⌝ }
     ensures { λ r. ⌜ Decides (strandAt (now (s .entry)) scene e ≡ strandOf (now (s .entry)) scene first at) r ⌝ }
 {
-    let g = scene.g;
-    if first != (e < g.start) {
+    if first != owner::is_first(scene, e) {
         return false;
     }
     let u = bytes::segment(s, e);

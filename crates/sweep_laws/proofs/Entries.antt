@@ -19,9 +19,9 @@ use Rattle.plane.specs.declared.Point.{Point}
 use Rattle.plane.specs.declared.Segment.{Segment}
 use Rattle.plane.specs.Plane.{segmentInRange}
 use Rattle.scene.specs.declared.Scene.{Scene}
-use Rattle.scene.specs.Read.{place, segmentAt, iaAt, IsScene}
+use Rattle.scene.specs.Read.{place, segmentAt, iaAt, givenSecond, IsScene}
 use Rattle.scene.specs.Conditions.{hasSegments, isRegion}
-use Rattle.scene.proofs.Taken.{TakenScene, taken-scene, scene-short}
+use Rattle.scene.proofs.Taken.{TakenScene, taken-scene, f-taken, g-taken, scene-short}
 use Rattle.scene.proofs.Given.{GoodHalfsegment, good-halfsegment, ia-there}
 use Rattle.sweep_laws.specs.Lower.{passesOver}
 use Rattle.sweep_laws.specs.Status.{AtPlace, BelowPlace}
@@ -34,12 +34,12 @@ use Rattle.sweep_laws.proofs.Objects.{few-elements}
 
 module _ (s : List ℕ) (sc : Scene) where
   good : TakenScene s sc → (b : Bool) (i : ℕ) → i < objectOf s sc b .count → T (hasSegments (objectOf s sc b .shape)) → GoodHalfsegment s (place (objectOf s sc b) i)
-  good t true i h e = good-halfsegment (t .f-taken) i h e
-  good t false i h e = good-halfsegment (t .g-taken .object) i h e
+  good t true i h e = good-halfsegment (f-taken t) i h e
+  good t false i h e = good-halfsegment (g-taken t) i h e
 
   with-ia : TakenScene s sc → (b : Bool) (i : ℕ) → i < objectOf s sc b .count → T (isRegion (objectOf s sc b .shape)) → place (objectOf s sc b) i + 19 ≤ length s
-  with-ia t true i h e = ia-there (t .f-taken) i h e
-  with-ia t false i h e = ia-there (t .g-taken .object) i h e
+  with-ia t true i h e = ia-there (f-taken t) i h e
+  with-ia t false i h e = ia-there (g-taken t) i h e
 
   module _ (is : IsScene s sc) where
     pub entry-readable : {at : ℕ} → Entry s sc at → GoodHalfsegment s at
@@ -66,9 +66,9 @@ module _ (s : List ℕ) (sc : Scene) where
     pub entry-small : {at : ℕ} → Entry s sc at → at < 65536
     entry-small e = omega (arith, entry-readable e .there, scene-short s sc (taken-scene s sc is))
 
--- nor are more bits asked for where G starts
-pub start-small : (s : List ℕ) (sc : Scene) → IsScene s sc → sc .g .start < 65536
-start-small s sc is = let t = taken-scene s sc is in omega (arith, t .g-taken .object .starts, t .f-taken .ends, scene-short s sc t)
+-- nor are more bits asked for where the second object starts
+pub start-small : (s : List ℕ) (sc : Scene) → IsScene s sc → givenSecond sc .start < 65536
+start-small s sc is = let t = taken-scene s sc is in omega (arith, t .second-taken .object .starts, t .first-taken .ends, scene-short s sc t)
 
 -- the strand of an entry of the same object, with the same segment and ia
 pub same-strand : (s : List ℕ) (sc : Scene) (first : Bool) (at e : ℕ) → isFirst s sc e ≡ first → segmentAt s e ≡ segmentAt s at

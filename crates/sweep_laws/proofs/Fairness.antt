@@ -6,7 +6,7 @@ use mathlib.Core.Bool.{Bool, true, false, not, _&&_}
 use mathlib.Core.List.{List}
 use lib.Dec.{T}
 use Rattle.whole.specs.Count.{_∈_, odd, count}
-use Rattle.whole.proofs.Logic.{refute, true-is, none-of}
+use Rattle.whole.proofs.Logic.{true-is}
 use Rattle.whole.proofs.Parity.{odd-count}
 use Rattle.plane.specs.declared.Segment.{Segment}
 use Rattle.plane.specs.Plane.{touch}
@@ -14,15 +14,13 @@ use Rattle.plane.proofs.OnSegment.{ordered-read}
 use Rattle.plane.proofs.Accepted.{Regular}
 use Rattle.scene.specs.declared.Scene.{Scene}
 use Rattle.scene.specs.Read.{place, iaAt, IsScene}
-use Rattle.scene.specs.Conditions.{isRegion, half, segments, isTouching, touching}
-use Rattle.scene_segments.proofs.Indices.{none-wrong}
-use Rattle.scene_segments.proofs.Parted.{touch-swap}
+use Rattle.scene.specs.Conditions.{isRegion, segments}
 use Rattle.sweep_laws.specs.Lower.{under}
 use Rattle.sweep_laws.specs.Swept.{objectOf, total, InOrder, Passes}
 use Rattle.sweep_laws.proofs.Begun.{strandBy}
 use Rattle.sweep_laws.proofs.Objects.{has, read}
 use Rattle.sweep_laws.proofs.Start.{start-interior}
-use Rattle.sweep_laws.proofs.SoundObject.{SoundObject, partner-of, segment-in, all-ordered, no-touch, split, regular, ia-is, in-left}
+use Rattle.sweep_laws.proofs.SoundObject.{SoundObject, partner-of, segment-in, all-ordered, no-touch, no-touch-across, regular, ia-is}
 use Rattle.sweep_laws.proofs.Complete.{Other, Fair}
 
 module _ (s : List ℕ) (sc : Scene) (is : IsScene s sc) (order : InOrder s sc) (passes : Passes s sc) where
@@ -45,21 +43,12 @@ module _ (s : List ℕ) (sc : Scene) (is : IsScene s sc) (order : InOrder s sc) 
   listed : (first : Bool) (k : ℕ) → k < total s sc first → strandBy s sc first k .segment ∈ segments s (objectOf s sc first)
   listed first k h = segment-in (sound first) (has s sc first k h .0) k (has s sc first k h .1)
 
-  -- 15
-  across : (k m : ℕ) → k < total s sc true → m < total s sc false → touch (strandBy s sc true k .segment) (strandBy s sc false m .segment) ≡ false
-  unfolding touching
-  across k m h l =
-      let w = in-left (sound true) (listed true k h) in
-      subst (λ (t : Segment). touch t (strandBy s sc false m .segment) ≡ false) (w .3)
-      (none-of (touch (half s (sc .f) (w .0) .segment)) (rw (w .2) at (none-wrong (sc .f) (isTouching s (sc .f) (segments s (sc .g))) (passes .across) (w .0) (w .1))) (listed false m l))
-
+  -- 12 and 15
   untouched : (first other : Bool) (k m : ℕ) → k < total s sc first → m < total s sc other → touch (strandBy s sc first k .segment) (strandBy s sc other m .segment) ≡ false
   untouched true true k m h l = no-touch (sound true) (strandBy s sc true k .segment) (strandBy s sc true m .segment) (listed true k h) (listed true m l)
   untouched false false k m h l = no-touch (sound false) (strandBy s sc false k .segment) (strandBy s sc false m .segment) (listed false k h) (listed false m l)
-  untouched true false k m h l = across k m h l
-  untouched false true k m h l =
-      refute (touch (strandBy s sc false k .segment) (strandBy s sc true m .segment))
-      (λ t. subst T (across m k l h) (touch-swap (strandBy s sc false k .segment) (strandBy s sc true m .segment) (all-ordered (sound false) _ (listed false k h)) (all-ordered (sound true) _ (listed true m l)) t))
+  untouched true false k m h l = no-touch-across (sound true) (sound false) (passes .across) (strandBy s sc true k .segment) (strandBy s sc false m .segment) (listed true k h) (listed false m l) .0
+  untouched false true k m h l = no-touch-across (sound true) (sound false) (passes .across) (strandBy s sc true m .segment) (strandBy s sc false k .segment) (listed true m l) (listed false k h) .1
 
   -- 14
   interior : (first : Bool) (k : ℕ) → k < total s sc first → T (isRegion (objectOf s sc first .shape))

@@ -20,6 +20,7 @@ use Rattle.scene.specs.declared.Shape.{Shape}
 use Rattle.scene.specs.declared.Shape.the-variants.{Points, Line, Region}
 use Rattle.scene.specs.declared.Scene.{Scene}
 use Rattle.scene.specs.declared.Fault.the-variants.{Nothing}
+use Rattle.scene.specs.Read.{turned}
 use Rattle.scene.specs.Conditions.{elements, keep, hasSegments, isRegion, half, ia, isLeft, segments, partner, isUnpaired, unpaired, isTouching, touching, touchingItself, endsOddly, oddEnd, hasWrongIa, wrongIa}
 use Rattle.whole.proofs.Counted.{count-none}
 use Rattle.scene_segments.proofs.Indices.{element-in, in-element, keep-in, no-fault}
@@ -252,9 +253,13 @@ module _ (s : List ℕ) (sc : Scene) (o : Orderly s sc) (run : Run s sc (total s
         apart = λ first. no-touch first first;
         even = λ first. no-fault (objectOf s sc first) (endsOddly s (objectOf s sc first)) (unless-region first (λ k. odd (endsAt (segments s (objectOf s sc first)) (grid (dominating (half s (objectOf s sc first) k))))) (λ r k h. even-at first r (dominating (half s (objectOf s sc first) k))));
         right-ia = λ first. no-fault (objectOf s sc first) (hasWrongIa s (objectOf s sc first)) (unless-region first (λ k. not (Bool·beq (ia s (objectOf s sc first) k) (interiorAbove (segments s (objectOf s sc first)) (half s (objectOf s sc first) k .segment)))) (λ r k h. agrees (ia s (objectOf s sc first) k) (interiorAbove (segments s (objectOf s sc first)) (half s (objectOf s sc first) k .segment)) (interior-at first r k h)));
-        across = no-touch true false;
+        across = by-order (turned sc);
       }
     where
+      by-order : (b : Bool) → touching s (cond b (sc .g) (sc .f)) (segments s (cond b (sc .f) (sc .g))) ≡ Nothing
+      by-order true = no-touch false true
+      by-order false = no-touch true false
+
       unless : (b c : Bool) → (T b → T c) → b && not c ≡ false
       unless true c f = ap not (true-is c (f tt))
       unless false c f = refl

@@ -1,12 +1,12 @@
 -- What an object gives that 10 to 14 do not refuse, in the form that the plane's lemmas take.
 use Prim.Native.Nat.{ℕ, zero, suc, _-_, _<_}
 use mathlib.Core.Path.{_≡_, refl, sym, ap, subst, subst₂, _∙_}
-use mathlib.Core.Bool.{Bool, true, false, not, Bool·beq}
+use mathlib.Core.Bool.{Bool, true, false, not, cond, Bool·beq}
 use mathlib.Core.List.{List, map}
 use lib.Dec.{T}
 use borrow.Author.Tests.{not-false}
 use Rattle.whole.specs.Count.{odd, _∈_, there}
-use Rattle.whole.proofs.Logic.{beq-same, and-left, and-right, is-true, true-is, none-of, in-map, map-in, Sorted, sorted-nil, sorted-cons, sorted-map}
+use Rattle.whole.proofs.Logic.{beq-same, and-left, and-right, is-true, true-is, refute, none-of, in-map, map-in, Sorted, sorted-nil, sorted-cons, sorted-map}
 use Rattle.plane.specs.declared.Point.{Point}
 use Rattle.plane.specs.declared.Segment.{Segment}
 use Rattle.plane.specs.declared.Halfsegment.{Halfsegment}
@@ -14,11 +14,13 @@ use Rattle.plane.specs.Plane.{inRange, segmentInRange, before, ordered, dominat
 use Rattle.plane.proofs.Order.{before-irreflexive, comes-irreflexive, LeftBefore, halfOf}
 use Rattle.plane.proofs.Accepted.{Split, Regular, AllOrdered, split-from-order, even-from-ends}
 use Rattle.scene.specs.declared.Layout.{Layout}
+use Rattle.scene.specs.declared.Scene.{Scene}
 use Rattle.scene.specs.declared.Fault.the-variants.{Nothing}
-use Rattle.scene.specs.Read.{pointAt, place, IsObject}
-use Rattle.scene.specs.Conditions.{indices, elements, keep, hasSegments, isRegion, half, ia, isLeft, segments, inOrder, outOfOrder, unpaired, isTouching, touching, touchingItself, endsOddly, oddEnd, hasWrongIa, wrongIa}
+use Rattle.scene.specs.Read.{pointAt, place, turned, IsObject}
+use Rattle.scene.specs.Conditions.{indices, elements, keep, hasSegments, isRegion, half, ia, isLeft, segments, inOrder, outOfOrder, unpaired, isTouching, touching, touchingItself, endsOddly, oddEnd, hasWrongIa, wrongIa, touchingAcross}
 use Rattle.scene_segments.proofs.Elements.{point-good, half-good, order-of-points, order-of-halves}
 use Rattle.scene_segments.proofs.Partners.{Partner, partner-there}
+use Rattle.scene_segments.proofs.Parted.{touch-swap}
 use Rattle.scene_segments.proofs.Indices.{indices-in, element-in, in-element, keep-in, in-keep, kept-rise, none-wrong, halves-rise, points-rise}
 
 -- ---- an object that 10 to 14 do not refuse
@@ -93,13 +95,17 @@ module _ {s : List ℕ} {l : Layout} (o : SoundObject s l) where
           subst₂ (λ (h k : Halfsegment). T (comesBefore h k)) (as-half s l i true (left-segments s l i (a .1) .1)) (as-half s l j true (left-segments s l j (b .1) .1))
           (halves-rise s l (o .read) (o .order) (left-segments s l i (a .1) .0) i j h (in-element l j (b .0)))
 
-  -- 12: no two of them touch
-  pub no-touch : (t u : Segment) → t ∈ segments s l → u ∈ segments s l → touch t u ≡ false
-  unfolding touchingItself touching
-  no-touch t u m k =
+  -- 12 and 15: none of them touches one of the others
+  none-touched : {others : List Segment} → touching s l others ≡ Nothing → (t u : Segment) → t ∈ segments s l → u ∈ others → touch t u ≡ false
+  unfolding touching
+  none-touched {others} e t u m k =
       let w = in-left m in
       subst (λ (t : Segment). touch t u ≡ false) (w .3)
-      (none-of (touch (half s l (w .0) .segment)) (rw (w .2) at (none-wrong l (isTouching s l (segments s l)) (o .apart) (w .0) (w .1))) k)
+      (none-of (touch (half s l (w .0) .segment)) (rw (w .2) at (none-wrong l (isTouching s l others) e (w .0) (w .1))) k)
+
+  pub no-touch : (t u : Segment) → t ∈ segments s l → u ∈ segments s l → touch t u ≡ false
+  unfolding touchingItself
+  no-touch = none-touched (o .apart)
 
   pub split : Split (segments s l)
   split = split-from-order (segments s l) all-ordered no-touch segments-sorted
@@ -175,3 +181,20 @@ module _ {s : List ℕ} {l : Layout} (o : SoundObject s l) where
         rise : (n j : ℕ) → Sorted _<_ (indices n j)
         rise zero j = sorted-nil
         rise (suc n) j = sorted-cons (λ i m. indices-in n (suc j) i m .0) (rise n (suc j))
+
+-- ---- two such objects of a scene
+
+-- 15, whichever of them is given first, since touching goes both ways
+module _ {s : List ℕ} {a b : Layout} (o : SoundObject s a) (q : SoundObject s b) (none : touching s a (segments s b) ≡ Nothing) where
+  untouched : (t u : Segment) → t ∈ segments s a → u ∈ segments s b → (touch t u ≡ false) × (touch u t ≡ false)
+  untouched t u m k =
+      let e = none-touched o none t u m k in
+      (e, refute (touch u t) (λ h. subst T e (touch-swap u t (all-ordered q u k) (all-ordered o t m) h)))
+
+pub no-touch-across : {s : List ℕ} {sc : Scene} → SoundObject s (sc .f) → SoundObject s (sc .g) → touchingAcross s sc ≡ Nothing
+    → (t u : Segment) → t ∈ segments s (sc .f) → u ∈ segments s (sc .g) → (touch t u ≡ false) × (touch u t ≡ false)
+no-touch-across {s} {sc} o q none t u m k = go (turned sc) none
+  where
+    go : (b : Bool) → touching s (cond b (sc .g) (sc .f)) (segments s (cond b (sc .f) (sc .g))) ≡ Nothing → (touch t u ≡ false) × (touch u t ≡ false)
+    go true e = let w = untouched q o e u t k m in (w .1, w .0)
+    go false e = untouched o q e t u m k

@@ -7,7 +7,7 @@ use lib.Dec.{T, ltb}
 use Rattle.plane.specs.Plane.{comesBefore}
 use Rattle.scene.specs.declared.Layout.{Layout}
 use Rattle.scene.specs.declared.Scene.{Scene}
-use Rattle.scene.specs.Read.{segmentAt, halfsegmentAt, iaAt, place}
+use Rattle.scene.specs.Read.{segmentAt, halfsegmentAt, iaAt, place, turned, givenSecond}
 use Rattle.scene.specs.declared.Fault.the-variants.{Nothing}
 use Rattle.scene.specs.Conditions.{hasSegments, isRegion, outOfOrder, unpaired, touchingItself, oddEnd, wrongIa, touchingAcross}
 use Rattle.sweep_laws.specs.Kept.{Strand}
@@ -22,13 +22,13 @@ module _ (s : List ℕ) (sc : Scene) where
   objectOf true = sc .f
   objectOf false = sc .g
 
-  -- the strand of the record at an offset, of F or not; F's records stand before G's
+  -- the strand of the record at an offset, of F or not: by the place where the bytes change from one object to the other
   abbrev pub strandOf : Bool → ℕ → Strand
   strandOf first at =
       record { first = first; segment = segmentAt s at; ia = isRegion (objectOf first .shape) && iaAt s at }
 
   abbrev pub isFirst : ℕ → Bool
-  isFirst at = ltb at (sc .g .start)
+  isFirst at = not (Bool·beq (ltb at (givenSecond sc .start)) (turned sc))
 
   abbrev pub strandAt : ℕ → Strand
   strandAt at = strandOf (isFirst at) at

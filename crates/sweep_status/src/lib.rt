@@ -6,6 +6,7 @@ ghost use lib.ListN.{length, take};
 ghost use Rattle.sweep_laws.specs.Status.{inserted, removed};
 
 pub mod note;
+pub mod owner;
 pub mod place;
 
 // Where the move of the entries from k to n may end: at n, or a little above it, so that a long row of entries is whole blocks of 16. What stands above

@@ -1,5 +1,6 @@
 // Where an event stands in the status, and whether its neighbours there let it in. Each function looks at a few entries only: that the others stand
 // in order follows, since every two neighbours were tested when they became neighbours. The entries are the first n of the array.
+use crate::owner;
 use plane::Point;
 use plane::Segment;
 use scene::Scene;
@@ -160,8 +161,7 @@ pub fn fits_over(s: &[u8], scene: Scene, first: bool, at: usize, status: &[u16],
     if k == 0 {
         return true;
     }
-    let g = scene.g;
-    let own = first == (wide(status[k - 1]) < g.start);
+    let own = first == owner::is_first(scene, wide(status[k - 1]));
     let u = segment_of(s, status, k - 1);
     let t = bytes::segment(s, at);
     is_under_beginning(u, t, own) && is_lower(u, t)

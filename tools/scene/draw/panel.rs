@@ -71,7 +71,7 @@ impl Panel<'_> {
         let relation = relation::of(taken);
         self.line(26.0, "font-size=\"20\" font-weight=\"bold\" fill=\"#222\"", relation.name);
         self.y += 2.0;
-        self.paragraph(12.0, "#444", relation.says);
+        self.paragraph(12.0, "#444", &relation.says);
         self.cells(&taken.cells);
         self.flags(taken);
     }

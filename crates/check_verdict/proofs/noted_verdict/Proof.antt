@@ -23,7 +23,7 @@ plain-verdict-requires : tie.Need-plain-verdict-requires
 plain-verdict-requires c κs =
     let z = c .before .before .before .before .before .before .before in
     let t = taken-scene (z .args .s .now) (z .args .scene) (z .pre .0) in
-    (t .f-read, t .g-taken .read)
+    (t .first-read, t .second-taken .read)
 
 same-length-2 : tie.Need-same-length-2
 same-length-2 c = search needs

@@ -1,5 +1,4 @@
 -- `flags_masks::masks_for` meets its contract: the masks as given, or those of the table.
-use mathlib.Core.Path.{refl}
 use borrow.Author.Needs.{needs}
 use Rattle.flags_masks.specs.Wanted.{masksFor}
 use Rattle.flags_masks.proofs.masks_for.Statement.{statement}
@@ -14,9 +13,11 @@ enum-told c = search needs
 masks-of-requires : tie.Need-masks-of-requires
 masks-of-requires c κs = search needs
 
+arranged-requires : tie.Need-arranged-requires
+arranged-requires c κs = search needs
+
 returns : tie.Need-returns
-unfolding masksFor
-returns c = rw (c .before .wanted .given .1) refl
+returns c = rw (c .before .before .wanted .given .1) (c .arranged .ensures)
 
 returns-2 : tie.Need-returns-2
 unfolding masksFor
@@ -25,4 +26,4 @@ returns-2 c =
     rw (c .before .enum-told .given .1) (λ i. record { f = m .0 i; g = m .1 i })
 
 pub masks-for-spec : {M : Type 1} → statement M
-masks-for-spec = tie.close (tie.spec enum-known-wanted enum-told masks-of-requires returns returns-2)
+masks-for-spec = tie.close (tie.spec enum-known-wanted arranged-requires enum-told masks-of-requires returns returns-2)

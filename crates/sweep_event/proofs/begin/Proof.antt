@@ -67,11 +67,11 @@ module _ (c : tie.After-other-note) where
   abbrev ia : tie.Else4
   ia = put .before .before
 
-  abbrev counted : tie.After-has-odd-own
+  abbrev counted : tie.After-has-odd-of
   counted = ia .before .before
 
   abbrev under : tie.Else3
-  under = counted .before .before .before .before
+  under = counted .before .before
 
   abbrev over : tie.Else2
   over = under .before .before .before
@@ -95,10 +95,10 @@ module _ (c : tie.After-other-note) where
         fits = record {
           over = to-below (status found) (a .args .n) (a .pre .0 .held .room) (Fitting found) (k found) (below-all found) (accepted (over .before .fits-over .ensures) (over .if2 .left));
           under = accepted (under .before .fits-under .ensures) (under .if3 .left);
-          right-ia = λ region. ap odd (of-first found (a .args .first)) ∙ sym (counted .has-odd-own .ensures) ∙ accepted (ia .before .has-right-ia .ensures) (ia .if4 .left) region;
+          right-ia = λ region. ap odd (of-first found (a .args .first)) ∙ sym (counted .has-odd-of .ensures (s found)) ∙ accepted (ia .before .has-right-ia .ensures) (ia .if4 .left) region;
         };
         new-is = put .insert .ensures .1;
-        noted = c .other-note .ensures (of found (a .args .first) (take (k found) (status found))) (of found (not (a .args .first)) (take (k found) (status found))) all (counted .has-odd-own .ensures)
+        noted = c .other-note .ensures (of found (a .args .first) (take (k found) (status found))) (of found (not (a .args .first)) (take (k found) (status found))) all (counted .has-odd-of .ensures (s found))
             ∙ ap (λ (m : ℕ). bit (odd m)) (sym (of-first found (not (a .args .first))));
       }
 
@@ -133,15 +133,10 @@ returns-3 c =
     let d = f .before .before .before .before .before in
     (refl, stops (λ can. refused (f .fits-under .result) (c .if3 .taken) (f .fits-under .ensures .complete (can .1 .under))))
 
-cast-has-odd-own : tie.Need-cast-has-odd-own
-cast-has-odd-own c =
-    let z = z (c .before .before .before .before .before .before .before .before) in
-    omega (arith, start-small (z .args .s .now) (z .args .scene) (z .pre .0 .scene))
-
-has-odd-own-requires : tie.Need-has-odd-own-requires
-has-odd-own-requires c κs =
-    let d = c .before .before .before .before .before .before .before .before .before in
-    omega (arith, below-all d, z d .pre .0 .held .room)
+has-odd-of-requires : tie.Need-has-odd-of-requires
+has-odd-of-requires c κs =
+    let d = c .before .before .before .before .before .before .before in
+    (omega (arith, below-all d, z d .pre .0 .held .room), start-small (s d) (z d .args .scene) (z d .pre .0 .scene))
 
 has-right-ia-requires : tie.Need-has-right-ia-requires
 has-right-ia-requires c κs = search needs
@@ -153,27 +148,27 @@ returns-4 : tie.Need-returns-4
 returns-4 c =
     let f = c .before in
     let o = f .before in
-    let d = o .before .before .before .before .before .before .before .before .before .before in
-    (refl, stops (λ can. refused (f .has-right-ia .result) (c .if4 .taken) (f .has-right-ia .ensures .complete (λ region. o .has-odd-own .ensures ∙ ap odd (sym (of-first d (z d .args .first))) ∙ can .1 .right-ia region))))
+    let d = o .before .before .before .before .before .before .before .before in
+    (refl, stops (λ can. refused (f .has-right-ia .result) (c .if4 .taken) (f .has-right-ia .ensures .complete (λ region. o .has-odd-of .ensures (s d) ∙ ap odd (sym (of-first d (z d .args .first))) ∙ can .1 .right-ia region))))
 
 cast-insert : tie.Need-cast-insert
 cast-insert c =
-    let z = z (c .before .before .before .before .before .before .before .before .before .before .before .before .before) in
+    let z = z (c .before .before .before .before .before .before .before .before .before .before .before) in
     omega (arith, entry-small (z .args .s .now) (z .args .scene) (z .pre .0 .scene) (z .pre .0 .event))
 
 insert-requires : tie.Need-insert-requires
 insert-requires c κs =
-    let d = c .before .before .before .before .before .before .before .before .before .before .before .before .before in
+    let d = c .before .before .before .before .before .before .before .before .before .before .before in
     (below-all d, omega (arith, z d .pre .0 .held .room, d .if1 .left))
 
-add-t10 : tie.Need-add-t10
-add-t10 c = fits ((c .before .before .before .before .before .before .before .before .before .before .before .before .before .before .before .before))
+add-t9 : tie.Need-add-t9
+add-t9 c = fits ((c .before .before .before .before .before .before .before .before .before .before .before .before .before .before))
 
 other-note-requires : tie.Need-other-note-requires
 other-note-requires c κs = search needs
 
-add-t24 : tie.Need-add-t24
-add-t24 c = let d = found c in omega (arith, below-all d, fits d)
+add-t23 : tie.Need-add-t23
+add-t23 c = let d = found c in omega (arith, below-all d, fits d)
 
 same-length-4 : tie.Need-same-length-4
 same-length-4 c = search needs
@@ -195,15 +190,14 @@ begin-spec =
     fits-under-requires
     same-length-2
     returns-3
-    cast-has-odd-own
-    has-odd-own-requires
+    has-odd-of-requires
     has-right-ia-requires
     same-length-3
     returns-4
     cast-insert
     insert-requires
-    add-t10
+    add-t9
     other-note-requires
-    add-t24
+    add-t23
     same-length-4
     returns-5)

@@ -3,7 +3,7 @@ use mathlib.Core.Path.{_≡_, sym, ap, subst, _∙_}
 use mathlib.Core.Bool.{Bool, true, _&&_, Bool·beq}
 use borrow.Author.Needs.{needs}
 use borrow.Author.Tests.{not-false}
-use lib.Dec.{T, T-not, ltb}
+use lib.Dec.{T, T-not}
 use Rattle.whole.proofs.Logic.{is-true, true-is, beq-same, beq-refl}
 use Rattle.whole.proofs.Deciding.{yes, no}
 use Rattle.plane.proofs.Equal.{sameSegment-read, sameSegment-refl}
@@ -21,10 +21,12 @@ use Rattle.sweep_event.proofs.is_own.Tie as tie
 -- the entry is of the same object
 module _ (c : tie.Else1) where
   abbrev z : tie.Start
-  z = c .before .before .before .before
+  z = c .before .before .before
 
   same-object : isFirst (z .args .s .now) (z .args .scene) (z .args .e) ≡ z .args .first
-  same-object = sym (beq-same (z .args .first) (ltb (z .args .e) (z .args .scene .g .start)) (not-false (Bool·beq (z .args .first) (ltb (z .args .e) (z .args .scene .g .start))) (c .if1 .left)))
+  same-object =
+      let o = c .before .is-first in
+      sym (o .ensures (z .args .s .now)) ∙ sym (beq-same (z .args .first) (o .result) (not-false (Bool·beq (z .args .first) (o .result)) (c .if1 .left)))
 
 -- and has the same segment
 module _ (c : tie.After-has-region) where
@@ -42,11 +44,15 @@ module _ (c : tie.After-has-region) where
 region : (c : tie.Else3) → let a = z (d (c .before)) .args in T (isRegion (objectOf (a .s .now) (a .scene) (a .first) .shape))
 region c = let a = z (d (c .before)) .args in is-true _ (upheld (c .before .has-region .ensures (a .s .now)) (c .if3 .left))
 
+is-first-requires : tie.Need-is-first-requires
+is-first-requires c κs = search needs
+
 returns : tie.Need-returns
 returns c =
-    let z = c .before .before .before .before in
+    let o = c .before .is-first in
+    let z = c .before .before .before in
     let first = z .args .first in
-    no (λ w. T-not (Bool·beq first (ltb (z .args .e) (z .args .scene .g .start))) (is-true _ (c .if1 .taken)) (is-true _ (ap (Bool·beq first) (ap (λ (a : Strand). a .first) w) ∙ beq-refl first)))
+    no (λ w. T-not (Bool·beq first (o .result)) (is-true _ (c .if1 .taken)) (is-true _ (ap (Bool·beq first) (o .ensures (z .args .s .now) ∙ ap (λ (a : Strand). a .first) w) ∙ beq-refl first)))
 
 segment-requires : tie.Need-segment-requires
 segment-requires c κs = let a = z c .args in entry-readable (a .s .now) (a .scene) (z c .pre .0) (z c .pre .3) .there
@@ -112,6 +118,7 @@ pub is-own-spec : {M : Type 1} → statement M
 is-own-spec =
     tie.close
     (tie.spec
+    is-first-requires
     returns
     segment-requires
     segment-requires-2

@@ -1,21 +1,17 @@
--- `overlap::refusals::check_list` meets its contract: reading, 8, 10 to 15, then 16 and 17, each of which may refuse; with the notes of a scene that the sweep accepts.
+-- `overlap::refusals::check_list` meets its contract: reading, 10 to 15, then 16 and 17, each of which may refuse; with the notes of a scene that the sweep accepts.
 use Prim.Native.Nat.{ℕ}
 use native.Mathlib.Omega.{arith}
-use mathlib.Core.Path.{_≡_, refl, sym, subst, _∙_}
+use mathlib.Core.Path.{_≡_, refl, sym, _∙_}
 use mathlib.Core.List.{List}
-use mathlib.Core.Bool.{Bool, false}
-use lib.Dec.{T}
 use borrow.Author.Needs.{needs}
 use Rattle.scene.specs.declared.Scene.{Scene}
-use Rattle.scene.specs.declared.Fault.the-variants.{Nothing}
 use Rattle.scene.specs.declared.CheckedScene.{CheckedScene}
 use Rattle.scene.specs.Read.{IsScene, IsObject}
-use Rattle.scene.specs.Conditions.{typesDescend}
-use Rattle.scene.proofs.Taken.{taken-scene}
+use Rattle.scene.proofs.Taken.{taken-scene, objects-read}
 use Rattle.scene.specs.declared.Refusal.{Refusal}
 use Rattle.check_verdict.specs.Refusals.{geometryVerdict}
 use Rattle.overlap.specs.Rules.{NotedWhere}
-use Rattle.overlap.proofs.Checked.{unread, descending, at-fault, sound-list, noted-judged}
+use Rattle.overlap.proofs.Checked.{unread, at-fault, sound-list, noted-judged}
 use Rattle.overlap.proofs.refusals.check_list.Statement.{statement}
 use Rattle.overlap.proofs.refusals.check_list.Tie as tie
 
@@ -41,15 +37,12 @@ module _ (c : tie.After-known-told2) where
   read = sym (c .before .before .before .read-scene .ensures) ∙ c .before .scene .given .1
 
   both-read : IsObject bytes (scene .f) × IsObject bytes (scene .g)
-  both-read = let o = taken-scene bytes scene read in (o .f-read, o .g-taken .read)
+  both-read = objects-read (taken-scene bytes scene read)
 
--- and whose types rise
+-- and that the sweep was asked about
 module _ (c : tie.After-noted-verdict) where
   abbrev its : tie.After-known-told2
-  its = c .before .before .before .before .before
-
-  rising : typesDescend (bytes its) (scene its) ≡ Nothing
-  rising = sym (c .before .before .before .before .types-fault .ensures (bytes its)) ∙ c .before .before .enum-told .given .1
+  its = c .before .before
 
   verdict-is : geometryVerdict (bytes its) (scene its) ≡ c .noted-verdict .result
   verdict-is = sym (c .noted-verdict .ensures .1)
@@ -63,20 +56,11 @@ enum-known-r c = search needs
 enum-known-scene : tie.Need-enum-known-scene
 enum-known-scene c = search needs
 
-types-fault-requires : tie.Need-types-fault-requires
-types-fault-requires c κs = search needs
-
-enum-known-place : tie.Need-enum-known-place
-enum-known-place c = search needs
+noted-verdict-requires : tie.Need-noted-verdict-requires
+noted-verdict-requires c κs = let d = c .before in (read d, z d .pre)
 
 enum-told : tie.Need-enum-told
 enum-told c = search needs
-
-noted-verdict-requires : tie.Need-noted-verdict-requires
-noted-verdict-requires c κs = let d = c .before .before .before .before in (read d, z d .pre)
-
-enum-told-2 : tie.Need-enum-told-2
-enum-told-2 c = search needs
 
 judge-requires : tie.Need-judge-requires
 judge-requires c κs = both-read (its (c .before .before .before .before))
@@ -91,36 +75,29 @@ returns c =
     let a = d .before .before .before .args in
     (refl, unread (a .s .now) (a .room) (k .r .given .0 .0) (sym (d .read-scene .ensures) ∙ k .r .given .1), not-noted)
 
-returns-2 : tie.Need-returns-2
-returns-2 c =
-    let k = c .before in
-    let t = k .before .before in
-    let d = t .before in
-    (refl, descending (bytes d) (z d .args .room) (scene d) (read d) (k .place .given .0 .0) (sym (t .types-fault .ensures (bytes d)) ∙ k .place .given .1), not-noted)
-
 same-length : tie.Need-same-length
 same-length c = search needs
 
-returns-3 : tie.Need-returns-3
-returns-3 c =
+returns-2 : tie.Need-returns-2
+returns-2 c =
     let n = c .before .before .before .before .before in
     let d = its n in
-    let is = c .before .enum-told2 .given .1 in (
+    let is = c .before .enum-told .given .1 in (
       n .noted-verdict .ensures .0,
-      c .judge .ensures ∙ sound-list (bytes d) (z d .args .room) (scene d) (read d) (rising n) (verdict-is n ∙ is),
+      c .judge .ensures ∙ sound-list (bytes d) (z d .args .room) (scene d) (read d) (verdict-is n ∙ is),
       noted-judged (bytes d) (scene d) (z d .args .room) (c .judge .ensures) (n .noted-verdict .ensures .2 is),
     )
 
 same-length-2 : tie.Need-same-length-2
 same-length-2 c = search needs
 
-returns-4 : tie.Need-returns-4
-returns-4 c =
+returns-3 : tie.Need-returns-3
+returns-3 c =
     let k = c .before in
     let n = k .before .before .before .before in
     let d = its n in (
       n .noted-verdict .ensures .0,
-      at-fault (bytes d) (z d .args .room) (scene d) (read d) (rising n) (k .r2 .given .0 .0) (verdict-is n ∙ k .r2 .given .1),
+      at-fault (bytes d) (z d .args .room) (scene d) (read d) (k .r2 .given .0 .0) (verdict-is n ∙ k .r2 .given .1),
       not-noted,
     )
 
@@ -131,16 +108,12 @@ check-list-spec =
     read-scene-requires
     enum-known-r
     enum-known-scene
-    types-fault-requires
-    enum-known-place
-    enum-told
     noted-verdict-requires
-    enum-told-2
+    enum-told
     judge-requires
     enum-known-r-2
     returns
-    returns-2
     same-length
-    returns-3
+    returns-2
     same-length-2
-    returns-4)
+    returns-3)

@@ -4,7 +4,7 @@ use native.Mathlib.Omega.{arith}
 use mathlib.Core.Path.{_≡_, ap, _∙_}
 use mathlib.Core.Bool.{Bool, not, _&&_, _||_, Bool·beq}
 use borrow.Author.Needs.{needs}
-use lib.Dec.{T, ltb}
+use lib.Dec.{T}
 use lib.ListN.{getD}
 use Rattle.whole.specs.Decides.{Decides}
 use Rattle.whole.proofs.Deciding.{yes, and-second, and-first}
@@ -12,6 +12,7 @@ use Rattle.plane.specs.declared.Segment.{Segment}
 use Rattle.plane.specs.Plane.{segmentInRange, samePoint, sameSegment}
 use Rattle.scene.specs.Read.{segmentAt}
 use Rattle.sweep_laws.specs.Lower.{passesUnder, lowerAtRight}
+use Rattle.sweep_laws.specs.Swept.{isFirst}
 use Rattle.sweep_laws.specs.Event.{FitsOver}
 use Rattle.sweep_laws.proofs.Entries.{in-range-at, tested, none-below, by-below}
 use Rattle.sweep_status.proofs.place.fits_over.Statement.{statement}
@@ -23,7 +24,7 @@ isUnder u t own = passesUnder u (t .left) || (samePoint (u .left) (t .left) && p
 -- the two segments
 module _ (c : tie.After-segment) where
   abbrev z : tie.Start
-  z = c .before .before .before .before .before .before .before .before .before
+  z = c .before .before .before .before .before .before .before .before
 
   in-range : T (segmentInRange (c .before .segment-of .result)) × T (segmentInRange (c .segment .result))
   in-range = (c .before .segment-of .ensures .1, in-range-at (z .pre .0) (c .segment .ensures))
@@ -32,7 +33,7 @@ module _ (c : tie.After-segment) where
   entry m = getD (z .args .status .now) m 0
 
   abbrev own : ℕ → Bool
-  own m = Bool·beq (z .args .first) (ltb m (z .args .scene .g .start))
+  own m = Bool·beq (z .args .first) (isFirst (z .args .s .now) (z .args .scene) m)
 
   -- the entry is the one just below the place
   abbrev k′ : ℕ
@@ -58,11 +59,14 @@ shared-slice-read-wide c = search needs
 wide-requires : tie.Need-wide-requires
 wide-requires c κs = search needs
 
+is-first-requires : tie.Need-is-first-requires
+is-first-requires c κs = search needs
+
 sub-segment-of : tie.Need-sub-segment-of
 sub-segment-of c = search needs
 
 segment-of-requires : tie.Need-segment-of-requires
-segment-of-requires c κs = let z = c .before .before .before .before .before .before .before in (omega (arith, z .pre .1 .room), z .pre .1 .entries (z .args .k - 1) (omega arith))
+segment-of-requires c κs = let z = c .before .before .before .before .before .before in (omega (arith, z .pre .1 .room), z .pre .1 .entries (z .args .k - 1) (omega arith))
 
 segment-requires : tie.Need-segment-requires
 segment-requires c κs = search needs
@@ -84,10 +88,14 @@ module _ (w : tie.After-is-under-beginning) where
   abbrev Fits : ℕ → Type 0
   Fits = FitsOver (x .args .s .now) (x .args .scene) (x .args .first) (x .args .at)
 
+  -- whose the entry is
+  whose : a .before .before .is-first .result ≡ isFirst (x .args .s .now) (x .args .scene) (entry a (k′ a))
+  whose = let d = a .before .before in d .is-first .ensures (x .args .s .now) ∙ ap (isFirst (x .args .s .now) (x .args .scene)) (d .before .wide .ensures)
+
   belongs : Decides (T (isUnder (segmentAt (x .args .s .now) (entry a (k′ a))) (segmentAt (x .args .s .now) (x .args .at)) (own a (entry a (k′ a))))) (w .is-under-beginning .result)
   belongs =
       tested (λ u t. isUnder u t (own a (entry a (k′ a))))
-      (w .is-under-beginning .ensures ∙ ap (λ (e : ℕ). isUnder (a .before .segment-of .result) (a .segment .result) (own a e)) (a .before .before .before .wide .ensures))
+      (w .is-under-beginning .ensures ∙ ap (λ (b : Bool). isUnder (a .before .segment-of .result) (a .segment .result) (Bool·beq (x .args .first) b)) whose)
       (below a) (a .segment .ensures)
 
   is-below : suc (k′ a) ≡ x .args .k
@@ -113,6 +121,7 @@ fits-over-spec =
     mul-wide
     shared-slice-read-wide
     wide-requires
+    is-first-requires
     sub-segment-of
     segment-of-requires
     segment-requires

@@ -1,4 +1,4 @@
--- `sweep_event::has_odd_first` meets its contract. The loop's invariant: `odd` is the parity of the first `i` entries. The measure is the number of
+-- `sweep_event::has_odd_before` meets its contract. The loop's invariant: `odd` is the parity of the first `i` entries. The measure is the number of
 -- entries that are left.
 use Prim.Native.Nat.{ℕ, _-_, _≤_}
 use native.Mathlib.Omega.{arith}
@@ -8,8 +8,8 @@ use lib.Dec.{ltb}
 use lib.ListN.{take}
 use Rattle.whole.proofs.Parity.{parity, parity-nil, odd-count}
 use Rattle.sweep_laws.proofs.Entries.{parity-one}
-use Rattle.sweep_event.proofs.has_odd_first.Statement.{statement}
-use Rattle.sweep_event.proofs.has_odd_first.Tie as tie
+use Rattle.sweep_event.proofs.has_odd_before.Statement.{statement}
+use Rattle.sweep_event.proofs.has_odd_before.Tie as tie
 
 abbrev isFirst : ℕ → ℕ → Bool
 isFirst start e = ltb e start
@@ -54,8 +54,8 @@ returns c =
     ∙ ap (λ (m : ℕ). parity (isFirst (a .start)) (take m (a .status .now))) (last c)
     ∙ sym (odd-count (isFirst (a .start)) (take (a .k) (a .status .now)))
 
-pub has-odd-first-spec : {M : Type 1} → statement M
-has-odd-first-spec =
+pub has-odd-before-spec : {M : Type 1} → statement M
+has-odd-before-spec =
     tie.close
     (tie.spec
     Inv-loop
