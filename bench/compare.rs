@@ -1,12 +1,11 @@
-//! The peer's nine cells against ours, scene by scene. Every difference must be one that a known fault of that version of GEOS predicts for just
-//! this scene; docs/BENCH.md describes the faults.
+//! The peer's nine cells against ours, scene by scene. Every difference must be one that the known fault of that version of GEOS predicts for just
+//! this scene; docs/BENCH.md describes the fault.
 
-use crate::cells::{matrix, Matrix};
+use crate::cells::Matrix;
 use crate::flags::line_boundary;
 use crate::geos::{bench_geos_from_bytes, Geos, Parts};
 use crate::library;
 use crate::maker::{full, small};
-use crate::mistakes::{Rules, RIGHT};
 use crate::plane::{inside, Fraction, Point};
 use crate::random::Random;
 use crate::rows::{self, EITHER_ORDER};
@@ -61,27 +60,14 @@ fn one(geos: &Geos, version: &str, name: &str, bytes: &[u8], tally: &mut Tally) 
     }
 }
 
-/// The cells that a version of GEOS is expected to give for a scene whose right cells are known.
+/// The cells that a version of GEOS is expected to give for a scene whose right cells are known. Before 3.13 they are the right ones.
 fn with_fault(version: &str, f: &Object, g: &Object, right: &Matrix) -> Matrix {
+    let mut cells = *right;
     if version.starts_with("3.13") {
-        let mut cells = *right;
         cells[1][2] &= !skips_boundary(f, g);
         cells[2][1] &= !skips_boundary(g, f);
-        return cells;
     }
-    // with boxes apart it goes another way, by the right rule
-    let odd_ends_count = |object: &&Object| object.kind == LINE && odd_boundary(object) != line_boundary(object);
-    if Box::of(f).is_beside(&Box::of(g)) || [f, g].iter().all(|object| !odd_ends_count(object)) {
-        return *right;
-    }
-    matrix(f, g, &Rules { line_boundary: odd_boundary, ..RIGHT })
-}
-
-/// Before 3.13: an end of 3, 5 .. segments is taken for boundary, as under the rule of odd counts.
-fn odd_boundary(line: &Object) -> Vec<Point> {
-    let segments = line.segments();
-    let ends = line.halves.iter().map(Half::dominating);
-    ends.filter(|p| segments.iter().filter(|s| s.has_end(*p)).count() % 2 == 1).collect()
+    cells
 }
 
 /// 3.13: once an end of one part is found outside the other object, be it boundary or not, parts beside its box are passed over.

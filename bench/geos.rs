@@ -1,5 +1,5 @@
-//! GEOS, through its C interface: a scene's objects built from the scene's bytes, tested for validity, and related under the monovalent endpoint
-//! rule, which is document 01's boundary of a line if each segment is a part of its own.
+//! GEOS, through its C interface: a scene's objects built from the scene's bytes, tested for validity, and related under its own boundary rule, the
+//! OGC's of odd counts, which is document 02's boundary of a line if each segment is a part of its own.
 
 use crate::cells::Matrix;
 use crate::plane::{Point, Segment};
@@ -17,7 +17,6 @@ type Coordinates = *mut c_void;
 const MULTIPOINT: c_int = 4;
 const MULTILINESTRING: c_int = 5;
 const MULTIPOLYGON: c_int = 6;
-const MONOVALENT_ENDPOINT: c_int = 4;
 
 #[link(name = "geos_c")]
 extern "C" {
@@ -31,7 +30,7 @@ extern "C" {
     fn GEOSGeom_createCollection_r(handle: Handle, kind: c_int, parts: *const Geometry, count: c_uint) -> Geometry;
     fn GEOSGeom_destroy_r(handle: Handle, geometry: Geometry);
     fn GEOSisValid_r(handle: Handle, geometry: *const c_void) -> c_char;
-    fn GEOSRelateBoundaryNodeRule_r(handle: Handle, f: *const c_void, g: *const c_void, rule: c_int) -> *mut c_char;
+    fn GEOSRelate_r(handle: Handle, f: *const c_void, g: *const c_void) -> *mut c_char;
     fn GEOSFree_r(handle: Handle, what: *mut c_void);
 }
 
@@ -147,7 +146,7 @@ impl<'a> Pair<'a> {
 
     /// The nine cells, or none if GEOS raised an exception.
     pub fn relate(&self) -> Option<Matrix> {
-        let text = unsafe { GEOSRelateBoundaryNodeRule_r(self.geos.0, self.f, self.g, MONOVALENT_ENDPOINT) };
+        let text = unsafe { GEOSRelate_r(self.geos.0, self.f, self.g) };
         if text as *const c_char == null() {
             return None;
         }

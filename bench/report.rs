@@ -232,7 +232,7 @@ fn faults(results: &Results) -> String {
 
 fn comparison(results: &Results) -> String {
     let mut text = String::from(
-        "### The comparison of cells\n\nThe rows above in all sizes, and random scenes: those with our cells, those where the version's known fault shows, just \
+        "### The comparison of cells\n\nThe rows above in all sizes, and random scenes: those with our cells, those where the known fault of 3.13 shows, just \
          as predicted, and those where GEOS gives something else.\n\n\
          | GEOS | types | same cells | known fault | unexplained |\n|---|---|---|---|---|\n",
     );

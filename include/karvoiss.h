@@ -118,8 +118,9 @@ extern "C" {
  *            bound_shared, bound_disjoint
  *
  * (m/n) is a segment with m of the two interiors below it and n above it, right
- * and left of it if it is vertical. A line's boundary points are the ends that
- * belong to exactly one of its segments.
+ * and left of it if it is vertical. A line's boundary points are the ends at
+ * which an odd number of its segments end, as in OGC Simple Features: so the
+ * end of three segments is one. Before 0.4.0 they were the ends of exactly one.
  *
  * want_f and want_g say which flags are wanted: flag k of F exactly if bit k of
  * want_f is set, and G's by want_g. A flag that is not wanted is 0, and a bit

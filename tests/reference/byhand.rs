@@ -221,11 +221,41 @@ pub fn answer_traps() -> Vec<Known> {
     let scene = |name, f: Object, g: Object, line| Known { name, bytes: scene_bytes(&f, &g), line };
     let empty = |kind| as_given(kind, &[]);
     let triangle: [Point; 4] = [(0, 0), (4, 0), (0, 3), (0, 0)];
-    let star: [&[Point]; 3] = [&[(0, 0), (2, 2)], &[(2, 2), (4, 0)], &[(2, 2), (2, 5)]];
+    // spokes from a hub, and how many of them; a closed line with a tail
+    let spokes: [&[Point]; 5] = [&[(0, 0), (2, 2)], &[(2, 2), (4, 0)], &[(2, 2), (2, 5)], &[(2, 2), (5, 2)], &[(0, 4), (2, 2)]];
+    let hub = |number: usize| line(&spokes[..number]);
+    let cross: [&[Point]; 3] = [&[(0, 2), (2, 2)], &[(2, 2), (4, 2)], &[(2, 2), (3, 3)]];
+    let lollipop: [&[Point]; 2] = [&[(0, 0), (4, 0), (2, 4), (0, 0)], &[(4, 0), (6, 0)]];
     let split_square: [Point; 6] = [(0, 0), (4, 0), (4, 2), (4, 4), (0, 4), (0, 0)];
     vec![
         scene("far from a closed line", points(&[(9, 9)]), line(&[&triangle]), "ok 1 2 1 0 001000101"),
-        scene("at the hub of a star", points(&[(2, 2)]), line(&star), "ok 1 2 2 1 100000111"),
+        scene("at a hub of three", points(&[(2, 2)]), hub(3), "ok 1 2 4 1 010000111"),
+        scene("at a hub of four", points(&[(2, 2)]), hub(4), "ok 1 2 2 1 100000111"),
+        scene("at a hub of five", points(&[(2, 2)]), hub(5), "ok 1 2 4 1 010000111"),
+        scene("at the end of a closed line's tail", points(&[(6, 0)]), line(&lollipop), "ok 1 2 4 1 010000111"),
+        scene("i with a third segment in F", line(&cross), line(&[&[(2, 0), (2, 2), (2, 4)]]), "ok 2 2 44 5 001101111"),
+        scene("i with a third segment, exchanged", line(&[&[(2, 0), (2, 2), (2, 4)]]), line(&cross), "ok 2 2 36 7 011001111"),
+        scene("a hub beside a line under one of its spokes", line(&cross), line(&[&[(0, 0), (1, 0)]]), "ok 2 2 36 5 001001111"),
+        scene(
+            "a closed line, and the same with a diagonal",
+            line(&[&rectangle(0, 0, 4, 4)]),
+            line(&[&rectangle(0, 0, 4, 4), &[(0, 0), (4, 4)]]),
+            "ok 2 2 3 3 110000101",
+        ),
+        scene(
+            "a hub inside, with its far ends at corners",
+            line(&[&[(0, 0), (2, 2), (4, 4)], &[(2, 2), (4, 0)]]),
+            square(0, 4),
+            "ok 2 3 49 1 100110111",
+        ),
+        scene(
+            "a hub outside, with its far ends on the region",
+            line(&[&[(4, 0), (6, 2), (4, 4)], &[(4, 2), (6, 2)]]),
+            region(&[&split_square]),
+            "ok 2 3 100 1 001011111",
+        ),
+        scene("a hub at a corner, inside", line(&[&[(1, 1), (4, 2), (1, 3)], &[(1, 2), (4, 2)]]), region(&[&split_square]), "ok 2 3 49 1 100110111"),
+        scene("the outline with a diagonal", line(&[&rectangle(0, 0, 4, 4), &[(0, 0), (4, 4)]]), square(0, 4), "ok 2 3 43 0 110010101"),
         scene("on an open segment", points(&[(2, 0)]), line(&[&triangle]), "ok 1 2 2 0 100000101"),
         scene("points and no line", points(&[(2, 0)]), empty(LINE), "ok 1 2 1 0 001000001"),
         scene("points and no region", points(&[(2, 0)]), empty(REGION), "ok 1 3 4 0 001000001"),

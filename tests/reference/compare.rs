@@ -7,7 +7,7 @@ use crate::drawing::scene_text;
 use crate::exchange::{self, Answers};
 use crate::judge::{judge, Judgement};
 use crate::library;
-use crate::maker::{full, small, some_pair};
+use crate::maker::{full, small, some_pair, with_hub};
 use crate::mistakes::{Rules, RIGHT};
 use crate::random::Random;
 use crate::scene::scene_bytes;
@@ -27,12 +27,17 @@ pub struct Case {
 }
 
 impl Case {
-    /// The scene that a seed names: mostly small and valid, a third damaged or not split, a few of full size, a few that never were scenes.
+    /// The scene that a seed names: mostly small and valid, a third damaged or not split, an eighth with a hub, a few of full size, a few that never
+    /// were scenes.
     pub fn of_seed(seed: u64) -> Case {
         let mut random = Random::new(seed);
         let kinds = some_pair(&mut random);
         let choice = random.below(1600);
-        let (f, g) = if choice < 4 { full(&mut random, kinds) } else { small(&mut random, kinds) };
+        let (f, g) = match choice {
+            0..=3 => full(&mut random, kinds),
+            1400.. => with_hub(&mut random),
+            _ => small(&mut random, kinds),
+        };
         let (bytes, must_be_taken) = match choice {
             0 | 10..=479 => (damaged(&mut random, &f, &g), false),
             480..=619 => (scene_bytes(&f, &small(&mut random, kinds).1), false),
@@ -40,6 +45,12 @@ impl Case {
             _ => (scene_bytes(&f, &g), true),
         };
         Case { from: format!("seed {seed}"), bytes, must_be_taken, seed }
+    }
+
+    /// The scene with a hub that a seed names.
+    pub fn hub_of_seed(seed: u64) -> Case {
+        let (f, g) = with_hub(&mut Random::new(seed));
+        Case { from: format!("seed {seed}, with a hub"), bytes: scene_bytes(&f, &g), must_be_taken: true, seed }
     }
 
     fn by_hand(name: &str, bytes: Vec<u8>) -> Case {

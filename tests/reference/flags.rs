@@ -34,11 +34,16 @@ pub fn all_flags(f: u8, g: u8) -> (u16, u16) {
     ((1 << of_f) - 1, (1 << of_g) - 1)
 }
 
-/// Boundary of a line: the ends that belong to exactly one of its segments.
+/// Boundary of a line, under document 02's Paper 6: the ends at which an odd number of its segments end.
 pub fn line_boundary(line: &Object) -> Vec<Point> {
+    ends_where(line, |number| number % 2 == 1)
+}
+
+/// The ends of a line's segments at which such a number of them end.
+pub fn ends_where(line: &Object, rule: fn(usize) -> bool) -> Vec<Point> {
     let segments = line.segments();
     let ends: Vec<Point> = line.halves.iter().map(Half::dominating).collect();
-    ends.into_iter().filter(|p| segments.iter().filter(|s| s.has_end(*p)).count() == 1).collect()
+    ends.into_iter().filter(|p| rule(segments.iter().filter(|s| s.has_end(*p)).count())).collect()
 }
 
 /// Definition 6 (viii): unequal segments with equal dominating points.

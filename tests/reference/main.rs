@@ -32,7 +32,7 @@ use random::Random;
 use std::io::{Read, Write};
 use std::process::exit;
 use std::time::{Duration, Instant};
-use tally::Tally;
+use tally::{Reach, Tally};
 
 const USAGE: &str = "usage: reference answer < scene    the line that explore writes
        reference list < scene      the overlap list, or its refusal
@@ -42,6 +42,7 @@ const USAGE: &str = "usage: reference answer < scene    the line that explore wr
        reference self              the scenes made by hand against their known answers
        reference compare             the fixed run: all must agree, and it must reach enough
            --scenes N, --seed N      another number of scenes, another seed
+           --hubs                    scenes alone in which a line has a hub, of three to seven segments
            --seconds N               fresh seeds for so long instead
            --mistake NAME            with a mistake in the reference: must disagree
            --trace                   names each scene before it is asked about
@@ -155,6 +156,7 @@ fn self_test() -> bool {
 struct Run {
     rules: Rules,
     by_hand: bool,
+    made: fn(u64) -> Case,
     seed: u64,
     scenes: u64,
     until: Option<Instant>,
@@ -165,7 +167,7 @@ impl Run {
     fn go(&self, tally: &mut Tally) -> Result<(), String> {
         let by_hand = if self.by_hand { Case::all_by_hand() } else { Vec::new() };
         let mut seeds = Random::new(self.seed);
-        let of_seed = (0..self.scenes).map(|_| Case::of_seed(seeds.next()));
+        let of_seed = (0..self.scenes).map(|_| (self.made)(seeds.next()));
         for case in by_hand.into_iter().chain(of_seed) {
             if self.until.is_some_and(|end| Instant::now() >= end) {
                 break;
@@ -181,7 +183,8 @@ impl Run {
 
 fn compare(arguments: &[&str]) -> bool {
     let start = Instant::now();
-    let mut run = Run { rules: RIGHT, by_hand: true, seed: SEED, scenes: SCENES, until: None, trace: false };
+    let mut run = Run { rules: RIGHT, by_hand: true, made: Case::of_seed, seed: SEED, scenes: SCENES, until: None, trace: false };
+    let mut reach = Reach::Everything;
     let mut seed = None;
     let mut arguments = arguments.iter();
     while let Some(argument) = arguments.next() {
@@ -189,6 +192,9 @@ fn compare(arguments: &[&str]) -> bool {
         match *argument {
             "--scenes" => run.scenes = number(value()),
             "--seed" => seed = Some(number(value())),
+            "--hubs" => {
+                (run.by_hand, run.made, reach) = (false, Case::hub_of_seed, Reach::Hubs);
+            }
             "--seconds" => {
                 run.until = Some(start + Duration::from_secs(number(value())));
                 run.scenes = u64::MAX;
@@ -209,7 +215,7 @@ fn compare(arguments: &[&str]) -> bool {
     let mut tally = Tally::default();
     let outcome = run.go(&mut tally);
     // a run that was cut short, by a disagreement or by the clock, need not have reached everything
-    let wrong = tally.report(outcome.is_ok() && run.until.is_none());
+    let wrong = tally.report(if outcome.is_ok() && run.until.is_none() { reach } else { Reach::Nothing });
     wrong.iter().for_each(|what| println!("WRONG: {what}"));
     if let Err(what) = &outcome {
         println!("{what}");
@@ -224,7 +230,8 @@ fn all_mistakes() -> bool {
     let mut caught_all = true;
     for mistake in &MISTAKES {
         let mut tally = Tally::default();
-        let run = Run { rules: mistake.rules, by_hand: false, seed: SEED, scenes: SCENES_PER_MISTAKE, until: None, trace: false };
+        let run =
+            Run { rules: mistake.rules, by_hand: false, made: Case::of_seed, seed: SEED, scenes: SCENES_PER_MISTAKE, until: None, trace: false };
         let caught = run.go(&mut tally).is_err();
         let verdict = format!("{} {} scenes", if caught { "caught after" } else { "NOT CAUGHT in" }, tally.scenes);
         caught_all &= caught;

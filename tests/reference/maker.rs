@@ -1,5 +1,6 @@
 //! Random valid scenes of every pair of types in either order. Both objects are chosen from one plan, by classes whose weights are often 0, so that rare
-//! relations come up: nothing shared, everything shared, one inside the other, closed lines, points on every boundary point.
+//! relations come up: nothing shared, everything shared, one inside the other, closed lines, points on every boundary point. And scenes with a
+//! hub, at which many of a line's segments end.
 
 use crate::plan::Plan;
 use crate::plane::{inside, turn, Fraction, Point, Segment, LIMIT};
@@ -38,24 +39,64 @@ pub fn small(random: &mut Random, kinds: (u8, u8)) -> (Object, Object) {
 
 fn small_ascending(random: &mut Random, kinds: (u8, u8)) -> (Object, Object) {
     let plan = Plan::small(random);
-    let chosen = match kinds {
-        (POINTS, POINTS) => return points_points(random, &plan),
-        (POINTS, kind) => {
-            let edges = if kind == LINE { some_line(random, &plan) } else { some_region(random, &plan) };
-            [vec![false; plan.edges.len()], edges]
-        }
-        (LINE, LINE) => line_line(random, &plan),
-        (LINE, _) => line_region(random, &plan),
-        _ => region_region(random, &plan),
-    };
-    let [mut of_f, mut of_g] = segments(random, &plan, chosen);
-    for segments in [&mut of_f, &mut of_g] {
+    if kinds == (POINTS, POINTS) {
+        return points_points(random, &plan);
+    }
+    let chosen = some_edges(random, &plan, kinds);
+    let mut segments = segments(random, &plan, chosen);
+    for of_one in &mut segments {
         if random.once_in(25) {
-            segments.clear();
+            of_one.clear();
         }
     }
+    objects(random, &plan, kinds, segments)
+}
+
+/// A small scene in which a line has a hub: a point at which three to seven of its segments end. Either object comes first.
+pub fn with_hub(random: &mut Random) -> (Object, Object) {
+    let (f, g) = ascending_with_hub(random);
+    if random.once_in(2) {
+        (g, f)
+    } else {
+        (f, g)
+    }
+}
+
+fn ascending_with_hub(random: &mut Random) -> (Object, Object) {
+    let kinds = random.pick(&[(POINTS, LINE), (LINE, LINE), (LINE, LINE), (LINE, REGION), (LINE, REGION)]);
+    let line = if kinds.0 == POINTS || kinds.1 == LINE && random.once_in(2) { 1 } else { 0 };
+    loop {
+        let plan = Plan::small(random);
+        let nodes: Vec<usize> = (0..plan.nodes.len()).filter(|node| plan.edges_at(*node).count() >= 3).collect();
+        if nodes.is_empty() {
+            continue;
+        }
+        let mut spokes: Vec<usize> = plan.edges_at(random.pick(&nodes)).collect();
+        random.shuffle(&mut spokes);
+        let number = random.between(3, spokes.len().min(7) as i64) as usize;
+        let mut chosen = some_edges(random, &plan, kinds);
+        spokes.iter().enumerate().for_each(|(i, spoke)| chosen[line][*spoke] = i < number);
+        let segments = segments(random, &plan, chosen);
+        return objects(random, &plan, kinds, segments);
+    }
+}
+
+/// The edges of F and of G; a points object has none.
+fn some_edges(random: &mut Random, plan: &Plan, kinds: (u8, u8)) -> [Vec<bool>; 2] {
+    match kinds {
+        (POINTS, kind) => {
+            let edges = if kind == LINE { some_line(random, plan) } else { some_region(random, plan) };
+            [vec![false; plan.edges.len()], edges]
+        }
+        (LINE, LINE) => line_line(random, plan),
+        (LINE, _) => line_region(random, plan),
+        _ => region_region(random, plan),
+    }
+}
+
+fn objects(random: &mut Random, plan: &Plan, kinds: (u8, u8), [of_f, of_g]: [Vec<Segment>; 2]) -> (Object, Object) {
     let g = Object::of_segments(kinds.1, &of_g);
-    let f = if kinds.0 == POINTS { points_near(random, &plan, &g) } else { Object::of_segments(kinds.0, &of_f) };
+    let f = if kinds.0 == POINTS { points_near(random, plan, &g) } else { Object::of_segments(kinds.0, &of_f) };
     (f, g)
 }
 

@@ -2,7 +2,7 @@
 //! its five imitations, some of them in two forms, and those that document 02's papers invite. A comparison under any of them must disagree.
 
 use crate::cells::turned;
-use crate::flags::{common_dominating_point, line_boundary};
+use crate::flags::{common_dominating_point, ends_where, line_boundary};
 use crate::judge::{Judgement, TwoZeros};
 use crate::plane::{interior_above, Point, Segment};
 use crate::scene::{Half, Object, Refusal, POINTS, REGION};
@@ -65,9 +65,9 @@ pub struct Mistake {
     pub rules: Rules,
 }
 
-/// Every mistake, by the name that `--mistake` takes: the four, from "refuse-all" on the imitations, then those about two zero masks and those about
-/// scenes whose first type is above the second.
-pub const MISTAKES: [Mistake; 25] = [
+/// Every mistake, by the name that `--mistake` takes: the four, from "refuse-all" on the imitations, then those about two zero masks, those about scenes whose
+/// first type is above the second, and those about hubs.
+pub const MISTAKES: [Mistake; 27] = [
     Mistake {
         name: "next-halfsegment",
         says: "a line's end is a boundary point if the next halfsegment starts elsewhere",
@@ -148,6 +148,16 @@ pub const MISTAKES: [Mistake; 25] = [
         name: "16-at-the-start",
         says: "16 at the first type record, even if that is a region's",
         rules: Rules { spoil: |j| j.no_region = j.no_region.map(|_| 0), ..RIGHT },
+    },
+    Mistake {
+        name: "exactly-one",
+        says: "an end is a boundary point if exactly one segment ends there, as document 01 has it",
+        rules: Rules { line_boundary: |line| ends_where(line, |number| number == 1), ..RIGHT },
+    },
+    Mistake {
+        name: "at-least-three",
+        says: "a hub of four is a boundary point as one of three is",
+        rules: Rules { line_boundary: |line| ends_where(line, |number| number == 1 || number >= 3), ..RIGHT },
     },
 ];
 

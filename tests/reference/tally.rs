@@ -5,15 +5,19 @@ use crate::cells::Matrix;
 use crate::flags::flag_counts;
 use crate::judge::Judgement;
 use crate::maker::{DESCENDING, PAIRS};
-use crate::plane::LIMIT;
-use crate::scene::{Object, MOST};
+use crate::plane::{Point, LIMIT};
+use crate::scene::{Object, LINE, MOST};
 use std::collections::{BTreeMap, BTreeSet};
 
 /// How often each refusal must have been met, and scenes of full size, and scenes at the limits of the range.
 const LEAST: usize = 50;
 
-/// The matrices of pairs of non-empty objects, in the order of PAIRS: the source's Table 1(b). A pair given the other way round has as many.
-const MATRICES: [usize; 6] = [5, 14, 7, 82, 43, 33];
+/// The matrices of pairs of non-empty objects, in the order of PAIRS. They are those of the source's Table 1(b) but for two: since a line's boundary is by odd
+/// counts, two lines have 98 instead of 82, and a line and a region 51 instead of 43. A pair given the other way round has as many.
+const MATRICES: [usize; 6] = [5, 14, 7, 98, 51, 33];
+
+/// The numbers of a line's segments that must have ended at one point: hubs.
+const HUBS: std::ops::RangeInclusive<usize> = 3..=7;
 
 const FLAG_NAMES: [(&str, &str); 6] = [
     ("poi_disjoint poi_shared", "poi_disjoint"),
@@ -34,7 +38,17 @@ pub struct Tally {
     full_size: usize,
     at_limit: usize,
     refusals: BTreeMap<u32, usize>,
+    /// Scenes in which so many segments of a line end at one point.
+    hubs: BTreeMap<usize, usize>,
     pairs: BTreeMap<(u8, u8), Pair>,
+}
+
+/// What a run must have reached to be right.
+#[derive(Clone, Copy, PartialEq, Eq)]
+pub enum Reach {
+    Nothing,
+    Hubs,
+    Everything,
 }
 
 #[derive(Default)]
@@ -57,6 +71,8 @@ impl Tally {
         self.taken += 1;
         self.full_size += (f.places.len() == MOST || g.places.len() == MOST) as usize;
         self.at_limit += (reaches_limit(f) || reaches_limit(g)) as usize;
+        let sizes: BTreeSet<usize> = [f, g].into_iter().filter(|object| object.kind == LINE).flat_map(end_counts).collect();
+        sizes.into_iter().for_each(|size| *self.hubs.entry(size).or_default() += 1);
         let (of_f, of_g) = flag_counts(f.kind, g.kind);
         let pair = self.pairs.entry((f.kind, g.kind)).or_default();
         pair.taken += 1;
@@ -75,8 +91,9 @@ impl Tally {
         *self.refusals.entry(number).or_default() += 1;
     }
 
-    /// Prints the counts; gives what is wrong with them. Too few of anything is wrong only in a run that is `complete`.
-    pub fn report(&self, complete: bool) -> Vec<String> {
+    /// Prints the counts; gives what is wrong with them.
+    pub fn report(&self, reach: Reach) -> Vec<String> {
+        let complete = reach == Reach::Everything;
         let mut wrong = Vec::new();
         println!(
             "{} scenes, {} pairs both ways, {} taken ({} with 1,024 elements, {} at the limits), {} questions",
@@ -91,6 +108,13 @@ impl Tally {
         }
         if times(8) > 0 {
             wrong.push("refusal 8 came, which never occurs".to_string());
+        }
+        let hubs = |size| *self.hubs.get(&size).unwrap_or(&0);
+        println!("hubs, by segments: {}", HUBS.map(|size| format!("{size}: {}", hubs(size))).collect::<Vec<_>>().join("  "));
+        for size in HUBS {
+            if reach != Reach::Nothing && hubs(size) < LEAST {
+                wrong.push(format!("hubs of {size} segments came fewer than {LEAST} times"));
+            }
         }
         let none = Pair::default();
         for kinds in PAIRS.iter().chain(&DESCENDING) {
@@ -124,6 +148,13 @@ fn expected(kinds: (u8, u8)) -> (usize, Vec<String>) {
     let (of_f, of_g) = if kinds == ascending { FLAG_NAMES[i] } else { (FLAG_NAMES[i].1, FLAG_NAMES[i].0) };
     let names = |text: &str, object: &str| text.split_whitespace().map(|name| format!("{object} {name}")).collect::<Vec<_>>();
     (MATRICES[i], [names(of_f, "F"), names(of_g, "G")].concat())
+}
+
+/// How many segments of a line end at each of its ends.
+fn end_counts(line: &Object) -> Vec<usize> {
+    let mut counts: BTreeMap<Point, usize> = BTreeMap::new();
+    line.halves.iter().for_each(|h| *counts.entry(h.dominating()).or_default() += 1);
+    counts.into_values().collect()
 }
 
 fn reaches_limit(object: &Object) -> bool {

@@ -1,4 +1,4 @@
-//! Points, segments and halfsegments, their order, and document 01's rules for "counts below", ia and a line's boundary.
+//! Points, segments and halfsegments, their order, document 01's rules for "counts below" and ia, and document 02's for a line's boundary.
 //! Midpoints are taken exactly, with all coordinates doubled; products are 128 bits wide, so that 32-bit coordinates cannot overflow.
 
 use std::cmp::Ordering;
@@ -117,9 +117,9 @@ pub fn middle_inside(segment: &Segment, outline: &[Segment]) -> bool {
     outline.iter().filter(|s| s.counts_below(segment.middle())).count() % 2 == 1
 }
 
-/// A point where so many segments of a line end is one of its boundary points.
+/// A point where so many segments of a line end is one of its boundary points: an odd number.
 pub fn is_boundary(ends: usize) -> bool {
-    ends == 1
+    ends % 2 == 1
 }
 
 #[cfg(test)]
@@ -144,5 +144,9 @@ mod tests {
     fn interior_of_a_square() {
         let square = [segment((0, 0), (4, 0)), segment((4, 0), (4, 4)), segment((0, 4), (4, 4)), segment((0, 0), (0, 4))];
         assert_eq!(square.map(|s| interior_above(&s, &square)), [true, true, false, false]);
+    }
+    #[test]
+    fn boundary_by_odd_count() {
+        assert_eq!([0, 1, 2, 3, 4].map(is_boundary), [false, true, false, true, false]);
     }
 }

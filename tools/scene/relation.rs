@@ -112,6 +112,8 @@ mod tests {
         assert_eq!(lines.map(|line| named(&format!("ok {line}"))), ["disjoint", "meet", "cross", "overlap", "equal"]);
         let lines = ["2 2 9 5 100100111", "2 2 25 5 100110111", "2 2 37 2 111001001", "2 2 53 2 111011001"];
         assert_eq!(lines.map(|line| named(&format!("ok {line}"))), ["inside", "covered by", "contains", "covers"]);
+        // a closed line in the same with a diagonal, at whose ends three segments end
+        assert_eq!(named("ok 2 2 3 3 110000101"), "covered by");
     }
 
     #[test]

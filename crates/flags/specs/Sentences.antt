@@ -4,7 +4,6 @@
 use Prim.Native.Nat.{ℕ}
 use mathlib.Core.Path.{_≡_}
 use mathlib.Core.Logic.{_≢_, _⊎_}
-use mathlib.Core.Bool.{Bool}
 use mathlib.Core.List.{List, [], _∷_}
 use lib.Dec.{T}
 use lib.ListN.{getD}
@@ -38,7 +37,7 @@ EndOf v s = (v ≡ s .left) ⊎ (v ≡ s .right)
 abbrev pub EndOfSome : List Segment → Point → Type 0
 EndOfSome l v = Some l λ s. EndOf v s
 
--- v ∈ B(l): "the ends that belong to exactly one of its segments", by the rule on the number of segments that end at v
+-- v ∈ B(l): "an end belongs to a line's boundary when an odd number of its segments end there" (document 02, Paper 6), by the rule on the number of those
 abbrev pub Bound : List Segment → Point → Type 0
 Bound l v = EndOfSome l v × T (isBoundary (endsAt l (grid v)))
 

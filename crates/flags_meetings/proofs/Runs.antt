@@ -3,14 +3,14 @@
 use Prim.Native.Nat.{ℕ, zero, suc, _+_, _-_, _<_, _≤_}
 use native.Mathlib.Nat.{eq-or-lt-of-le}
 use native.Mathlib.Omega.{arith}
-use mathlib.Core.Path.{_≡_, refl, sym, ap, subst, _∙_}
+use mathlib.Core.Path.{_≡_, refl, sym, ap, ap₂, subst, _∙_}
 use mathlib.Core.Logic.{⊎-elim}
 use mathlib.Core.Bool.{Bool, true, false}
-use mathlib.Core.List.{_∷_, _++_}
+use mathlib.Core.List.{List, [], _∷_, _++_}
 use lib.Bits.{bitOr, or-zero-r, or-self}
 use lib.Dec.{eqb}
 use borrow.Author.Tests.{eq-eqb, ne-eqb}
-use Rattle.whole.specs.Count.{bit, count, _∈_}
+use Rattle.whole.specs.Count.{bit, count, _∈_, here, there}
 use Rattle.whole.proofs.Counted.{count-append, count-none}
 use Rattle.scene.specs.Conditions.{indices}
 use Rattle.scene_segments.proofs.Indices.{indices-in}
@@ -96,6 +96,14 @@ module _ {n : ℕ} {u : ℕ → ℕ} (o : InOrder n u) {k i j : ℕ} (low : k < 
 
 pub gather-parts : (f : ℕ → ℕ) (i j n : ℕ) → i ≤ j → j ≤ n → gather f (between i n) ≡ bitOr (gather f (between i j)) (gather f (between j n))
 gather-parts f i j n h k = ap (gather f) (between-parts i j n h k) ∙ gather-append f (between i j) (between j n)
+
+-- by other marks that each element has too
+pub gather-same : (f g : ℕ → ℕ) (i j : ℕ) → ((m : ℕ) → i ≤ m → m < j → f m ≡ g m) → gather f (between i j) ≡ gather g (between i j)
+gather-same f g i j h = go (between i j) (λ m w. let r = in-between i j m w in h m (r .0) (r .1))
+  where
+    go : (l : List ℕ) → ((m : ℕ) → m ∈ l → f m ≡ g m) → gather f l ≡ gather g l
+    go [] h = refl
+    go (m ∷ l) h = ap₂ bitOr (h m here) (go l (λ n w. h n (there w)))
 
 -- where all are alike
 pub gather-run : (f : ℕ → ℕ) (x i j : ℕ) → i ≤ j → (i ≡ j → 0 ≡ x) → ((m : ℕ) → i ≤ m → m < j → f m ≡ x) → gather f (between i j) ≡ x

@@ -10,11 +10,11 @@ use mathlib.Core.List.{List}
 use lib.Bits.{bitOr, or-zero-r}
 use lib.Dec.{T, eqb, ltb}
 use lib.ListN.{getD}
-use borrow.Author.Tests.{ltb-true, ltb-false, eqb-true}
+use borrow.Author.Tests.{ltb-true, ltb-false}
 use Rattle.whole.specs.Count.{some, count}
 use Rattle.whole.proofs.Counted.{count-same}
 use Rattle.plane.specs.declared.Point.{Point}
-use Rattle.plane.specs.Plane.{inRange, samePoint, isBoundary}
+use Rattle.plane.specs.Plane.{inRange, samePoint}
 use Rattle.scene.specs.declared.Layout.{Layout}
 use Rattle.scene.specs.declared.Scene.{Scene}
 use Rattle.scene.specs.declared.Fault.the-variants.{Nothing}
@@ -31,32 +31,11 @@ use Rattle.scene_keys.specs.Keyed.{key, top, elementPoint, keys, nextKey}
 use Rattle.scene_keys.proofs.Keys.{same-key, next-in}
 use Rattle.scene_keys.proofs.Elements.{point-in-range}
 use Rattle.flags_meetings.specs.Met.{degree, Test, boundOutside, boundInside, boundOn, boundBound, boundInner, innerBound, innerInner, boundOfG, someOfF, someOfG, meetings}
-use Rattle.flags_meetings.specs.Keyed.{Passed, testsOfF, testsOfG, marks, named}
-use Rattle.flags_meetings.proofs.Runs.{InOrder, run-same, run-next, run-count, gather-parts, gather-run}
+use Rattle.flags_meetings.specs.Keyed.{Passed, testsOfF, testsOfG, marksOfF, marksOfG, marks, named}
+use Rattle.flags_meetings.proofs.Runs.{InOrder, run-same, run-next, run-count, gather-parts, gather-same, gather-run}
 use Rattle.flags_meetings.proofs.Elements.{in-order}
 
--- ---- the marks of a run
-
-abbrev marksOfF : (a b n : ℕ) → ℕ
-marksOfF a b n = pack (testsOfF a b n)
-
-abbrev marksOfG : (a b : ℕ) → ℕ
-marksOfG a b = pack (testsOfG a b)
-
--- The walk takes the note of the first element of a run. That is the one place where the boundary rule has to be "exactly one": a bound point is then that
--- of one element of F, and of an inner point the note does not matter.
-note-of-one : (a b x y : ℕ) → (a ≡ 1 → x ≡ y) → marksOfF a b x ≡ marksOfF a b y
-unfolding isBoundary
-note-of-one a b x y h = go (isBoundary a) refl
-  where
-    go : (t : Bool) → isBoundary a ≡ t → marksOfF a b x ≡ marksOfF a b y
-    go true e = ap (marksOfF a b) (h (eqb-true a 1 e))
-    go false e = rw e
-
--- where there is no run, there are no marks
-none-of-f : (b n : ℕ) → 0 ≡ marksOfF 0 b n
-none-of-f b n = rw boundary-none
-
+-- where there is no run of G, there are no marks
 none-of-g : (a : ℕ) → 0 ≡ marksOfG a 0
 none-of-g a = rw (boundary-none, and-false (eqb a 0))
 
@@ -200,20 +179,14 @@ module _ (s : List ℕ) (sc : Scene) (notes : List ℕ) where
       degree-g : (v : Point) → T (inRange v) × (key v ≡ k) → degree s (sc .g) v ≡ j′ - j
       degree-g v h = run-degree s (sc .g) is-g order-g low least-g few-g q (w .g-passed) v (h .0) (h .1)
 
-      by-f : gather ofF (between i i′) ≡ marksOfF (i′ - i) (j′ - j) (getD notes i 0)
-      by-f = gather-run ofF (marksOfF (i′ - i) (j′ - j) (getD notes i 0)) i i′ (p .on) (λ e. none-of-f (j′ - j) (getD notes i 0) ∙ ap (λ a. marksOfF a (j′ - j) (getD notes i 0)) (none e)) one
+      -- each element of the run by its own note
+      by-f : gather ofF (between i i′) ≡ gather (λ m. marksOfF (i′ - i) (j′ - j) (getD notes m 0)) (between i i′)
+      by-f = gather-same ofF (λ m. marksOfF (i′ - i) (j′ - j) (getD notes m 0)) i i′ one
         where
-          none : i ≡ i′ → 0 ≡ i′ - i
-          none e = omega arith
-
-          first : (m : ℕ) → i ≤ m → m < i′ → i′ - i ≡ 1 → m ≡ i
-          first m a b e = omega arith
-
-          one : (m : ℕ) → i ≤ m → m < i′ → ofF m ≡ marksOfF (i′ - i) (j′ - j) (getD notes i 0)
+          one : (m : ℕ) → i ≤ m → m < i′ → ofF m ≡ marksOfF (i′ - i) (j′ - j) (getD notes m 0)
           one m a b =
               let v = in-run s (sc .f) is-f order-f low least-f few-f p (w .f-passed) m a b in
               ap₂ (λ a b. marksOfF a b (getD notes m 0)) (degree-f (elementPoint s (sc .f) m) v) (degree-g (elementPoint s (sc .f) m) v)
-              ∙ note-of-one (i′ - i) (j′ - j) (getD notes m 0) (getD notes i 0) (λ e. ap (λ n. getD notes n 0) (first m a b e))
 
       by-g : gather ofG (between j j′) ≡ marksOfG (i′ - i) (j′ - j)
       by-g = gather-run ofG (marksOfG (i′ - i) (j′ - j)) j j′ (q .on) (λ e. none-of-g (i′ - i) ∙ ap (marksOfG (i′ - i)) (none e)) one
@@ -235,7 +208,7 @@ module _ (s : List ℕ) (sc : Scene) (notes : List ℕ) where
           go false e =
               ⊎-elim (λ g. absurd (p .other (subst (λ m. nextKey s (sc .f) m ≡ k) g (omega (arith, w .least, ltb-false (nextKey s (sc .g) j) (nextKey s (sc .f) i) e))))) (λ l. omega (arith, q .on)) (eq-or-lt-of-le (p .on))
 
-      pub walked-on : {k′ : ℕ} → k′ ≡ min (nextKey s (sc .f) i′) (nextKey s (sc .g) j′) → Walking i′ j′ k′ (bitOr sofar (marks (i′ - i) (j′ - j) (getD notes i 0)))
+      pub walked-on : {k′ : ℕ} → k′ ≡ min (nextKey s (sc .f) i′) (nextKey s (sc .g) j′) → Walking i′ j′ k′ (bitOr sofar (marks notes i i′ (j′ - j)))
       walked-on {k′} e = record {
         least = e;
         f-passed = run-passed s (sc .f) is-f order-f low least-f few-f p (w .f-passed) above;

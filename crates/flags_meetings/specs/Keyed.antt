@@ -1,13 +1,17 @@
 -- How far a walk over the points of an object's elements has come, and the marks that it collects.
-use Prim.Native.Nat.{ℕ, _<_, _≤_}
+use Prim.Native.Nat.{ℕ, _-_, _<_, _≤_}
 use mathlib.Core.Path.{_≡_}
 use mathlib.Core.Bool.{Bool, false}
 use mathlib.Core.List.{List, [], _∷_}
 use lib.Bits.{bitOr}
+use lib.Dec.{eqb, ltb}
+use lib.ListN.{getD}
 use Rattle.scene.specs.declared.Layout.{Layout}
 use Rattle.scene.specs.Read.{place}
 use Rattle.scene_keys.specs.Keyed.{next, nextKey}
+use Rattle.scene_segments.proofs.Walk.{between}
 use Rattle.flags.specs.Flags.{pack, hasBit}
+use Rattle.flags.proofs.Marks.{gather}
 use Rattle.flags_meetings.specs.declared.Cursor.{Cursor}
 use Rattle.flags_meetings.specs.declared.Meetings.{Meetings}
 use Rattle.flags_meetings.specs.Met.{boundOutside, boundInside, boundOn, boundBound, boundInner, innerBound, innerInner, boundOfG}
@@ -27,7 +31,7 @@ pub record Reached (s : List ℕ) (l : Layout) (c : Cursor) : Type 0 where
 
 -- ---- marks: a bit of a number for each test
 
--- of a point by an element of F, by one of G, and by both
+-- of a point by an element of F, and by one of G
 abbrev pub testsOfF : (a b n : ℕ) → List Bool
 testsOfF a b n =
     boundOutside a b n
@@ -42,8 +46,22 @@ testsOfF a b n =
 abbrev pub testsOfG : (a b : ℕ) → List Bool
 testsOfG a b = false ∷ false ∷ false ∷ false ∷ false ∷ false ∷ false ∷ boundOfG a b ∷ []
 
-abbrev pub marks : (a b n : ℕ) → ℕ
-marks a b n = bitOr (pack (testsOfF a b n)) (pack (testsOfG a b))
+abbrev pub marksOfF : (a b n : ℕ) → ℕ
+marksOfF a b n = pack (testsOfF a b n)
+
+abbrev pub marksOfG : (a b : ℕ) → ℕ
+marksOfG a b = pack (testsOfG a b)
+
+-- of a point that the elements of F from i up to j have, and b of G: each element of F by its own note. Beside a line the notes of one point may differ.
+abbrev pub marks : (notes : List ℕ) (i j b : ℕ) → ℕ
+marks notes i j b = bitOr (gather (λ m. marksOfF (j - i) b (getD notes m 0)) (between i j)) (marksOfG (j - i) b)
+
+-- of a point that is bound in F and none of G's, by one note, and by those of the elements from i up to j
+abbrev pub markOfNote : (n : ℕ) → ℕ
+markOfNote n = pack (eqb n 0 ∷ eqb n 1 ∷ ltb 1 n ∷ [])
+
+abbrev pub marksOfNotes : (notes : List ℕ) (i j : ℕ) → ℕ
+marksOfNotes notes i j = gather (λ m. markOfNote (getD notes m 0)) (between i j)
 
 -- the marks by their names
 abbrev pub named : ℕ → Meetings

@@ -11,7 +11,7 @@ ghost use Rattle.scene.specs.Read.{size, IsObject};
 ghost use Rattle.scene.specs.Conditions.{outOfOrder};
 ghost use Rattle.flags_meetings.specs.Met.{meetings};
 ghost use Rattle.scene_keys.specs.Keyed.{top, keys};
-ghost use Rattle.flags_meetings.specs.Keyed.{Passed, Reached, marks, named};
+ghost use Rattle.flags_meetings.specs.Keyed.{Passed, Reached, markOfNote, marksOfNotes, marks, named};
 
 // How elements of F and of G meet at points: for each kind of point, whether there is one. By the number of an object's elements that have it, its degree
 // there, a point is bound in the object if the boundary rule holds of the degree, and inner if some element has it and the rule does not hold.
@@ -88,29 +88,53 @@ fn least(a: u64, b: u64) -> u64
     if b < a { b } else { a }
 }
 
+// The boundary rule of a line: an odd number of its segments end at the point.
 fn is_bound(degree: usize) -> bool
     ensures { λ r. ⌜ r ≡ isBoundary degree ⌝ }
 {
-    degree == 1
+    degree % 2 == 1
 }
 
-// The mark of a point of degree a in F and b in G.
-fn meeting(a: usize, b: usize, note: u8) -> u16
-    ensures { λ r. ⌜ r ≡ marks a b note ⌝ }
+// The mark of a note, of a point that is bound in F and none of G's.
+fn mark_of_note(note: u8) -> u16
+    ensures { λ r. ⌜ r ≡ markOfNote note ⌝ }
 {
+    if note == 0 {
+        BOUND_OUTSIDE
+    } else if note == 1 {
+        BOUND_INSIDE
+    } else {
+        BOUND_ON
+    }
+}
+
+// Those of the notes of the elements of F from i up to j, which have such a point. Beside a region the notes are alike; beside a line they need not be.
+fn marks_of_notes(notes: &[u8], i: usize, j: usize) -> u16
+    requires { ⌜ (i ≤ j) × (j ≤ length (now notes)) ⌝ }
+    ensures { λ r. ⌜ r ≡ marksOfNotes (now (notes .entry)) i j ⌝ }
+{
+    let mut marks: u16 = 0;
+    let mut m = i;
+    while m < j {
+        marks = marks | mark_of_note(notes[m]);
+        m += 1;
+    }
+    marks
+}
+
+// The marks of a point that the elements of F from i up to j have, and b of G.
+fn meeting(notes: &[u8], i: usize, j: usize, b: usize) -> u16
+    requires { ⌜ (i ≤ j) × (j ≤ length (now notes)) ⌝ }
+    ensures { λ r. ⌜ r ≡ marks (now (notes .entry)) i j b ⌝ }
+{
+    let a = j - i;
     let bound_f = is_bound(a);
     let bound_g = is_bound(b);
     if a == 0 {
         if bound_g { BOUND_OF_G } else { 0 }
     } else if b == 0 {
         if bound_f {
-            if note == 0 {
-                BOUND_OUTSIDE
-            } else if note == 1 {
-                BOUND_INSIDE
-            } else {
-                BOUND_ON
-            }
+            marks_of_notes(notes, i, j)
         } else {
             0
         }
@@ -156,8 +180,7 @@ pub fn meetings_of(s: &[u8], scene: Scene, notes: &[u8]) -> Meetings
     while k < scene_keys::TOP {
         let next_c = pass(s, f, step_f, c, k);
         let next_d = pass(s, g, step_g, d, k);
-        let i = c.index;
-        sofar = sofar | meeting(next_c.index - i, next_d.index - d.index, notes[i]);
+        sofar = sofar | meeting(notes, c.index, next_c.index, next_d.index - d.index);
         c = next_c;
         d = next_d;
         k = least(c.key, d.key);

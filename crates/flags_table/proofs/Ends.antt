@@ -25,6 +25,8 @@ use Rattle.scene_segments.proofs.Elements.{region-segments}
 use Rattle.scene_segments.proofs.Indices.{element-in, in-element}
 use Rattle.check_verdict.proofs.Laws.{SoundObject, segment-in, half-of, all-ordered, regular}
 use Rattle.flags.specs.Flags.{onObject, hasEnd, isBound, joins, someEnd}
+use Rattle.flags.specs.Boundary.{EvenlyBounded}
+use Rattle.flags.proofs.Boundary.{evenly-bounded}
 use Rattle.cells_matrix.proofs.Common.{at-itself, on-find, on-make, end-along, another-end}
 use Rattle.scene_keys.specs.Keyed.{elementPoint}
 use Rattle.flags_meetings.specs.Met.{degree}
@@ -37,6 +39,10 @@ use Rattle.flags_table.proofs.Degrees.{degree-ends}
 module _ {s : List ℕ} {l : Layout} (o : SoundObject s l) (has : hasSegments (l .shape) ≡ true) where
   pub bound-degree : (v : Point) → isBound (segments s l) v ≡ isBoundary (degree s l v)
   bound-degree v = ap isBoundary (sym (degree-ends o has v))
+
+  -- a line that is taken has an even number of boundary points
+  pub bound-evenly : EvenlyBounded (segments s l)
+  bound-evenly = evenly-bounded (segments s l) (all-ordered o)
 
   pub end-degree : (v : Point) → hasEnd (segments s l) v ≡ ltb 0 (degree s l v)
   unfolding endsAt

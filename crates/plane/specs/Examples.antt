@@ -10,7 +10,8 @@ use Rattle.plane.specs.declared.Halfsegment.{Halfsegment}
 use Rattle.plane.specs.declared.Turn.the-variants.{Left, Straight, Right}
 use Rattle.plane.specs.Plane.{within, inRange, before, samePoint, sameSegment, side, turn, dominating, farEnd, comesBefore}
 use Rattle.plane.specs.Plane.{HPoint, grid, midpoint, halved, sideAt, isAt, notBefore, notAfter, on, isEnd, countsBelow, countsBelowLeft}
-use Rattle.plane.specs.Plane.{onSome, inside, interiorAbove, opposite, cross, endWithin, touch}
+use Rattle.plane.specs.Plane.{onSome, inside, interiorAbove, isBoundary, endsAt, Object, opposite, cross, endWithin, touch}
+use Rattle.plane.specs.Plane.{inBoundary, inInterior}
 
 abbrev at : ℤ → ℤ → Point
 at x y = record { x = x; y = y }
@@ -67,6 +68,31 @@ above-the-corner = (refl, refl)
 interior-above : map (interiorAbove triangle) triangle ≡ (true ∷ false ∷ false ∷ [])
 unfolding interiorAbove odd countsBelow countsBelowLeft sideAt
 interior-above = refl
+
+-- ---- three segments from the hub (0,0), two of them sides of the triangle: how many end at the hub, at their far ends and at a point inside one
+abbrev spokes : List Segment
+spokes = bottom ∷ upright ∷ from (at (negsuc 2) (negsuc 0)) (at (pos 0) (pos 0)) ∷ []
+
+abbrev along-spokes : List HPoint
+along-spokes = map grid (at (pos 0) (pos 0) ∷ at (pos 4) (pos 0) ∷ at (pos 0) (pos 3) ∷ at (negsuc 2) (negsuc 0) ∷ at (pos 1) (pos 0) ∷ [])
+
+ends-of-spokes : map (endsAt spokes) along-spokes ≡ (3 ∷ 1 ∷ 1 ∷ 1 ∷ 0 ∷ [])
+unfolding endsAt isEnd isAt
+ends-of-spokes = refl
+
+-- the rule, on 0 to 5 ends
+odd-ends : map isBoundary (0 ∷ 1 ∷ 2 ∷ 3 ∷ 4 ∷ 5 ∷ []) ≡ (false ∷ true ∷ false ∷ true ∷ false ∷ true ∷ [])
+unfolding isBoundary odd
+odd-ends = refl
+
+-- the hub is a boundary point; the triangle, with two sides to each corner, has none
+bound-of-spokes : map (inBoundary (Object.line spokes)) along-spokes ≡ (true ∷ true ∷ true ∷ true ∷ false ∷ [])
+unfolding inBoundary isBoundary odd endsAt isEnd isAt
+bound-of-spokes = refl
+
+closed : map (inInterior (Object.line triangle)) (grid (at (pos 0) (pos 0)) ∷ grid (at (pos 4) (pos 0)) ∷ grid (at (pos 0) (pos 3)) ∷ []) ≡ (true ∷ true ∷ true ∷ [])
+unfolding inInterior onSome on notBefore notAfter sideAt isBoundary odd endsAt isEnd isAt
+closed = refl
 
 -- ---- points about a segment as long as can be: its ends, its middle, a point of its line beyond it, and one just off it
 abbrev long : Segment

@@ -3,7 +3,7 @@
 use Prim.Native.Nat.{ℕ, zero, suc, _*_, _<_}
 use mathlib.Core.Bool.{Bool, true, false, not, _&&_, _||_}
 use mathlib.Core.List.{List}
-use lib.Dec.{T, leb, eqb}
+use lib.Dec.{T, leb}
 use lib.IntN.{ℤ, pos, negsuc, natAbs, _+ℤ_, _-ℤ_, _*ℤ_}
 use lib.Signed.{ltZ, leZ}
 use Rattle.whole.specs.Count.{eqZ, odd, some, count}
@@ -163,9 +163,10 @@ interiorAbove l s =
     vertical : Bool
     vertical = eqZ (s .left .x) (s .right .x)
 
--- "Boundary of a line: the ends that belong to exactly one of its segments": a rule on the number of segments that end at a point
+-- Document 02, Paper 6: "an end belongs to a line's boundary when an odd number of its segments end there": a rule on the number of segments that end at a
+-- point. It takes the place of 01's "exactly one".
 unfoldable pub isBoundary : ℕ → Bool
-isBoundary n = eqb n 1
+isBoundary n = odd n
 
 unfoldable pub endsAt : List Segment → HPoint → ℕ
 endsAt l p = count (λ s. isEnd s p) l

@@ -1,5 +1,5 @@
--- Parity as exclusive or over a list, tied to an odd count; and the lemma on even multisets: where every value occurs an even number of times
--- in a list, any test holds for evenly many of its elements. In a list that rises in a strict order each element occurs once.
+-- Parity as exclusive or over a list, tied to an odd count; pairs counted by rows and by columns; and the lemma on even multisets: where every value occurs an
+-- even number of times in a list, any test holds for evenly many of its elements. In a list that rises in a strict order each element occurs once.
 use Prim.Native.Nat.{ℕ, _+_, _%_}
 use native.Mathlib.Omega.{arith}
 use mathlib.Core.Path.{_≡_, refl, sym, ap, ap₂, _∙_, subst}
@@ -130,6 +130,13 @@ module _ {A : Type 0} where
       go : (b : Bool) (n : ℕ) → odd (bit b + n) ≡ b ⊻ odd n
       go true n = step n (cases n)
       go false n = ap odd (none n)
+
+-- pairs counted by rows and by columns
+module _ {A B : Type 0} (r : A → B → Bool) where
+  pub parity-swap : (l : List A) (m : List B) → parity (λ b. parity (λ a. r a b) l) m ≡ parity (λ a. parity (r a) m) l
+  unfolding parity
+  parity-swap [] m = parity-none (λ b. false) m (λ b k. refl)
+  parity-swap (a ∷ l) m = parity-xor (r a) (λ b. parity (λ c. r c b) l) m ∙ ap (λ x. parity (r a) m ⊻ x) (parity-swap l m)
 
 -- ---- even multisets
 

@@ -4,7 +4,6 @@ use Prim.Native.Nat.{ℕ, _+_, _-_, _<_, _≤_, min}
 use native.Mathlib.Omega.{arith}
 use mathlib.Core.Path.{_≡_, sym, ap, ap₂, subst, _∙_}
 use lib.Bits.{bitOr}
-use lib.ListN.{getD}
 use Rattle.scene.proofs.Taken.{taken-object}
 use Rattle.scene_keys.specs.Keyed.{nextKey}
 use Rattle.flags_meetings.specs.Keyed.{Reached, marks}
@@ -55,7 +54,7 @@ module _ (c : tie.After-pass2 Inv-loop μ-loop) where
       (c .before .pass .ensures .1) (c .pass2 .ensures .1)
 
   after : {k : ℕ} → k ≡ min (nextKey (z .args .s .now) (z .args .scene .f) next-i) (nextKey (z .args .s .now) (z .args .scene .g) next-j)
-      → Walking (z .args .s .now) (z .args .scene) (z .args .notes .now) next-i next-j k (bitOr (at-loop .loop .sofar) (marks (next-i - i) (next-j - j) (getD (z .args .notes .now) i 0)))
+      → Walking (z .args .s .now) (z .args .scene) (z .args .notes .now) next-i next-j k (bitOr (at-loop .loop .sofar) (marks (z .args .notes .now) i next-i (next-j - j)))
   after =
       walked-on (z .args .s .now) (z .args .scene) (z .args .notes .now) (z .pre .0) (z .pre .1) (z .pre .2) (z .pre .3) (at-loop .loop .inv .2) (c .before .before .loop-test .taken) few-f few-g
       (c .before .pass .ensures .1) (c .pass2 .ensures .1)
@@ -93,28 +92,22 @@ pass-requires-2 c κs =
     (start h .pre .1, h .before .before .before .before .size2 .ensures, h .loop .inv .1, c .before .loop-test .taken)
 
 sub-meeting : tie.Need-sub-meeting Inv-loop μ-loop
-sub-meeting c = c .before .before .pass .ensures .1 .on
-
-sub-meeting-2 : tie.Need-sub-meeting-2 Inv-loop μ-loop
-sub-meeting-2 c = c .before .before .before .pass2 .ensures .1 .on
-
-shared-slice-read-meeting : tie.Need-shared-slice-read-meeting Inv-loop μ-loop
-shared-slice-read-meeting c =
-    let d = c .before .before .before .before in
-    omega (arith, at-loop d .loop .inv .0 .few, z d .pre .4, taken-object (z d .args .s .now) (z d .args .scene .f .start) (z d .args .scene .f) (z d .pre .0) .few)
+sub-meeting c = c .before .before .pass2 .ensures .1 .on
 
 meeting-requires : tie.Need-meeting-requires Inv-loop μ-loop
-meeting-requires c κs = tt
+meeting-requires c κs =
+    let d = c .before .before in
+    (d .before .pass .ensures .1 .on, omega (arith, few-f d, z d .pre .4, taken-object (z d .args .s .now) (z d .args .scene .f .start) (z d .args .scene .f) (z d .pre .0) .few))
 
 least-requires-2 : tie.Need-least-requires-2 Inv-loop μ-loop
 least-requires-2 c κs = tt
 
 loop-less : tie.Need-loop-less Inv-loop μ-loop
-loop-less c = let d = c .before .before .before .before .before .before in omega (arith, on d, few-f d, few-g d)
+loop-less c = let d = c .before .before .before .before in omega (arith, on d, few-f d, few-g d)
 
 loop-again : tie.Need-loop-again Inv-loop μ-loop
 loop-again c =
-    let d = c .before .before .before .before .before .before in
+    let d = c .before .before .before .before in
     let f = d .before .pass .ensures .0 in
     let g = d .pass2 .ensures .0 in (
       f,
@@ -148,8 +141,6 @@ meetings-of-spec =
     pass-requires
     pass-requires-2
     sub-meeting
-    sub-meeting-2
-    shared-slice-read-meeting
     meeting-requires
     least-requires-2
     loop-less
