@@ -192,7 +192,7 @@ module _ (s : List ℕ) (sc : Scene) (o : SoundScene s sc) where
       m : List (List Bool)
       m = matrixOf (shapeOf of-f) (shapeOf of-g) (pack (flagsOfF of-f of-g)) (pack (flagsOfG of-f of-g)) (isEmpty of-f) (isEmpty of-g)
 
-  cells-right : (r c : Part) → T (cellAt (matrixFrom (exploredIn s sc)) r c) ↔ Meet r (C.object s (givenFirst sc)) c (C.object s (givenSecond sc))
+  pub cells-right : (r c : Part) → T (cellAt (matrixFrom (exploredIn s sc)) r c) ↔ Meet r (C.object s (givenFirst sc)) c (C.object s (givenSecond sc))
   cells-right r c =
       subst (λ (m : List (List Bool)). T (cellAt m r c) ↔ Meet r (C.object s (givenFirst sc)) c (C.object s (givenSecond sc))) (sym (given-is sc (o .taken .by-types) (sceneVectors s sc (masksFor Wanted.All sc)))) (go (turned sc))
     where
