@@ -173,7 +173,8 @@ fn cell_masks(scene: Scene, at: usize) -> FlagMasks
     let g = scene.g;
     let of_f = f.shape;
     let of_g = g.shape;
-    let row = (records::shape_number(of_f) - 1) as usize * 3 + (records::shape_number(of_g) - 1) as usize;
+    let row = (records::shape_number(of_f) - 1) as usize * 3
+        + (records::shape_number(of_g) - 1) as usize;
     let column = cell_place(scene, at);
     CELL_MASKS[row][column]
 }
