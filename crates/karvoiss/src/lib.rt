@@ -85,6 +85,16 @@ pub struct KarvoissRelate {
     pub holds: bool,
 }
 
+fn related(number: u32, place: usize, holds: bool) -> KarvoissRelate
+    ensures { λ r. ⌜ r ≡ record { number = number; place = place; holds = holds } ⌝ }
+{
+    KarvoissRelate {
+        number,
+        place,
+        holds,
+    }
+}
+
 // The pattern question: for every two byte strings the whole answer; it is not wrong in points; and what the verdict says in points.
 #[no_mangle]
 pub extern "C" fn karvoiss_relate(scene: &[u8], pattern: &[u8]) -> KarvoissRelate
@@ -93,16 +103,8 @@ pub extern "C" fn karvoiss_relate(scene: &[u8], pattern: &[u8]) -> KarvoissRelat
         × CheckedMeans (now (scene .entry)) (checkRelate (now (scene .entry)) (now (pattern .entry))) ⌝ }
 {
     match cells_pattern::question::relate(scene, pattern) {
-        RelateAnswer::Taken(holds) => KarvoissRelate {
-            number: 0,
-            place: 0,
-            holds,
-        },
-        RelateAnswer::Refused(r) => KarvoissRelate {
-            number: r.number as u32,
-            place: r.place,
-            holds: false,
-        },
+        RelateAnswer::Taken(holds) => related(0, 0, holds),
+        RelateAnswer::Refused(r) => related(r.number as u32, r.place, false),
     }
 }
 
