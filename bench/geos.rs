@@ -31,6 +31,7 @@ extern "C" {
     fn GEOSGeom_destroy_r(handle: Handle, geometry: Geometry);
     fn GEOSisValid_r(handle: Handle, geometry: *const c_void) -> c_char;
     fn GEOSRelate_r(handle: Handle, f: *const c_void, g: *const c_void) -> *mut c_char;
+    fn GEOSRelatePattern_r(handle: Handle, f: *const c_void, g: *const c_void, pattern: *const c_char) -> c_char;
     fn GEOSFree_r(handle: Handle, what: *mut c_void);
 }
 
@@ -157,6 +158,17 @@ impl<'a> Pair<'a> {
     }
 }
 
+impl Pair<'_> {
+    /// Whether a pattern holds, or none if GEOS raised an exception.
+    fn holds(&self, pattern: &CStr) -> Option<bool> {
+        match unsafe { GEOSRelatePattern_r(self.geos.0, self.f, self.g, pattern.as_ptr()) } {
+            0 => Some(false),
+            1 => Some(true),
+            _ => None,
+        }
+    }
+}
+
 impl Drop for Pair<'_> {
     fn drop(&mut self) {
         unsafe {
@@ -173,6 +185,16 @@ pub fn bench_geos_from_bytes(geos: &Geos, bytes: &[u8], parts: &[Parts; 2]) -> O
     let pair = Pair::build(geos, bytes, parts);
     if pair.is_valid() {
         pair.relate()
+    } else {
+        None
+    }
+}
+
+/// The same way to one pattern's answer.
+pub fn pattern_from_bytes(geos: &Geos, bytes: &[u8], parts: &[Parts; 2], pattern: &CStr) -> Option<bool> {
+    let pair = Pair::build(geos, bytes, parts);
+    if pair.is_valid() {
+        pair.holds(pattern)
     } else {
         None
     }

@@ -63,6 +63,7 @@ use maker::full;
 use random::Random;
 use rows::{Row, EITHER_ORDER};
 use scene::{read_scene, scene_bytes};
+use std::ffi::CStr;
 use std::hint::black_box;
 use std::path::Path;
 use std::process::exit;
@@ -124,22 +125,26 @@ fn right_cells(bytes: &[u8]) -> Matrix {
     right.cell
 }
 
-/// Our times for one scene: the cells, the vectors with all flags wanted, the vectors under two zero masks, the checks alone.
-const OURS: usize = 4;
+/// Our times for one scene: the cells, the vectors with all flags wanted, the vectors under two zero masks, the checks alone, a pattern that asks all nine cells
+/// and holds, and a pattern that asks whether F lies within G.
+const OURS: usize = 6;
 
-/// A row with its best times so far: ours, then GEOS from the bytes and GEOS relate alone.
+/// GEOS's: the cells from the bytes, relate alone, the pattern of "within" from the bytes.
+const ITS: usize = 3;
+
+/// A row with its best times so far: ours, then GEOS's.
 struct Timed {
     row: Row,
     parts: [Parts; 2],
     verdict: &'static str,
-    best: [f64; OURS + 2],
+    best: [f64; OURS + ITS],
 }
 
 impl Timed {
     fn new(geos: &Geos, row: Row) -> Timed {
         let parts = parts(&row.bytes);
         let verdict = if bench_geos_from_bytes(geos, &row.bytes, &parts) == Some(right_cells(&row.bytes)) { "right" } else { "wrong" };
-        Timed { row, parts, verdict, best: [f64::MAX; OURS + 2] }
+        Timed { row, parts, verdict, best: [f64::MAX; OURS + ITS] }
     }
 
     fn take(&mut self, which: usize, time: f64) {
@@ -153,17 +158,29 @@ impl Timed {
         self.take(OURS, clock::best(|| bench_geos_from_bytes(geos, &self.row.bytes, &self.parts)));
         let built = Pair::build(geos, &self.row.bytes, &self.parts);
         self.take(OURS + 1, clock::best(|| built.relate()));
+        self.take(OURS + 2, clock::best(|| geos::pattern_from_bytes(geos, &self.row.bytes, &self.parts, WITHIN_FOR_C)));
     }
 }
 
 fn our_times(Row { kinds, bytes, .. }: &Row) -> [f64; OURS] {
     let (all_f, all_g) = all_flags(kinds.0, kinds.1);
+    let own = own_pattern(bytes);
     [
         clock::best(|| library::cells(bytes)),
         clock::best(|| library::vectors(bytes, all_f, all_g)),
         clock::best(|| library::vectors(bytes, 0, 0)),
         clock::best(|| library::overlap(bytes, &mut [])),
+        clock::best(|| library::relate(bytes, &own)),
+        clock::best(|| library::relate(bytes, WITHIN)),
     ]
+}
+
+const WITHIN: &[u8] = b"T*F**F***";
+const WITHIN_FOR_C: &CStr = c"T*F**F***";
+
+/// The pattern that asks for each cell what it is.
+fn own_pattern(bytes: &[u8]) -> Vec<u8> {
+    right_cells(bytes).iter().flatten().map(|yes| if *yes { b'T' } else { b'F' }).collect()
 }
 
 /// Times as the outputs have them.

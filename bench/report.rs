@@ -41,6 +41,7 @@ fn measured(results: &Results) -> String {
         summary(results),
         growth(results),
         either_order(results),
+        patterns(results),
         table(results),
         in_turn(results),
         faults(results),
@@ -112,6 +113,30 @@ fn growth(results: &Results) -> String {
         let [small, middle, large] = SIZES.map(|size| most(EITHER_ORDER.map(|kinds| time(family, kinds, size))));
         let growth = most(EITHER_ORDER.map(|kinds| time(family, kinds, 512) / time(family, kinds, 128)));
         let _ = writeln!(text, "| {family} | {says} | {small:.2} | {middle:.1} | {large:.0} | {growth:.1} |");
+    }
+    text
+}
+
+/// Patterns beside the cells in every row, and beside GEOS's pattern from the same bytes.
+fn patterns(results: &Results) -> String {
+    let new = &results.versions[0];
+    let mut text = format!(
+        "### Patterns\n\n(p) `karvoiss_relate` with the pattern of the row's own cells, which asks all nine and holds; (w) with `T*F**F***`, \"within\". Neither should take longer than (a), the cells. \
+         Beside GEOS {new} from the same bytes: build, validity, `GEOSRelatePattern` with the same pattern as (w).\n\n\
+         | ratio | segments | rows | median | most | rows above 1.05 |\n|---|---|---|---|---|---|\n"
+    );
+    let mut line = |what: &str, size: usize, ratio: &dyn Fn(&Times) -> Option<f64>| {
+        let all: Vec<(String, f64)> =
+            rows(results, size).iter().filter_map(|(family, kinds, times)| Some((title(family, *kinds), ratio(times)?))).collect();
+        let ratios: Vec<f64> = all.iter().map(|(_, ratio)| *ratio).collect();
+        let above = ratios.iter().filter(|ratio| **ratio > 1.05).count();
+        let (name, most) = worst(&all);
+        let _ = writeln!(text, "| {what} | {size} | {} | {:.3} | {most:.2}, {name} | {above} |", all.len(), median(&ratios));
+    };
+    for size in SIZES {
+        line("(p)/(a)", size, &|times| Some(times.nine / times.cells));
+        line("(w)/(a)", size, &|times| Some(times.within / times.cells));
+        line("(w)/GEOS", size, &|times| times.new.right.then_some(times.within / times.new.pattern));
     }
     text
 }

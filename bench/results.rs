@@ -8,6 +8,7 @@ use std::path::Path;
 pub struct Peer {
     pub whole: f64,
     pub relate: f64,
+    pub pattern: f64,
     pub right: bool,
 }
 
@@ -17,6 +18,9 @@ pub struct Times {
     pub vectors: f64,
     pub nothing: f64,
     pub check: f64,
+    /// A pattern that asks all nine cells and holds, and one that asks whether F lies within G.
+    pub nine: f64,
+    pub within: f64,
     pub new: Peer,
     pub old: Peer,
 }
@@ -81,7 +85,7 @@ fn number<T: std::str::FromStr>(word: &str) -> T {
 }
 
 fn peer(words: &[String]) -> Peer {
-    Peer { whole: number(&words[5]), relate: number(&words[6]), right: words[7] == "right" }
+    Peer { whole: number(&words[7]), relate: number(&words[8]), pattern: number(&words[9]), right: words[10] == "right" }
 }
 
 fn times(directory: &Path) -> HashMap<String, Times> {
@@ -89,8 +93,8 @@ fn times(directory: &Path) -> HashMap<String, Times> {
     let new = lines(directory, "time-new", "row");
     new.iter()
         .map(|words| {
-            let [cells, vectors, nothing, check] = [1, 2, 3, 4].map(|column| number(&words[column]));
-            (words[0].clone(), Times { cells, vectors, nothing, check, new: peer(words), old: old[&words[0]] })
+            let [cells, vectors, nothing, check, nine, within] = [1, 2, 3, 4, 5, 6].map(|column| number(&words[column]));
+            (words[0].clone(), Times { cells, vectors, nothing, check, nine, within, new: peer(words), old: old[&words[0]] })
         })
         .collect()
 }

@@ -194,13 +194,6 @@ static void print_refusal(const struct object *f, const struct object *g, uint32
            in_f ? f->name : g->name, in_f ? place : place - f->length);
 }
 
-static const char *in_a_word(const karvoiss_cells_t *m)
-{
-    if (m->cell[0][0])
-        return "the interiors meet";
-    return m->cell[0][1] || m->cell[1][0] || m->cell[1][1] ? "they touch" : "apart";
-}
-
 /* A number for F and one for G: masks or vectors. */
 struct both {
     uint16_t f, g;
@@ -219,10 +212,28 @@ static struct both all_flags(const struct object *f, const struct object *g)
     return of_types[type_of(f)][type_of(g)];
 }
 
+/* "Do they touch?" as OGC has it: one of three patterns holds. Each call checks the
+ * scene and then looks only for what its pattern needs. */
+static bool touches(const uint8_t *scene, size_t length)
+{
+    static const char *const patterns[] = {"FT*******", "F**T*****", "F***T****"};
+    bool any = false;
+
+    for (int i = 0; i < 3; i++)
+        any = any || karvoiss_relate(scene, length, (const uint8_t *)patterns[i], 9).holds;
+    return any;
+}
+
 struct answer {
     karvoiss_vectors_t v;
     karvoiss_cells_t m;
+    bool touches;
 };
+
+static const char *in_a_word(const struct answer *a)
+{
+    return a->m.cell[0][0] ? "the interiors meet" : a->touches ? "they touch" : "apart";
+}
 
 /* Either type may come first: the answer is in the order of the two objects. */
 static struct answer ask(const struct object *f, const struct object *g)
@@ -233,7 +244,8 @@ static struct answer ask(const struct object *f, const struct object *g)
 
     memcpy(scene, f->bytes, f->length);
     memcpy(scene + f->length, g->bytes, g->length);
-    return (struct answer){karvoiss_vectors(scene, length, all.f, all.g), karvoiss_cells(scene, length)};
+    return (struct answer){karvoiss_vectors(scene, length, all.f, all.g), karvoiss_cells(scene, length),
+                           touches(scene, length)};
 }
 
 static void print_pair(const struct object *f, const struct object *g, const struct answer *a)
@@ -246,7 +258,7 @@ static void print_pair(const struct object *f, const struct object *g, const str
     for (int row = 0; row < 3; row++)
         for (int column = 0; column < 3; column++)
             putchar(a->m.cell[row][column] ? '1' : '0');
-    printf("  %s\n", in_a_word(&a->m));
+    printf("  %s\n", in_a_word(a));
 }
 
 /* ---- Both ways round ----------------------------------------------------- */
@@ -281,6 +293,7 @@ static bool agree(const struct object *f, const struct object *g, const struct a
     bool same = one->v.number == other->v.number && one->m.number == other->m.number;
 
     same = same && turned.f == other->v.f && turned.g == other->v.g;
+    same = same && one->touches == other->touches;
     for (int row = 0; row < 3; row++)
         for (int column = 0; column < 3; column++)
             same = same && one->m.cell[row][column] == other->m.cell[column][row];

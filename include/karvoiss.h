@@ -39,7 +39,8 @@
  * other number: it was turned away, every other result is 0 or false, and
  * `place` is a byte offset in the scene as it was passed: the record at fault, the
  * earliest if several. Of a pair of records it is the earlier one, but for 10 the
- * later; so for 15 it is F's, the object's that comes first.
+ * later; so for 15 it is F's, the object's that comes first. For 23 it is a
+ * position in the pattern.
  *
  *   1  bytes end before a record or inside it
  *   2  kind not allowed here
@@ -59,8 +60,12 @@
  *  16  a type is not 3: the first such type record (karvoiss_overlap only)
  *  17  the buffer is shorter than the count (place 0; karvoiss_overlap only)
  *
- * 1 to 7 are found record by record; then 9 to 17 in this order, each over the
- * whole scene.
+ *  22  the pattern has not nine characters (place 0; karvoiss_relate only)
+ *  23  a character of the pattern is none of T, F, *: the position of the first
+ *      such, from 0 (karvoiss_relate only)
+ *
+ * 1 to 7 are found record by record; then 9 to 23 in this order, each over the
+ * whole scene. A number that is not in the table never occurs.
  *
  * Since 0.3.0 either type may come first. Before, a scene whose first type was
  * above its second was refused with 8, and a caller had to exchange the objects
@@ -84,6 +89,7 @@ extern "C" {
  */
 #define KARVOISS_VECTORS_STACK 11200
 #define KARVOISS_CELLS_STACK 11200
+#define KARVOISS_RELATE_STACK 11200
 #define KARVOISS_OVERLAP_STACK 11200
 
 /* The topological feature vectors of F and G.
@@ -165,6 +171,55 @@ typedef struct {
 } karvoiss_cells_t;
 
 karvoiss_cells_t karvoiss_cells(const uint8_t *scene, size_t length);
+
+/* Does an OGC relate pattern hold? Since 0.5.0.
+ *
+ * `pattern` points to `pattern_length` bytes, which are only read; it may be null
+ * where `pattern_length` is 0. A pattern has nine characters, for the cells row by
+ * row: II, IB, IE, BI, BB, BE, EI, EB, EE, rows by the part of F, columns by the
+ * part of G (interior, boundary, exterior). T: some point lies in both parts. F:
+ * none does. *: either. `holds` is true exactly if all nine cells fit. The digits
+ * 0, 1 and 2 and small letters are refused with 23. No terminating zero is asked
+ * for; if one is counted in, the pattern has ten characters and is refused.
+ *
+ * A pattern that is refused is refused also where a cell misfits, and the scene
+ * is always checked whole: of a scene that is turned away number and place are
+ * those of karvoiss_cells, whatever the pattern. A call never takes more than
+ * karvoiss_cells in flags: only those that the cells with T or F are read off are
+ * looked for. `*********` costs the checks alone, and so does F for EE, which is
+ * always yes.
+ *
+ * The named predicates of OGC Simple Features as patterns, by the types of F and
+ * G; where several stand, any of them:
+ *
+ *   equals      any types        T*F**FFF*
+ *   disjoint    any types        FF*FF****
+ *   intersects  any types        T********  *T*******  ***T*****  ****T****
+ *   touches     any but 1, 1     FT*******  F**T*****  F***T****
+ *   within      any types        T*F**F***
+ *   contains    any types        T*****FF*
+ *   coveredBy   any types        T*F**F***  *TF**F***  **FT*F***  **F*TF***
+ *   covers      any types        T*****FF*  *T****FF*  ***T**FF*  ****T*FF*
+ *   crosses     1,2 1,3 2,3      T*T******
+ *               2,1 3,1 3,2      T*****T**
+ *               2,2              0********, which asks for a dimension: true if
+ *                                T******** holds and the lines share no segment
+ *   overlaps    1,1 3,3          T*T***T**
+ *               2,2              1*T***T**, which asks for a dimension: true if
+ *                                T*T***T** holds and the lines share a segment
+ *
+ * Other pairs of types never cross or overlap, and points never touch points. Of
+ * two lines seg_shared, bit 0 of f in karvoiss_vectors, says whether they share a
+ * segment. Two empty objects are disjoint, and equal by no pattern.
+ */
+typedef struct {
+    uint32_t number;
+    size_t place;
+    bool holds;
+} karvoiss_relate_t;
+
+karvoiss_relate_t karvoiss_relate(const uint8_t *scene, size_t length,
+                                  const uint8_t *pattern, size_t pattern_length);
 
 /* The overlap list of two regions: each different segment, in the order of left
  * halfsegments, gives one byte 3m + n. m is the number of regions whose interior

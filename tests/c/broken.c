@@ -6,6 +6,8 @@
 
 karvoiss_cells_t __real_karvoiss_cells(const uint8_t *scene, size_t length);
 karvoiss_cells_t __wrap_karvoiss_cells(const uint8_t *scene, size_t length);
+karvoiss_relate_t __real_karvoiss_relate(const uint8_t *scene, size_t length, const uint8_t *pattern, size_t pattern_length);
+karvoiss_relate_t __wrap_karvoiss_relate(const uint8_t *scene, size_t length, const uint8_t *pattern, size_t pattern_length);
 karvoiss_overlap_t __real_karvoiss_overlap(const uint8_t *scene, size_t length, uint8_t *list, size_t room);
 karvoiss_overlap_t __wrap_karvoiss_overlap(const uint8_t *scene, size_t length, uint8_t *list, size_t room);
 
@@ -45,6 +47,25 @@ karvoiss_cells_t __wrap_karvoiss_cells(const uint8_t *scene, size_t length)
     free(malloc(length));
 #endif
     return __real_karvoiss_cells(scene, length);
+}
+
+karvoiss_relate_t __wrap_karvoiss_relate(const uint8_t *scene, size_t length, const uint8_t *pattern, size_t pattern_length)
+{
+#if defined MISTAKE_reads_pattern_on
+    static volatile uint8_t next;
+
+    next = ((const volatile uint8_t *)pattern)[pattern_length];
+    (void)next;
+#elif defined MISTAKE_by_columns
+    uint8_t turned[9];
+
+    if (pattern_length == 9) {
+        for (int i = 0; i < 9; i++)
+            turned[i] = pattern[i % 3 * 3 + i / 3];
+        pattern = turned;
+    }
+#endif
+    return __real_karvoiss_relate(scene, length, pattern, pattern_length);
 }
 
 karvoiss_overlap_t __wrap_karvoiss_overlap(const uint8_t *scene, size_t length, uint8_t *list, size_t room)

@@ -2,7 +2,7 @@
  * their partners and joined ends stay joined. Every fourth time the fuzzer changes bytes in its own ways. */
 #include "scenes.h"
 
-enum { HEAD = 6, MOST = 8192 };
+enum { HEAD = 17, MOST = 8192 };
 
 size_t LLVMFuzzerMutate(uint8_t *data, size_t size, size_t most);
 size_t LLVMFuzzerCustomMutator(uint8_t *data, size_t size, size_t most, unsigned seed);

@@ -1,4 +1,4 @@
-/* Null where the length is 0: for the scene of each call, and for the list, alone and with it. */
+/* Null where the length is 0: for the scene of each call, and for the pattern and the list, alone and with it. */
 #include "scenes.h"
 
 static const uint8_t empty_regions[] = {84, 3, 69, 84, 3, 69};
@@ -6,6 +6,12 @@ static const uint8_t empty_regions[] = {84, 3, 69, 84, 3, 69};
 static void is_overlap(const char *name, karvoiss_overlap_t answer, uint32_t number, size_t count)
 {
     if (answer.number != number || answer.place != 0 || answer.count != count)
+        fail(name, "another answer");
+}
+
+static void is_relate(const char *name, karvoiss_relate_t answer, uint32_t number)
+{
+    if (answer.number != number || answer.place != 0 || answer.holds)
         fail(name, "another answer");
 }
 
@@ -26,12 +32,15 @@ int main(int argc, char **argv)
         fail("vectors of null", "another answer");
     if (!same_cells(&c, &no_cells))
         fail("cells of null", "another answer");
+    is_relate("pattern against null", karvoiss_relate(NULL, 0, (const uint8_t *)"*********", 9), 1);
+    is_relate("null against null", karvoiss_relate(NULL, 0, NULL, 0), 1);
+    is_relate("null against two regions", karvoiss_relate(scene.bytes, scene.length, NULL, 0), 22);
     is_overlap("overlap of null into a buffer", karvoiss_overlap(NULL, 0, list, 1), 1, 0);
     is_overlap("overlap of null into null", karvoiss_overlap(NULL, 0, NULL, 0), 1, 0);
     is_overlap("overlap of two empty regions into null", karvoiss_overlap(empty_regions, sizeof empty_regions, NULL, 0), 0, 0);
     is_overlap("overlap of two regions into null", karvoiss_overlap(scene.bytes, scene.length, NULL, 0), 17, 0);
     if (list[0] != 0xEE)
         fail("overlap of null into a buffer", "the buffer was changed");
-    puts("null: 6 calls");
+    puts("null: 9 calls");
     return 0;
 }

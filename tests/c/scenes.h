@@ -1,4 +1,4 @@
-/* What the tests of the border to C share: scenes read from files, and everything that the three calls answer about one byte string. */
+/* What the tests of the border to C share: scenes read from files, and everything that the calls answer about one byte string. */
 #ifndef SCENES_H
 #define SCENES_H
 
@@ -27,6 +27,7 @@ struct answers {
     karvoiss_vectors_t vectors;
     karvoiss_vectors_t nothing;
     karvoiss_cells_t cells;
+    karvoiss_relate_t relate;
     karvoiss_overlap_t overlap;
     uint8_t list[LIST];
 };
@@ -74,10 +75,18 @@ static inline struct masks all_flags(const uint8_t *bytes, size_t length)
     return of_types[types[0] - 1][types[1] - 1];
 }
 
+/* The pattern of what was answered, nine characters: each cell as it is, but for EI, which is left open. */
+static inline void own_pattern(const karvoiss_cells_t *cells, uint8_t *pattern)
+{
+    for (int i = 0; i < 9; i++)
+        pattern[i] = i == 6 ? '*' : cells->cell[i / 3][i % 3] ? 'T' : 'F';
+}
+
 /* The list is asked for into `list`, whose bytes are all 0xEE before. Two zero masks have the refusals that all flags have, and want nothing. */
 static inline void ask(const uint8_t *bytes, size_t length, uint8_t *list, size_t room, struct answers *answers)
 {
     struct masks all = all_flags(bytes, length);
+    uint8_t pattern[9];
 
     memset(list, 0xEE, room);
     answers->vectors = karvoiss_vectors(bytes, length, all.f, all.g);
@@ -87,6 +96,12 @@ static inline void ask(const uint8_t *bytes, size_t length, uint8_t *list, size_
     if (answers->nothing.f != 0 || answers->nothing.g != 0)
         fail("two zero masks", "a flag");
     answers->cells = karvoiss_cells(bytes, length);
+    own_pattern(&answers->cells, pattern);
+    answers->relate = karvoiss_relate(bytes, length, pattern, sizeof pattern);
+    if (answers->relate.number != answers->cells.number || answers->relate.place != answers->cells.place)
+        fail("a pattern", "another refusal than the cells have");
+    if (answers->relate.holds != (answers->cells.number == 0))
+        fail("a pattern", "the scene's own does not hold");
     answers->overlap = karvoiss_overlap(bytes, length, list, room);
 }
 
@@ -100,6 +115,11 @@ static inline bool same_cells(const karvoiss_cells_t *a, const karvoiss_cells_t 
     return a->number == b->number && a->place == b->place && memcmp(a->cell, b->cell, sizeof a->cell) == 0;
 }
 
+static inline bool same_relate(const karvoiss_relate_t *a, const karvoiss_relate_t *b)
+{
+    return a->number == b->number && a->place == b->place && a->holds == b->holds;
+}
+
 static inline bool same_overlap(const karvoiss_overlap_t *a, const karvoiss_overlap_t *b)
 {
     return a->number == b->number && a->place == b->place && a->count == b->count;
@@ -108,7 +128,7 @@ static inline bool same_overlap(const karvoiss_overlap_t *a, const karvoiss_over
 static inline bool same_answers(const struct answers *a, const struct answers *b)
 {
     return same_vectors(&a->vectors, &b->vectors) && same_vectors(&a->nothing, &b->nothing) && same_cells(&a->cells, &b->cells)
-        && same_overlap(&a->overlap, &b->overlap);
+        && same_relate(&a->relate, &b->relate) && same_overlap(&a->overlap, &b->overlap);
 }
 
 #endif

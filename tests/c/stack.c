@@ -24,6 +24,11 @@ static void ask_cells(void)
     answers.cells = karvoiss_cells(scene.bytes, scene.length);
 }
 
+static void ask_relate(void)
+{
+    answers.relate = karvoiss_relate(scene.bytes, scene.length, (const uint8_t *)"TTTTTTTTT", 9);
+}
+
 static void ask_overlap(void)
 {
     answers.overlap = karvoiss_overlap(scene.bytes, scene.length, list, LIST);
@@ -58,6 +63,7 @@ int main(int argc, char **argv)
     struct call calls[] = {
         {"karvoiss_vectors", ask_vectors, KARVOISS_VECTORS_STACK, 0},
         {"karvoiss_cells", ask_cells, KARVOISS_CELLS_STACK, 0},
+        {"karvoiss_relate", ask_relate, KARVOISS_RELATE_STACK, 0},
         {"karvoiss_overlap", ask_overlap, KARVOISS_OVERLAP_STACK, 0},
     };
     int bad = argc < 2;
@@ -65,7 +71,7 @@ int main(int argc, char **argv)
     for (int i = 1; i < argc; i++) {
         scene = read_scene(argv[i]);
         all = all_flags(scene.bytes, scene.length);
-        for (int k = 0; k < 3; k++) {
+        for (int k = 0; k < 4; k++) {
             size_t used = used_by(calls[k].asks);
 
             if (used > calls[k].measured)
@@ -73,7 +79,7 @@ int main(int argc, char **argv)
         }
         free(scene.bytes);
     }
-    for (int k = 0; k < 3; k++) {
+    for (int k = 0; k < 4; k++) {
         printf("stack: %s used %zu bytes, the header states %zu\n", calls[k].name, calls[k].measured, calls[k].stated);
         if (calls[k].measured > calls[k].stated || calls[k].measured == 0)
             bad = 1;

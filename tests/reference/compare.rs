@@ -1,5 +1,5 @@
-//! The comparison: every scene is put to the engine under test and to the reference, as vectors under several masks, as cells and as an
-//! overlap list, and every bit of the answers and of the memory around them must agree.
+//! The comparison: every scene is put to the engine under test and to the reference, as vectors under several masks, as cells, against
+//! patterns and as an overlap list, and every bit of the answers and of the memory around them must agree.
 
 use crate::byhand;
 use crate::damage::{damaged, noise};
@@ -22,8 +22,10 @@ pub struct Case {
     pub from: String,
     pub bytes: Vec<u8>,
     pub must_be_taken: bool,
-    /// The seed of the masks and rooms that it is asked with.
+    /// The seed of the masks, patterns and rooms that it is asked with.
     pub seed: u64,
+    /// Whether it is asked against every pattern of T and F, and many with *.
+    pub every_pattern: bool,
 }
 
 impl Case {
@@ -44,17 +46,17 @@ impl Case {
             620..=649 => (noise(&mut random), false),
             _ => (scene_bytes(&f, &g), true),
         };
-        Case { from: format!("seed {seed}"), bytes, must_be_taken, seed }
+        Case { from: format!("seed {seed}"), bytes, must_be_taken, seed, every_pattern: false }
     }
 
     /// The scene with a hub that a seed names.
     pub fn hub_of_seed(seed: u64) -> Case {
         let (f, g) = with_hub(&mut Random::new(seed));
-        Case { from: format!("seed {seed}, with a hub"), bytes: scene_bytes(&f, &g), must_be_taken: true, seed }
+        Case { from: format!("seed {seed}, with a hub"), bytes: scene_bytes(&f, &g), must_be_taken: true, seed, every_pattern: false }
     }
 
     fn by_hand(name: &str, bytes: Vec<u8>) -> Case {
-        Case { from: format!("the scene made by hand: {name}"), bytes, must_be_taken: false, seed: 0 }
+        Case { from: format!("the scene made by hand: {name}"), bytes, must_be_taken: false, seed: 0, every_pattern: true }
     }
 
     /// All scenes made by hand.
@@ -72,6 +74,10 @@ pub fn ask(case: &Case, rules: &Rules, tally: &mut Tally) -> Result<(), String> 
         return Err(failure(case, &case.bytes, &format!("the maker's scene is refused by the reference: {}", judgement.line())));
     }
     let mut random = Random::new(!case.seed);
+    if case.every_pattern {
+        let patterns = (0..512).map(two_valued).chain((0..1000).map(|_| with_stars(&mut random))).collect();
+        ask_patterns(&Lent::new(&mut Random::new(1), &case.bytes), &judgement, patterns, tally).map_err(|what| failure(case, &case.bytes, &what))?;
+    }
     let answers = ask_one(&case.bytes, &judgement, &mut random, tally).map_err(|what| failure(case, &case.bytes, &what))?;
     let (f, g) = (&judgement.f, &judgement.g);
     if g.start > 0 {
@@ -111,6 +117,8 @@ fn ask_one(bytes: &[u8], judgement: &Judgement, random: &mut Random, tally: &mut
     scene.is_unchanged("the scene, after cells")?;
     tally.questions += 1;
 
+    ask_patterns(&scene, judgement, patterns(judgement, random), tally)?;
+
     let mut with_room = None;
     for room in rooms(judgement, random) {
         let contents: Vec<u8> = (0..room).map(|_| random.byte()).collect();
@@ -130,6 +138,22 @@ fn ask_one(bytes: &[u8], judgement: &Judgement, random: &mut Random, tally: &mut
     Ok(Answers { numbers: [vectors.number, cells.number, number], vectors: (vectors.f, vectors.g), cells: cells.cell, list })
 }
 
+fn ask_patterns(scene: &Lent, judgement: &Judgement, patterns: Vec<Vec<u8>>, tally: &mut Tally) -> Result<(), String> {
+    for pattern in patterns {
+        let expected = judgement.relate(&pattern);
+        let lent = Lent::new(&mut Random::new(2), &pattern);
+        let answer = library::relate(scene.inside(), lent.inside())?;
+        agree(&format!("pattern {:?}", String::from_utf8_lossy(&pattern)), &expected, &answer)?;
+        scene.is_unchanged("the scene, after a pattern")?;
+        lent.is_unchanged("the pattern")?;
+        tally.questions += 1;
+        if expected.number > 15 {
+            tally.refusal(expected.number);
+        }
+    }
+    Ok(())
+}
+
 fn agree<T: PartialEq + Debug>(question: &str, expected: &T, answer: &T) -> Result<(), String> {
     if expected == answer {
         return Ok(());
@@ -147,6 +171,34 @@ fn masks(judgement: &Judgement, random: &mut Random) -> Vec<(u16, u16)> {
         masks.push(random.pick(&[(f, g), (all_f + 1, 0), (0, all_g + 1), (all_f | f, g & all_g), (1 << (f % 16), 0), (0, 1 << (g % 16))]));
     }
     masks
+}
+
+/// The pattern of nine bits.
+fn two_valued(bits: u32) -> Vec<u8> {
+    (0..9).map(|at| if bits >> at & 1 == 1 { b'T' } else { b'F' }).collect()
+}
+
+fn with_stars(random: &mut Random) -> Vec<u8> {
+    (0..9).map(|_| random.pick(b"TF**")).collect()
+}
+
+/// One that holds, with stars here and there; the same with one character another; one of any characters; and now and then one that is turned away.
+fn patterns(judgement: &Judgement, random: &mut Random) -> Vec<Vec<u8>> {
+    let own = judgement.cells.iter().flatten().map(|yes| if *yes { b'T' } else { b'F' });
+    let fitting: Vec<u8> = own.map(|c| if random.once_in(3) { b'*' } else { c }).collect();
+    let mut changed = fitting.clone();
+    changed[random.below(9)] = random.pick(b"TF");
+    let mut patterns = vec![fitting.clone(), changed.clone(), with_stars(random)];
+    if random.once_in(4) {
+        let mut wrong = if random.once_in(2) { fitting } else { changed };
+        for _ in 0..=random.below(2) {
+            wrong[random.below(9)] = random.pick(b"tf x012+\0\xff");
+        }
+        let length = random.pick(&[0, 1, 8, 9, 9, 9, 10]);
+        wrong.resize(length, b'T');
+        patterns.push(wrong);
+    }
+    patterns
 }
 
 /// Buffers of just the count first, then of one less, of more, of none.

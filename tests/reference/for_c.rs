@@ -32,6 +32,13 @@ pub struct Cells {
 }
 
 #[repr(C)]
+pub struct Relate {
+    number: u32,
+    place: usize,
+    holds: bool,
+}
+
+#[repr(C)]
 pub struct Overlap {
     number: u32,
     place: usize,
@@ -46,6 +53,7 @@ pub struct Answers {
     wanted: Vectors,
     nothing: Vectors,
     cells: Cells,
+    relate: Relate,
     overlap: Overlap,
 }
 
@@ -53,15 +61,26 @@ fn vectors(answer: VectorsAnswer) -> Vectors {
     Vectors { number: answer.number, place: answer.place, f: answer.f, g: answer.g }
 }
 
-/// The masks of all flags, and under them the vectors; the vectors under the wanted masks and under two zeros, the cells, and the overlap list into `list`.
+/// The masks of all flags, and under them the vectors; the vectors under the wanted masks and under two zeros, the cells, the pattern, and the overlap list into `list`.
 ///
 /// # Safety
-/// `scene` has `length` bytes and `list` has `room`, neither is null.
+/// `scene` has `length` bytes, `pattern` has `pattern_length` and `list` has `room`, none is null.
 #[no_mangle]
-pub unsafe extern "C" fn reference_answers(scene: *const u8, length: usize, want_f: u16, want_g: u16, list: *mut u8, room: usize) -> Answers {
+pub unsafe extern "C" fn reference_answers(
+    scene: *const u8,
+    length: usize,
+    want_f: u16,
+    want_g: u16,
+    pattern: *const u8,
+    pattern_length: usize,
+    list: *mut u8,
+    room: usize,
+) -> Answers {
     let (scene, list) = unsafe { (std::slice::from_raw_parts(scene, length), std::slice::from_raw_parts_mut(list, room)) };
+    let pattern = unsafe { std::slice::from_raw_parts(pattern, pattern_length) };
     let judgement = judge(scene, &RIGHT);
     let (cells, overlap) = (judgement.cells(), judgement.overlap(list));
+    let relate = judgement.relate(pattern);
     let (all_f, all_g) = judgement.all_flags();
     Answers {
         all_f,
@@ -70,6 +89,7 @@ pub unsafe extern "C" fn reference_answers(scene: *const u8, length: usize, want
         nothing: vectors(judgement.vectors(0, 0)),
         wanted: vectors(judgement.vectors(want_f, want_g)),
         cells: Cells { number: cells.number, place: cells.place, cell: cells.cell },
+        relate: Relate { number: relate.number, place: relate.place, holds: relate.holds },
         overlap: Overlap { number: overlap.number, place: overlap.place, count: overlap.count },
     }
 }

@@ -41,6 +41,28 @@ pub enum TwoZeros {
     NoChecks,
 }
 
+#[derive(Clone, Copy, PartialEq, Eq, Debug, Default)]
+pub struct RelateAnswer {
+    pub number: u32,
+    pub place: usize,
+    pub holds: bool,
+}
+
+/// How a pattern is read: as document 02's Paper 7 has it. The others are mistakes.
+#[derive(Clone, Copy, PartialEq, Eq, Default)]
+pub enum Reading {
+    #[default]
+    Right,
+    /// 23 counts positions from 1.
+    FromOne,
+    /// Column by column.
+    ByColumns,
+    /// A cell that misfits is answered no before the rest of the pattern is looked at.
+    MisfitFirst,
+    /// F for a cell that must be yes, T for no.
+    Exchanged,
+}
+
 /// Everything that any question about these bytes may need, found once, F being the object given first. `early` is a refusal 1 to 7, `late` one of
 /// 10 to 15.
 #[derive(Default)]
@@ -54,6 +76,7 @@ pub struct Judgement {
     /// Whose mask is given first.
     pub masks: Order,
     pub cells: Matrix,
+    pub reading: Reading,
     /// The first type record whose type is not 3, if there is one.
     pub no_region: Option<usize>,
     pub segments: Vec<Segment>,
@@ -131,6 +154,30 @@ impl Judgement {
         match self.early.or(self.late) {
             Some(refusal) => CellsAnswer { number: refusal.number, place: refusal.place, ..CellsAnswer::default() },
             None => CellsAnswer { number: 0, place: 0, cell: self.cells },
+        }
+    }
+
+    /// 22 and 23 come after the scene's own refusals, and a misfit hides none of them.
+    pub fn relate(&self, pattern: &[u8]) -> RelateAnswer {
+        let refused = |number, place| RelateAnswer { number, place, holds: false };
+        if let Some(refusal) = self.early.or(self.late) {
+            return refused(refusal.number, refusal.place);
+        }
+        if pattern.len() != 9 {
+            return refused(22, 0);
+        }
+        let cell = |at: usize| if self.reading == Reading::ByColumns { self.cells[at % 3][at / 3] } else { self.cells[at / 3][at % 3] };
+        let misfits = |at: &usize| match pattern[*at] {
+            b'T' => cell(*at) == (self.reading == Reading::Exchanged),
+            b'F' => cell(*at) != (self.reading == Reading::Exchanged),
+            _ => false,
+        };
+        let misfit = (0..9).find(misfits);
+        match pattern.iter().position(|c| !b"TF*".contains(c)) {
+            Some(at) if self.reading != Reading::MisfitFirst || misfit.is_none_or(|misfit| at < misfit) => {
+                refused(23, at + (self.reading == Reading::FromOne) as usize)
+            }
+            _ => RelateAnswer { number: 0, place: 0, holds: misfit.is_none() },
         }
     }
 

@@ -1,4 +1,4 @@
-//! The engine under test. Built with `--cfg library` it is the C archive, through its three exported functions and nothing else; built
+//! The engine under test. Built with `--cfg library` it is the C archive, through its exported functions and nothing else; built
 //! without, the reference stands in for it, so that the maker, the counts and the mistakes can be tried with no archive at hand.
 
 #[cfg(library)]
@@ -8,7 +8,7 @@ pub use stand_in::*;
 
 #[cfg(library)]
 mod linked {
-    use crate::judge::{CellsAnswer, OverlapAnswer, VectorsAnswer};
+    use crate::judge::{CellsAnswer, OverlapAnswer, RelateAnswer, VectorsAnswer};
 
     pub const NAME: &str = "the linked archive";
 
@@ -29,6 +29,13 @@ mod linked {
     }
 
     #[repr(C)]
+    struct Relate {
+        number: u32,
+        place: usize,
+        holds: u8,
+    }
+
+    #[repr(C)]
     struct Overlap {
         number: u32,
         place: usize,
@@ -38,6 +45,7 @@ mod linked {
     extern "C" {
         fn karvoiss_vectors(scene: *const u8, length: usize, want_f: u16, want_g: u16) -> Vectors;
         fn karvoiss_cells(scene: *const u8, length: usize) -> Cells;
+        fn karvoiss_relate(scene: *const u8, length: usize, pattern: *const u8, pattern_length: usize) -> Relate;
         fn karvoiss_overlap(scene: *const u8, length: usize, list: *mut u8, room: usize) -> Overlap;
     }
 
@@ -63,6 +71,14 @@ mod linked {
         Ok(CellsAnswer { number: answer.number, place: answer.place, cell: answer.cell.map(|row| row.map(|cell| cell == 1)) })
     }
 
+    pub fn relate(scene: &[u8], pattern: &[u8]) -> Result<RelateAnswer, String> {
+        let answer = unsafe { karvoiss_relate(start(scene), scene.len(), start(pattern), pattern.len()) };
+        if answer.holds > 1 {
+            return Err(format!("pattern: the answer is neither 0 nor 1: {}", answer.holds));
+        }
+        Ok(RelateAnswer { number: answer.number, place: answer.place, holds: answer.holds == 1 })
+    }
+
     pub fn overlap(scene: &[u8], list: &mut [u8]) -> OverlapAnswer {
         let answer = unsafe { karvoiss_overlap(start(scene), scene.len(), list.as_mut_ptr(), list.len()) };
         OverlapAnswer { number: answer.number, place: answer.place, count: answer.count }
@@ -71,7 +87,7 @@ mod linked {
 
 #[cfg(not(library))]
 mod stand_in {
-    use crate::judge::{judge, CellsAnswer, OverlapAnswer, VectorsAnswer};
+    use crate::judge::{judge, CellsAnswer, OverlapAnswer, RelateAnswer, VectorsAnswer};
     use crate::mistakes::RIGHT;
 
     pub const NAME: &str = "no archive: the reference against itself";
@@ -82,6 +98,10 @@ mod stand_in {
 
     pub fn cells(scene: &[u8]) -> Result<CellsAnswer, String> {
         Ok(judge(scene, &RIGHT).cells())
+    }
+
+    pub fn relate(scene: &[u8], pattern: &[u8]) -> Result<RelateAnswer, String> {
+        Ok(judge(scene, &RIGHT).relate(pattern))
     }
 
     pub fn overlap(scene: &[u8], list: &mut [u8]) -> OverlapAnswer {

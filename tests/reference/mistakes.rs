@@ -3,7 +3,7 @@
 
 use crate::cells::turned;
 use crate::flags::{common_dominating_point, ends_where, line_boundary};
-use crate::judge::{Judgement, TwoZeros};
+use crate::judge::{Judgement, Reading, TwoZeros};
 use crate::plane::{interior_above, Point, Segment};
 use crate::scene::{Half, Object, Refusal, POINTS, REGION};
 
@@ -66,8 +66,8 @@ pub struct Mistake {
 }
 
 /// Every mistake, by the name that `--mistake` takes: the four, from "refuse-all" on the imitations, then those about two zero masks, those about scenes whose
-/// first type is above the second, and those about hubs.
-pub const MISTAKES: [Mistake; 27] = [
+/// first type is above the second, those about hubs, and those about patterns.
+pub const MISTAKES: [Mistake; 31] = [
     Mistake {
         name: "next-halfsegment",
         says: "a line's end is a boundary point if the next halfsegment starts elsewhere",
@@ -159,6 +159,14 @@ pub const MISTAKES: [Mistake; 27] = [
         says: "a hub of four is a boundary point as one of three is",
         rules: Rules { line_boundary: |line| ends_where(line, |number| number == 1 || number >= 3), ..RIGHT },
     },
+    Mistake { name: "23-from-one", says: "23 counts positions from 1", rules: Rules { spoil: |j| j.reading = Reading::FromOne, ..RIGHT } },
+    Mistake { name: "by-columns", says: "a pattern is read column by column", rules: Rules { spoil: |j| j.reading = Reading::ByColumns, ..RIGHT } },
+    Mistake {
+        name: "misfit-hides-23",
+        says: "a cell that misfits is answered no before a wrong character is seen",
+        rules: Rules { spoil: |j| j.reading = Reading::MisfitFirst, ..RIGHT },
+    },
+    Mistake { name: "t-for-f", says: "T and F are exchanged in a pattern", rules: Rules { spoil: |j| j.reading = Reading::Exchanged, ..RIGHT } },
 ];
 
 fn vectors_in_place(judgement: &mut Judgement) {

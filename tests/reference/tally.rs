@@ -9,6 +9,9 @@ use crate::plane::{Point, LIMIT};
 use crate::scene::{Object, LINE, MOST};
 use std::collections::{BTreeMap, BTreeSet};
 
+/// The refusals that can occur.
+const NUMBERS: [u32; 18] = [1, 2, 3, 4, 5, 6, 7, 9, 10, 11, 12, 13, 14, 15, 16, 17, 22, 23];
+
 /// How often each refusal must have been met, and scenes of full size, and scenes at the limits of the range.
 const LEAST: usize = 50;
 
@@ -100,8 +103,8 @@ impl Tally {
             self.scenes, self.both_ways, self.taken, self.full_size, self.at_limit, self.questions
         );
         let times = |number| *self.refusals.get(&number).unwrap_or(&0);
-        println!("refusals: {}", (1..=17).map(|number| format!("{}: {}", number, times(number))).collect::<Vec<_>>().join("  "));
-        for number in (1..=17).filter(|number| *number != 8) {
+        println!("refusals: {}", NUMBERS.iter().map(|number| format!("{}: {}", number, times(*number))).collect::<Vec<_>>().join("  "));
+        for number in NUMBERS {
             if complete && times(number) < LEAST {
                 wrong.push(format!("refusal {number} came fewer than {LEAST} times"));
             }

@@ -3,15 +3,19 @@
 use crate::answer::{Answer, Taken};
 use crate::flags;
 use crate::listing::{self, Listing, NAMES};
-use crate::{refusals, relation, show};
+use crate::{predicate, refusals, relation, show};
 
-pub fn words(bytes: &[u8], answer: &Answer) -> String {
+/// All of it, or whether one predicate holds.
+pub fn words(bytes: &[u8], answer: &Answer, predicate: Option<&str>) -> Result<String, String> {
     let listing = listing::read(bytes);
     let answer = match answer {
-        Answer::Taken(taken) => accepted(taken),
+        Answer::Taken(taken) => match predicate {
+            None => accepted(taken),
+            Some(name) => predicate::says(name, taken).ok_or(format!("{name} is none of {}", predicate::NAMES.join(", ")))?,
+        },
         Answer::Refused { number, place } => refused(*number, *place, &listing, bytes.len()),
     };
-    format!("F: {}\nG: {}\n\n{answer}", listing.summary(0), listing.summary(1))
+    Ok(format!("F: {}\nG: {}\n\n{answer}", listing.summary(0), listing.summary(1)))
 }
 
 fn accepted(taken: &Taken) -> String {

@@ -10,6 +10,7 @@ pub mod listing;
 pub mod make;
 pub mod number;
 pub mod plane;
+pub mod predicate;
 pub mod refusals;
 pub mod relation;
 pub mod rings;

@@ -44,6 +44,7 @@ struct Options {
     at: Option<usize>,
     text: bool,
     explore: Option<PathBuf>,
+    is: Option<String>,
 }
 
 /// Each command takes some of the options.
@@ -61,6 +62,7 @@ fn options(words: &[String]) -> Result<Options, Failure> {
             }
             ("show", "--text") => options.text = true,
             ("draw" | "explain", "--explore") => options.explore = Some(value()?.into()),
+            ("explain", "--is") => options.is = Some(value()?),
             (_, option) if option.starts_with('-') && option != "-" => return Err(wrong_command(format!("{option} is no option here"))),
             (_, file) if options.file.is_none() => options.file = Some(file.to_string()),
             (_, file) => return Err(wrong_command(format!("a second file, {file}"))),
@@ -84,7 +86,10 @@ fn run(words: &[String]) -> Result<(), Failure> {
         "make" => made(&input, &options)?,
         "show" => shown(&input, &options)?.into_bytes(),
         "draw" => draw::picture(&input, &ask()).into_bytes(),
-        _ => explain::words(&input, &ask().map_err(|why| wrong_input(why + "; say where it is with --explore PATH"))?).into_bytes(),
+        _ => {
+            let answer = ask().map_err(|why| wrong_input(why + "; say where it is with --explore PATH"))?;
+            explain::words(&input, &answer, options.is.as_deref()).map_err(|why| wrong_command(format!("--is {why}")))?.into_bytes()
+        }
     };
     output(&options, &result)
 }

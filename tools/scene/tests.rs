@@ -16,7 +16,7 @@ fn all_views(bytes: &[u8]) {
     for place in [0, bytes.len() / 2, bytes.len(), bytes.len() + 1] {
         let _ = show::at(bytes, place);
         let refused = Answer::Refused { number: 13, place };
-        assert!(explain::words(bytes, &refused).contains("number 13"));
+        assert!(explain::words(bytes, &refused, Some("within")).unwrap().contains("number 13"));
         assert!(draw::picture(bytes, &Ok(refused)).ends_with("</svg>\n"));
     }
 }

@@ -28,7 +28,7 @@ use Rattle.flags.specs.Flags as F
 use Rattle.flags.specs.Flags.{Edge, Elements, outline, segmentsOf, flagsOfF, flagsOfG, pack}
 use Rattle.flags.specs.Elements.{edges, edgeOf, pointOf, pointsOf, elementsAs, elementsOf}
 use Rattle.flags_vectors.specs.declared.Vectors.{Vectors}
-use Rattle.flags_vectors.specs.Vectors.{sceneVectors}
+use Rattle.flags_vectors.specs.Vectors.{sceneVectors, givenVectors}
 use Rattle.flags_masks.specs.declared.Wanted.{Wanted}
 use Rattle.flags_masks.specs.Wanted.{masksFor}
 use Rattle.flags.proofs.Elements.{outline-edges}
@@ -37,7 +37,7 @@ use Rattle.cells.specs.declared.Explored.{Explored}
 use Rattle.cells.specs.declared.CellsAnswer.{CellsAnswer}
 use Rattle.cells_matrix.specs.Matrix.{Part, Meet, matrixOf, cellAt, transposed}
 use Rattle.cells.specs.Explored as E
-use Rattle.cells.specs.Explored.{wholeVectors, exploredIn, matrixFrom, answered, cellsAnswerOf, cellsValues, NoCellWrong}
+use Rattle.cells.specs.Explored.{exploredBy, exploredIn, matrixFrom, answered, cellsAnswerOf, cellsValues, NoCellWrong}
 use Rattle.cells_matrix.proofs.Common.{filled, filled-of}
 use Rattle.cells_matrix.proofs.RegionRegion.{Sound}
 use Rattle.cells_matrix.proofs.Theorem.{Accepted, Good, shapeOf, isEmpty, no-cell-wrong, cell-transposed, meet-swap}
@@ -121,6 +121,31 @@ module _ (s : List ℕ) where
   object-is : (l : Layout) → F.object (elementsOf s l) ≡ C.object s l
   object-is l = object-as (l .start) (l .count) (l .shape)
 
+-- ---- the matrix of two vectors of F and G
+
+abbrev pub matrixBoth : Scene → Vectors → List (List Bool)
+matrixBoth sc both = matrixOf (sc .f .shape) (sc .g .shape) (both .f) (both .g) (E.isEmpty (sc .f)) (E.isEmpty (sc .g))
+
+-- in the caller's order: turned about the diagonal exactly where the objects were exchanged
+pub given-is : (sc : Scene) → turned sc ≡ descends (givenFirst sc .shape) (givenSecond sc .shape) → (both : Vectors)
+    → matrixFrom (exploredBy sc (givenVectors sc both)) ≡ cond (turned sc) (transposed (matrixBoth sc both)) (matrixBoth sc both)
+given-is sc by-types both = go (turned sc) (sym by-types)
+  where
+    explored : Bool → Explored
+    explored t = record {
+      f = cond t (sc .g) (sc .f) .shape;
+      g = cond t (sc .f) (sc .g) .shape;
+      v = cond t (both .g) (both .f);
+      w = cond t (both .f) (both .g);
+      «f_empty» = E.isEmpty (cond t (sc .g) (sc .f));
+      «g_empty» = E.isEmpty (cond t (sc .f) (sc .g));
+    }
+
+    go : (t : Bool) → descends (cond t (sc .g) (sc .f) .shape) (cond t (sc .f) (sc .g) .shape) ≡ t
+        → matrixFrom (explored t) ≡ cond t (transposed (matrixBoth sc both)) (matrixBoth sc both)
+    go true e = rw e
+    go false e = rw e
+
 -- ---- the scene
 
 module _ (s : List ℕ) (sc : Scene) (o : SoundScene s sc) where
@@ -144,11 +169,8 @@ module _ (s : List ℕ) (sc : Scene) (o : SoundScene s sc) where
           (subst (λ (b : Shape). T (leb (shapeNumber (sc .f .shape)) (shapeNumber b))) (sym q) (le→leb (shapeNumber (sc .f .shape)) (shapeNumber (sc .g .shape)) (ascending o)))
 
   -- the matrix of F and G
-  abbrev both : Vectors
-  both = sceneVectors s sc (masksFor Wanted.All sc)
-
   abbrev pair : List (List Bool)
-  pair = matrixOf (sc .f .shape) (sc .g .shape) (both .f) (both .g) (E.isEmpty (sc .f)) (E.isEmpty (sc .g))
+  pair = matrixBoth sc (sceneVectors s sc (masksFor Wanted.All sc))
 
   pair-is : pair ≡ matrixOf (shapeOf of-f) (shapeOf of-g) (pack (flagsOfF of-f of-g)) (pack (flagsOfG of-f of-g)) (isEmpty of-f) (isEmpty of-g)
   unfolding masksFor
@@ -170,27 +192,9 @@ module _ (s : List ℕ) (sc : Scene) (o : SoundScene s sc) where
       m : List (List Bool)
       m = matrixOf (shapeOf of-f) (shapeOf of-g) (pack (flagsOfF of-f of-g)) (pack (flagsOfG of-f of-g)) (isEmpty of-f) (isEmpty of-g)
 
-  -- in the caller's order: turned about the diagonal exactly where the objects were exchanged
-  given-is : matrixFrom (exploredIn s sc) ≡ cond (turned sc) (transposed pair) pair
-  given-is = go (turned sc) (sym (o .taken .by-types))
-    where
-      explored : Bool → Explored
-      explored t = record {
-        f = cond t (sc .g) (sc .f) .shape;
-        g = cond t (sc .f) (sc .g) .shape;
-        v = cond t (both .g) (both .f);
-        w = cond t (both .f) (both .g);
-        «f_empty» = E.isEmpty (cond t (sc .g) (sc .f));
-        «g_empty» = E.isEmpty (cond t (sc .f) (sc .g));
-      }
-
-      go : (t : Bool) → descends (cond t (sc .g) (sc .f) .shape) (cond t (sc .f) (sc .g) .shape) ≡ t → matrixFrom (explored t) ≡ cond t (transposed pair) pair
-      go true e = rw e
-      go false e = rw e
-
-  cells-right : (r c : Part) → T (cellAt (matrixFrom (exploredIn s sc)) r c) ↔ Meet r (C.object s (givenFirst sc)) c (C.object s (givenSecond sc))
+  pub cells-right : (r c : Part) → T (cellAt (matrixFrom (exploredIn s sc)) r c) ↔ Meet r (C.object s (givenFirst sc)) c (C.object s (givenSecond sc))
   cells-right r c =
-      subst (λ (m : List (List Bool)). T (cellAt m r c) ↔ Meet r (C.object s (givenFirst sc)) c (C.object s (givenSecond sc))) (sym given-is) (go (turned sc))
+      subst (λ (m : List (List Bool)). T (cellAt m r c) ↔ Meet r (C.object s (givenFirst sc)) c (C.object s (givenSecond sc))) (sym (given-is sc (o .taken .by-types) (sceneVectors s sc (masksFor Wanted.All sc)))) (go (turned sc))
     where
       go : (t : Bool) → T (cellAt (cond t (transposed pair) pair) r c) ↔ Meet r (C.object s (cond t (sc .g) (sc .f))) c (C.object s (cond t (sc .f) (sc .g)))
       go true =
@@ -213,11 +217,7 @@ as-explored s k e {x} q =
     let p : x ≡ cellsAnswerOf s = q ∙ ap (answered s) (sym e) in
     (p, subst (λ (x : CellsAnswer). NoCellWrong s (cellsValues x .cells)) (sym p) (scene-cells s), checked-means s)
 
--- a scene that is taken, from its parts
-module _ (s : List ℕ) (sc : Scene) where
-  abbrev exploredBy : Layout → Layout → Vectors → Explored
-  exploredBy first second both =
-      record { f = first .shape; g = second .shape; v = both .f; w = both .g; «f_empty» = E.isEmpty first; «g_empty» = E.isEmpty second }
-
-  pub taken-by : {first second : Layout} {both : Vectors} → first ≡ givenFirst sc → second ≡ givenSecond sc → both ≡ wholeVectors s sc → exploredBy first second both ≡ exploredIn s sc
-  taken-by a b v = λ i. exploredBy (a i) (b i) (v i)
+-- a scene with two vectors, from its parts
+pub explored-by : (sc : Scene) (both : Vectors) {first second : Layout} → first ≡ givenFirst sc → second ≡ givenSecond sc
+    → record { f = first .shape; g = second .shape; v = both .f; w = both .g; «f_empty» = E.isEmpty first; «g_empty» = E.isEmpty second } ≡ exploredBy sc both
+explored-by sc both a b = λ i. record { f = a i .shape; g = b i .shape; v = both .f; w = both .g; «f_empty» = E.isEmpty (a i); «g_empty» = E.isEmpty (b i) }

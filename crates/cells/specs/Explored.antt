@@ -21,21 +21,25 @@ use Rattle.cells_matrix.specs.Matrix.{Part, Meet, matrixGiven, noCells, cellAt}
 abbrev pub isEmpty : Layout → Bool
 isEmpty l = eqb (l .count) 0
 
--- "its two vectors are those of demand 2 with every flag of the type pair wanted"; "in the caller's order"
+-- a scene with two vectors; "in the caller's order"
+abbrev pub exploredBy : Scene → Vectors → Explored
+exploredBy sc both =
+    record {
+      f = givenFirst sc .shape;
+      g = givenSecond sc .shape;
+      v = both .f;
+      w = both .g;
+      «f_empty» = isEmpty (givenFirst sc);
+      «g_empty» = isEmpty (givenSecond sc);
+    }
+
+-- "its two vectors are those of demand 2 with every flag of the type pair wanted"
 module _ (s : List ℕ) (sc : Scene) where
   abbrev pub wholeVectors : Vectors
   wholeVectors = vectorsIn s sc Wanted.All
 
   abbrev pub exploredIn : Explored
-  exploredIn =
-      record {
-        f = givenFirst sc .shape;
-        g = givenSecond sc .shape;
-        v = wholeVectors .f;
-        w = wholeVectors .g;
-        «f_empty» = isEmpty (givenFirst sc);
-        «g_empty» = isEmpty (givenSecond sc);
-      }
+  exploredIn = exploredBy sc wholeVectors
 
 -- the matrix of what was explored: from the two vectors, the two types and emptiness alone
 abbrev pub matrixFrom : Explored → List (List Bool)

@@ -9,15 +9,13 @@ use flags_vectors::question;
 use scene::Scene;
 use scene::order;
 ghost use mathlib.Core.Path.{_≡_};
-ghost use mathlib.Core.List.{List};
-ghost use Prim.Native.Nat.{ℕ};
 ghost use Rattle.scene.specs.Conditions.{checkScene};
 ghost use Rattle.check_verdict.specs.SharedPoints.{CheckedMeans};
-ghost use Rattle.cells.specs.Explored.{wholeVectors, exploredIn, cellsAnswerOf, cellsValues, NoCellWrong};
+ghost use Rattle.cells.specs.Explored.{exploredBy, cellsAnswerOf, cellsValues, NoCellWrong};
 
-// A scene that is taken, with the two vectors that have every flag wanted.
-fn taken(scene: Scene, both: Vectors) -> Explored
-    ensures { λ r. ⌜ ((s : List ℕ) → both ≡ wholeVectors s scene → r ≡ exploredIn s scene) ⌝ }
+// A scene that is taken, with two vectors of it.
+pub fn explored(scene: Scene, both: Vectors) -> Explored
+    ensures { λ r. ⌜ r ≡ exploredBy scene both ⌝ }
 {
     let first = order::given_first(scene);
     let second = order::given_second(scene);
@@ -41,7 +39,7 @@ pub fn explore(s: &[u8]) -> CellsAnswer
 {
     match question::answer(s, Wanted::All) {
         SceneAnswer::Refused(r) => CellsAnswer::Refused(r),
-        SceneAnswer::Taken { scene, vectors } => CellsAnswer::Taken(taken(scene, vectors)),
+        SceneAnswer::Taken { scene, vectors } => CellsAnswer::Taken(explored(scene, vectors)),
     }
 }
 

@@ -1,11 +1,13 @@
-// The wanted masks: which flags each pair of types has, which of them are wanted, and whether a wanted bit has no flag.
+// The wanted masks: which flags each pair of types has, which of them are wanted, and whether a wanted bit has no flag; and the flags that a cell of the matrix is read off.
 use scene::Scene;
 use scene::Shape;
 use scene::order;
 use scene::records;
 ghost use mathlib.Core.Path.{_≡_};
+ghost use mathlib.Core.Bool.{cond};
+ghost use Prim.Native.Nat.{_<_};
 ghost use Rattle.scene.specs.Read.{shapeNumber};
-ghost use Rattle.flags_masks.specs.Wanted.{maskOfF, maskOfG, masksFor, hasStray, anyStray};
+ghost use Rattle.flags_masks.specs.Wanted.{maskOfF, maskOfG, cellPlace, cellMasksOf, masksFor, hasStray, anyStray};
 
 // A mask for each object, a bit for each flag.
 pub struct FlagMasks {
@@ -13,10 +15,12 @@ pub struct FlagMasks {
     pub g: u16,
 }
 
-// What is wanted of a scene: the flags of two masks, or all that its pair of types has.
+// What is wanted of a scene: the flags of two masks, all that its pair of types has, or those that some of the nine cells are read off. Cells are a bit each, row
+// by row, in the caller's order.
 pub enum Wanted {
     These(FlagMasks),
     All,
+    Cells(u16),
 }
 
 // The flags that each pair has: a row for each type of F, a column for each type of G. F's type is never above G's.
@@ -46,6 +50,165 @@ pub fn masks_of(f: Shape, g: Shape) -> FlagMasks
     FLAG_MASKS[row][column]
 }
 
+// The flags that each cell is read off: a row for each pair of types, and in it the nine cells row by row.
+const CELL_MASKS: [[FlagMasks; 9]; 9] = [
+    [
+        FlagMasks { f: 2, g: 0 },
+        FlagMasks { f: 0, g: 0 },
+        FlagMasks { f: 1, g: 0 },
+        FlagMasks { f: 0, g: 0 },
+        FlagMasks { f: 0, g: 0 },
+        FlagMasks { f: 0, g: 0 },
+        FlagMasks { f: 0, g: 1 },
+        FlagMasks { f: 0, g: 0 },
+        FlagMasks { f: 0, g: 0 },
+    ],
+    [
+        FlagMasks { f: 2, g: 0 },
+        FlagMasks { f: 4, g: 0 },
+        FlagMasks { f: 1, g: 0 },
+        FlagMasks { f: 0, g: 0 },
+        FlagMasks { f: 0, g: 0 },
+        FlagMasks { f: 0, g: 0 },
+        FlagMasks { f: 0, g: 0 },
+        FlagMasks { f: 0, g: 1 },
+        FlagMasks { f: 0, g: 0 },
+    ],
+    [
+        FlagMasks { f: 1, g: 0 },
+        FlagMasks { f: 2, g: 0 },
+        FlagMasks { f: 4, g: 0 },
+        FlagMasks { f: 0, g: 0 },
+        FlagMasks { f: 0, g: 0 },
+        FlagMasks { f: 0, g: 0 },
+        FlagMasks { f: 0, g: 0 },
+        FlagMasks { f: 0, g: 0 },
+        FlagMasks { f: 0, g: 0 },
+    ],
+    [
+        FlagMasks { f: 0, g: 0 },
+        FlagMasks { f: 0, g: 0 },
+        FlagMasks { f: 0, g: 0 },
+        FlagMasks { f: 0, g: 0 },
+        FlagMasks { f: 0, g: 0 },
+        FlagMasks { f: 0, g: 0 },
+        FlagMasks { f: 0, g: 0 },
+        FlagMasks { f: 0, g: 0 },
+        FlagMasks { f: 0, g: 0 },
+    ],
+    [
+        FlagMasks { f: 3, g: 0 },
+        FlagMasks { f: 0, g: 2 },
+        FlagMasks { f: 4, g: 0 },
+        FlagMasks { f: 8, g: 0 },
+        FlagMasks { f: 16, g: 0 },
+        FlagMasks { f: 32, g: 0 },
+        FlagMasks { f: 0, g: 1 },
+        FlagMasks { f: 0, g: 4 },
+        FlagMasks { f: 0, g: 0 },
+    ],
+    [
+        FlagMasks { f: 1, g: 0 },
+        FlagMasks { f: 10, g: 0 },
+        FlagMasks { f: 4, g: 0 },
+        FlagMasks { f: 16, g: 0 },
+        FlagMasks { f: 32, g: 0 },
+        FlagMasks { f: 64, g: 0 },
+        FlagMasks { f: 0, g: 0 },
+        FlagMasks { f: 0, g: 1 },
+        FlagMasks { f: 0, g: 0 },
+    ],
+    [
+        FlagMasks { f: 0, g: 0 },
+        FlagMasks { f: 0, g: 0 },
+        FlagMasks { f: 0, g: 0 },
+        FlagMasks { f: 0, g: 0 },
+        FlagMasks { f: 0, g: 0 },
+        FlagMasks { f: 0, g: 0 },
+        FlagMasks { f: 0, g: 0 },
+        FlagMasks { f: 0, g: 0 },
+        FlagMasks { f: 0, g: 0 },
+    ],
+    [
+        FlagMasks { f: 0, g: 0 },
+        FlagMasks { f: 0, g: 0 },
+        FlagMasks { f: 0, g: 0 },
+        FlagMasks { f: 0, g: 0 },
+        FlagMasks { f: 0, g: 0 },
+        FlagMasks { f: 0, g: 0 },
+        FlagMasks { f: 0, g: 0 },
+        FlagMasks { f: 0, g: 0 },
+        FlagMasks { f: 0, g: 0 },
+    ],
+    [
+        FlagMasks { f: 60, g: 12 },
+        FlagMasks { f: 0, g: 12 },
+        FlagMasks { f: 67, g: 12 },
+        FlagMasks { f: 12, g: 0 },
+        FlagMasks { f: 240, g: 0 },
+        FlagMasks { f: 3, g: 0 },
+        FlagMasks { f: 76, g: 3 },
+        FlagMasks { f: 0, g: 3 },
+        FlagMasks { f: 0, g: 0 },
+    ],
+];
+
+// Where a cell of the caller's stands in the row of its pair: with the objects exchanged, rows are columns.
+fn cell_place(scene: Scene, at: usize) -> usize
+    requires { ⌜ at < 9 ⌝ }
+    ensures { λ r. ⌜ (r ≡ cellPlace scene at) × (r < 9) ⌝ }
+{
+    if order::is_turned(scene) {
+        at % 3 * 3 + at / 3
+    } else {
+        at
+    }
+}
+
+fn cell_masks(scene: Scene, at: usize) -> FlagMasks
+    requires { ⌜ at < 9 ⌝ }
+    ensures { λ r. ⌜ (r .f ≡ cellMasksOf scene at .0) × (r .g ≡ cellMasksOf scene at .1) ⌝ }
+{
+    let f = scene.f;
+    let g = scene.g;
+    let of_f = f.shape;
+    let of_g = g.shape;
+    let row = (records::shape_number(of_f) - 1) as usize * 3
+        + (records::shape_number(of_g) - 1) as usize;
+    let column = cell_place(scene, at);
+    CELL_MASKS[row][column]
+}
+
+// The flags that the cell at a place is read off, if it is one of the cells that are asked.
+fn wanted_for(scene: Scene, asked: bool, at: usize) -> FlagMasks
+    requires { ⌜ at < 9 ⌝ }
+    ensures { λ r. ⌜ (r .f ≡ cond asked (cellMasksOf scene at .0) 0) × (r .g ≡ cond asked (cellMasksOf scene at .1) 0) ⌝ }
+{
+    if asked {
+        cell_masks(scene, at)
+    } else {
+        FlagMasks { f: 0, g: 0 }
+    }
+}
+
+// The flags that some cells are read off.
+fn masks_of_cells(cells: u16, scene: Scene) -> FlagMasks
+    ensures { λ r. ⌜ r ≡ masksFor (Wanted.Cells cells) scene ⌝ }
+{
+    let mut f: u16 = 0;
+    let mut g: u16 = 0;
+    let mut rest = cells;
+    let mut at: usize = 0;
+    while at < 9 {
+        let masks = wanted_for(scene, rest % 2 == 1, at);
+        f = f | masks.f;
+        g = g | masks.g;
+        rest = rest / 2;
+        at += 1;
+    }
+    FlagMasks { f, g }
+}
+
 // Two masks in the caller's order, as those of F and of G.
 fn arranged(masks: FlagMasks, scene: Scene) -> FlagMasks
     ensures { λ r. ⌜ r ≡ masksFor (Wanted.These masks) scene ⌝ }
@@ -71,6 +234,7 @@ pub fn masks_for(wanted: Wanted, scene: Scene) -> FlagMasks
     match wanted {
         Wanted::These(masks) => arranged(masks, scene),
         Wanted::All => masks_of(of_f, of_g),
+        Wanted::Cells(cells) => masks_of_cells(cells, scene),
     }
 }
 

@@ -90,38 +90,40 @@ module _ (s : List ℕ) (sc : Scene) (is : IsScene s sc) where
       unfolding answerOf
       taken g e = ap (SceneAnswer.Taken sc) e ∙ rw (check-read (rule 9 (strayWanted wanted) ∷ []) [] s sc is, tidy, g)
 
--- ---- all flags wanted: 9 asks nothing
+-- ---- where 9 finds nothing, whatever the scene
 
-tidy-all : (sc : Scene) → strayIn sc (masksFor Wanted.All sc) ≡ false
+-- as of all flags of the pair
+pub all-tidy : (sc : Scene) → strayIn sc (masksFor Wanted.All sc) ≡ false
 unfolding masksFor
-tidy-all sc = none-stray (sc .f .shape) (sc .g .shape)
+all-tidy sc = none-stray (sc .f .shape) (sc .g .shape)
 
-pub all-wanted : (s : List ℕ) → checkVectors s Wanted.All ≡ checkScene s
-unfolding checkScene
-all-wanted s = go (readScene s) refl
-  where
-    go : (k : CheckedScene) → readScene s ≡ k → checkVectors s Wanted.All ≡ checkSceneBy (sceneRules [] []) s
-    go (CheckedScene.Refused r) e = check-refused (vectorsRules Wanted.All) s r e ∙ sym (check-refused (sceneRules [] []) s r e)
-    go (CheckedScene.Taken sc) e = rw (check-read (rule 9 (strayWanted Wanted.All) ∷ []) [] s sc e, check-read [] [] s sc e, tidy-all sc)
-
-module _ (s : List ℕ) {a : SceneAnswer} (is : a ≡ answerOf s Wanted.All) where
-  by-check : a ≡ answered s Wanted.All (checkScene s)
-  unfolding answerOf
-  by-check = is ∙ ap (answered s Wanted.All) (all-wanted s)
-
-  pub all-refused : (r : Refusal) → a ≡ SceneAnswer.Refused r → checkScene s ≡ CheckedScene.Refused r
-  all-refused r e = go (checkScene s) (sym by-check ∙ e)
+module _ (wanted : Wanted) (tidy : (sc : Scene) → strayIn sc (masksFor wanted sc) ≡ false) (s : List ℕ) where
+  pub never-nine : checkVectors s wanted ≡ checkScene s
+  unfolding checkScene
+  never-nine = go (readScene s) refl
     where
-      go : (k : CheckedScene) → answered s Wanted.All k ≡ SceneAnswer.Refused r → k ≡ CheckedScene.Refused r
-      go (CheckedScene.Refused q) h = let x : q ≡ r = cc in ap CheckedScene.Refused x
-      go (CheckedScene.Taken sc) h = absurd (let x : _≡_ {A = ℕ} 0 1 = cc in omega arith)
+      go : (k : CheckedScene) → readScene s ≡ k → checkVectors s wanted ≡ checkSceneBy (sceneRules [] []) s
+      go (CheckedScene.Refused r) e = check-refused (vectorsRules wanted) s r e ∙ sym (check-refused (sceneRules [] []) s r e)
+      go (CheckedScene.Taken sc) e = rw (check-read (rule 9 (strayWanted wanted) ∷ []) [] s sc e, check-read [] [] s sc e, tidy sc)
 
-  pub all-taken : (sc : Scene) (v : Vectors) → a ≡ SceneAnswer.Taken sc v → (checkScene s ≡ CheckedScene.Taken sc) × (v ≡ vectorsIn s sc Wanted.All)
-  all-taken sc v e = go (checkScene s) (sym by-check ∙ e)
-    where
-      go : (k : CheckedScene) → answered s Wanted.All k ≡ SceneAnswer.Taken sc v → (k ≡ CheckedScene.Taken sc) × (v ≡ vectorsIn s sc Wanted.All)
-      go (CheckedScene.Refused q) h = absurd (let x : _≡_ {A = ℕ} 0 1 = cc in omega arith)
-      go (CheckedScene.Taken k) h =
-          let x : k ≡ sc = cc in
-          let y : vectorsIn s k Wanted.All ≡ v = cc in
-          (ap CheckedScene.Taken x, sym y ∙ ap (λ (k : Scene). vectorsIn s k Wanted.All) x)
+  module _ {a : SceneAnswer} (is : a ≡ answerOf s wanted) where
+    by-check : a ≡ answered s wanted (checkScene s)
+    unfolding answerOf
+    by-check = is ∙ ap (answered s wanted) never-nine
+
+    pub was-refused : (r : Refusal) → a ≡ SceneAnswer.Refused r → checkScene s ≡ CheckedScene.Refused r
+    was-refused r e = go (checkScene s) (sym by-check ∙ e)
+      where
+        go : (k : CheckedScene) → answered s wanted k ≡ SceneAnswer.Refused r → k ≡ CheckedScene.Refused r
+        go (CheckedScene.Refused q) h = let x : q ≡ r = cc in ap CheckedScene.Refused x
+        go (CheckedScene.Taken sc) h = absurd (let x : _≡_ {A = ℕ} 0 1 = cc in omega arith)
+
+    pub was-taken : (sc : Scene) (v : Vectors) → a ≡ SceneAnswer.Taken sc v → (checkScene s ≡ CheckedScene.Taken sc) × (v ≡ vectorsIn s sc wanted)
+    was-taken sc v e = go (checkScene s) (sym by-check ∙ e)
+      where
+        go : (k : CheckedScene) → answered s wanted k ≡ SceneAnswer.Taken sc v → (k ≡ CheckedScene.Taken sc) × (v ≡ vectorsIn s sc wanted)
+        go (CheckedScene.Refused q) h = absurd (let x : _≡_ {A = ℕ} 0 1 = cc in omega arith)
+        go (CheckedScene.Taken k) h =
+            let x : k ≡ sc = cc in
+            let y : vectorsIn s k wanted ≡ v = cc in
+            (ap CheckedScene.Taken x, sym y ∙ ap (λ (k : Scene). vectorsIn s k wanted) x)

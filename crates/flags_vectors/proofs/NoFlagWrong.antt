@@ -25,7 +25,7 @@ use Rattle.flags_masks.specs.Wanted.{masksFor, only, vectorOfF, vectorOfG}
 use Rattle.flags_masks.proofs.Masks.{vector-F, vector-G, masked-f, masked-g}
 use Rattle.flags_vectors.specs.declared.VectorsAnswer.{VectorsAnswer}
 use Rattle.flags_vectors.specs.Vectors.{vectorsIn, strayWanted, vectorsRules, these, checkVectors, answered, answerOf, vectorsAlone, vectorsOf, vectorsValues, FlagsRight, sentencesOfFirst, sentencesOfSecond, NoFlagWrong, MaskedFromAll}
-use Rattle.flags_vectors.proofs.Answered.{all-wanted}
+use Rattle.flags_vectors.proofs.Answered.{all-tidy, never-nine}
 
 module _ (F G : Elements) (want : ℕ) where
   right-f : FlagsRight want (sentencesOfF F G) (vectorOfF F G want)
@@ -89,7 +89,7 @@ without-nine s wanted sc e = by-reading (readScene s) refl
 
 pub masked-from-all : (s : List ℕ) (masks : FlagMasks) → MaskedFromAll s masks
 unfolding masksFor
-masked-from-all s masks sc e = (all-wanted s ∙ without-nine s (Wanted.These masks) sc e, go (turned sc) .0, go (turned sc) .1)
+masked-from-all s masks sc e = (never-nine Wanted.All all-tidy s ∙ without-nine s (Wanted.These masks) sc e, go (turned sc) .0, go (turned sc) .1)
   where
     F : Elements
     F = elementsOf s (sc .f)

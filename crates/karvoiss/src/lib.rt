@@ -1,5 +1,6 @@
 // What C programs call: every function is total, keeps no state and allocates nothing. include/karvoiss.h is for those who call them.
 use cells::CellsAnswer;
+use cells_pattern::RelateAnswer;
 use flags_vectors::VectorsAnswer;
 use flags_vectors::question;
 ghost use mathlib.Core.Path.{_≡_};
@@ -8,9 +9,10 @@ ghost use Rattle.flags_vectors.specs.Vectors.{these, checkVectors, vectorsOf, N
 ghost use Rattle.scene.specs.Conditions.{checkScene};
 ghost use Rattle.cells.specs.Explored.{cellsAnswerOf, NoCellWrong};
 ghost use lib.ListN.{length};
+ghost use Rattle.cells_pattern.specs.Related.{checkRelate, relateOf, NoPatternWrong};
 ghost use Rattle.overlap.specs.Rules.{checkList};
 ghost use Rattle.overlap.specs.Overlap.{overlapOf, bufferAfter};
-ghost use Rattle.karvoiss.specs.Answer.{vectorsForC, cellsForC, overlapForC};
+ghost use Rattle.karvoiss.specs.Answer.{vectorsForC, cellsForC, relateForC, overlapForC};
 
 #[repr(C)]
 pub struct KarvoissVectors {
@@ -73,6 +75,36 @@ pub extern "C" fn karvoiss_cells(scene: &[u8]) -> KarvoissCells
     match answer {
         CellsAnswer::Taken(_) => handed(0, 0, matrix),
         CellsAnswer::Refused(r) => handed(r.number as u32, r.place, matrix),
+    }
+}
+
+#[repr(C)]
+pub struct KarvoissRelate {
+    pub number: u32,
+    pub place: usize,
+    pub holds: bool,
+}
+
+fn related(number: u32, place: usize, holds: bool) -> KarvoissRelate
+    ensures { λ r. ⌜ r ≡ record { number = number; place = place; holds = holds } ⌝ }
+{
+    KarvoissRelate {
+        number,
+        place,
+        holds,
+    }
+}
+
+// The pattern question: for every two byte strings the whole answer; it is not wrong in points; and what the verdict says in points.
+#[no_mangle]
+pub extern "C" fn karvoiss_relate(scene: &[u8], pattern: &[u8]) -> KarvoissRelate
+    ensures { λ r. ⌜ (r ≡ relateForC (relateOf (now (scene .entry)) (now (pattern .entry))))
+        × NoPatternWrong (now (scene .entry)) (now (pattern .entry)) (r .holds)
+        × CheckedMeans (now (scene .entry)) (checkRelate (now (scene .entry)) (now (pattern .entry))) ⌝ }
+{
+    match cells_pattern::question::relate(scene, pattern) {
+        RelateAnswer::Taken(holds) => related(0, 0, holds),
+        RelateAnswer::Refused(r) => related(r.number as u32, r.place, false),
     }
 }
 

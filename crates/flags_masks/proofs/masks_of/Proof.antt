@@ -1,34 +1,14 @@
 -- `flags_masks::masks_of` meets its contract: the table of the code is that of the definition, entry by entry.
-use Prim.Native.Nat.{ℕ, zero, suc, _-_, _≤_}
+use Prim.Native.Nat.{_-_}
 use native.Mathlib.Omega.{arith}
-use mathlib.Core.Path.{_≡_, refl, ap, _∙_}
-use mathlib.Core.List.{List, [], _∷_, map}
-use lib.ListN.{getD}
+use mathlib.Core.Path.{ap}
 use borrow.Author.Needs.{needs}
 use Rattle.scene.specs.Read.{shapeNumber}
-use Rattle.scene.specs.declared.Shape.the-variants.{Points, Line, Region}
-use Rattle.scene.specs.declared.Shape.{Shape}
 use Rattle.flags_masks.specs.Wanted.{flagMasks}
+use Rattle.flags_masks.proofs.Tables.{numbered, entry}
 use Rattle.flags_masks.specs.declared.FlagMasks.{FlagMasks}
 use Rattle.flags_masks.proofs.masks_of.Statement.{statement}
 use Rattle.flags_masks.proofs.masks_of.Tie as tie
-
-numbered : (k : Shape) → (1 ≤ shapeNumber k) × (shapeNumber k ≤ 3)
-numbered Points = (omega arith, omega arith)
-numbered Line = (omega arith, omega arith)
-numbered Region = (omega arith, omega arith)
-
--- an entry as the code has it
-abbrev entryOf : ℕ × ℕ → FlagMasks
-entryOf p = record { f = p .0; g = p .1 }
-
-getD-map : {A B : Type 0} (f : A → B) (l : List A) (i : ℕ) (d : A) → getD (map f l) i (f d) ≡ f (getD l i d)
-getD-map f [] i d = refl
-getD-map f (a ∷ l) zero d = refl
-getD-map f (a ∷ l) (suc i) d = getD-map f l i d
-
-entry : (i j : ℕ) → getD (getD (map (map entryOf) flagMasks) i []) j (entryOf (0, 0)) ≡ entryOf (getD (getD flagMasks i []) j (0, 0))
-entry i j = ap (λ r. getD r j (entryOf (0, 0))) (getD-map (map entryOf) flagMasks i []) ∙ getD-map entryOf (getD flagMasks i []) j (0, 0)
 
 shape-number-requires : tie.Need-shape-number-requires
 shape-number-requires c κs = search needs
@@ -63,7 +43,7 @@ index-2-result c = omega (arith, c .shape-number2 .ensures, numbered (c .before 
 returns : tie.Need-returns
 returns c =
     let z = c .before .before .before .args in
-    let e = entry (shapeNumber (z .f) - 1) (shapeNumber (z .g) - 1) in
+    let e = entry flagMasks (shapeNumber (z .f) - 1) (shapeNumber (z .g) - 1) in
     rw (c .before .before .shape-number .ensures, c .before .shape-number2 .ensures) (ap (λ (m : FlagMasks). m .f) e, ap (λ (m : FlagMasks). m .g) e)
 
 pub masks-of-spec : {M : Type 1} → statement M
