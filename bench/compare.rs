@@ -1,11 +1,12 @@
-//! The peer's nine cells against ours, scene by scene. Every difference must be one that the known fault of that version of GEOS predicts for just
-//! this scene; docs/BENCH.md describes the fault.
+//! The peer's nine cells against ours, scene by scene, with what each extends to. Every difference must be one that the known fault of that version of GEOS
+//! predicts for just this scene; docs/BENCH.md describes the fault.
 
-use crate::cells::Matrix;
+use crate::cells::{signs, Matrix};
 use crate::flags::line_boundary;
 use crate::geos::{bench_geos_from_bytes, Geos, Parts};
 use crate::library;
 use crate::maker::{full, small};
+use crate::pieces::Extent;
 use crate::plane::{inside, Fraction, Point};
 use crate::random::Random;
 use crate::rows::{self, EITHER_ORDER};
@@ -46,13 +47,14 @@ pub fn run(geos: &Geos) -> bool {
 
 fn one(geos: &Geos, version: &str, name: &str, bytes: &[u8], tally: &mut Tally) {
     let (f, g) = read_scene(bytes).expect("the maker writes scenes");
-    let ours = library::cells(bytes).expect("cells are 0 or 1");
+    let ours = library::cells(bytes).expect("cells have one of four signs");
     assert_eq!(ours.number, 0, "{name} is refused");
     let its = bench_geos_from_bytes(geos, bytes, &[Parts::of(&f), Parts::of(&g)]);
     let predicted = with_fault(version, &f, &g, &ours.cell);
     if its != Some(predicted) {
         tally.unexplained += 1;
-        eprintln!("{version} on {name}: {its:?}, predicted {predicted:?}, ours {:?}", ours.cell);
+        let its = its.map_or("none".to_string(), |its| signs(&its));
+        eprintln!("{version} on {name}: {its}, predicted {}, ours {}", signs(&predicted), signs(&ours.cell));
     } else if predicted == ours.cell {
         tally.agree += 1;
     } else {
@@ -64,8 +66,12 @@ fn one(geos: &Geos, version: &str, name: &str, bytes: &[u8], tally: &mut Tally) 
 fn with_fault(version: &str, f: &Object, g: &Object, right: &Matrix) -> Matrix {
     let mut cells = *right;
     if version.starts_with("3.13") {
-        cells[1][2] &= !skips_boundary(f, g);
-        cells[2][1] &= !skips_boundary(g, f);
+        if skips_boundary(f, g) {
+            cells[1][2] = Extent::Empty;
+        }
+        if skips_boundary(g, f) {
+            cells[2][1] = Extent::Empty;
+        }
     }
     cells
 }

@@ -1,7 +1,7 @@
 //! GEOS, through its C interface: a scene's objects built from the scene's bytes, tested for validity, and related under its own boundary rule, the
 //! OGC's of odd counts, which is document 02's boundary of a line if each segment is a part of its own.
 
-use crate::cells::Matrix;
+use crate::cells::{of_signs, Matrix};
 use crate::plane::{Point, Segment};
 use crate::scene::{Object, LINE, POINTS};
 use companion::plane as outline;
@@ -145,16 +145,15 @@ impl<'a> Pair<'a> {
         [self.f, self.g].iter().all(|geometry| unsafe { GEOSisValid_r(self.geos.0, *geometry) } == 1)
     }
 
-    /// The nine cells, or none if GEOS raised an exception.
+    /// The nine cells with what each extends to, or none if GEOS raised an exception.
     pub fn relate(&self) -> Option<Matrix> {
         let text = unsafe { GEOSRelate_r(self.geos.0, self.f, self.g) };
         if text as *const c_char == null() {
             return None;
         }
-        let cells = unsafe { std::slice::from_raw_parts(text as *const u8, 9) };
-        let matrix = std::array::from_fn(|row| std::array::from_fn(|column| cells[3 * row + column] != b'F'));
+        let matrix = of_signs(unsafe { &*(text as *const [u8; 9]) });
         unsafe { GEOSFree_r(self.geos.0, text as *mut c_void) };
-        Some(matrix)
+        matrix
     }
 }
 

@@ -1,5 +1,6 @@
 /* Asks how a line and a square lie to each other, once with the line first and
- * once with the square first, and prints the flags by name and the nine cells.
+ * once with the square first, and prints the flags by name and the nine cells:
+ * F for none, 0 for points, 1 for a length, 2 for an area.
  * The line is (2,2)-(4,2); the square is 0..4, its right side split at (4,2),
  * where the line ends on it. */
 #include "karvoiss.h"
@@ -127,7 +128,7 @@ static int ask(const struct object *f, const struct object *g)
 
     karvoiss_cells_t c = karvoiss_cells(scene, length);
     for (int r = 0; r < 3; r++)
-        printf("%s %d %d %d\n", parts[r], c.cell[r][0], c.cell[r][1], c.cell[r][2]);
+        printf("%s %c %c %c\n", parts[r], c.cell[r][0], c.cell[r][1], c.cell[r][2]);
     return 0;
 }
 

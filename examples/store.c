@@ -158,6 +158,7 @@ static bool fill(FILE *file)
     static const struct segment ditch[] = {{6, 0, 6, 5, 0}};
     static const struct segment field[] = {{0, 0, 4, 0, 1}, {0, 0, 0, 4, 0}, {0, 4, 4, 4, 0}, {4, 0, 4, 2, 1}, {4, 2, 4, 4, 1}};
     static const struct segment yard[] = {{4, 0, 8, 0, 1}, {4, 0, 4, 2, 0}, {4, 2, 8, 2, 0}, {8, 0, 8, 2, 1}};
+    static const struct segment plot[] = {{3, 6, 4, 4, 1}, {4, 4, 5, 6, 1}, {3, 6, 5, 6, 0}};
     static struct object o;
     bool good = true;
 
@@ -170,6 +171,8 @@ static bool fill(FILE *file)
     make_shape(&o, "ditch", LINE, ditch, 1);
     good &= save(file, &o);
     make_shape(&o, "yard", REGION, yard, 4);
+    good &= save(file, &o);
+    make_shape(&o, "plot", REGION, plot, 3);
     good &= save(file, &o);
     make_points(&o, "lost", far_away, 1);
     good &= save(file, &o);
@@ -212,27 +215,35 @@ static struct both all_flags(const struct object *f, const struct object *g)
     return of_types[type_of(f)][type_of(g)];
 }
 
-/* "Do they touch?" as OGC has it: one of three patterns holds. Each call checks the
- * scene and then looks only for what its pattern needs. */
-static bool touches(const uint8_t *scene, size_t length)
+/* "Do they touch?" as OGC has it: one of three patterns holds, with T for any way to
+ * touch, or with 1 for a stretch in common. Each call checks the scene and then looks
+ * only for what its pattern needs. */
+static bool touches(const uint8_t *scene, size_t length, uint8_t how)
 {
-    static const char *const patterns[] = {"FT*******", "F**T*****", "F***T****"};
+    static const int places[] = {1, 3, 4};
     bool any = false;
 
-    for (int i = 0; i < 3; i++)
-        any = any || karvoiss_relate(scene, length, (const uint8_t *)patterns[i], 9).holds;
+    for (int i = 0; i < 3; i++) {
+        uint8_t pattern[9] = {'F', '*', '*', '*', '*', '*', '*', '*', '*'};
+
+        pattern[places[i]] = how;
+        any = any || karvoiss_relate(scene, length, pattern, 9).holds;
+    }
     return any;
 }
 
 struct answer {
     karvoiss_vectors_t v;
     karvoiss_cells_t m;
-    bool touches;
+    bool touches, share_stretch;
 };
 
+/* A cell that is 'F' is empty. */
 static const char *in_a_word(const struct answer *a)
 {
-    return a->m.cell[0][0] ? "the interiors meet" : a->touches ? "they touch" : "apart";
+    if (a->m.cell[0][0] != 'F')
+        return "the interiors meet";
+    return a->share_stretch ? "they share a stretch" : a->touches ? "they share points" : "apart";
 }
 
 /* Either type may come first: the answer is in the order of the two objects. */
@@ -245,7 +256,7 @@ static struct answer ask(const struct object *f, const struct object *g)
     memcpy(scene, f->bytes, f->length);
     memcpy(scene + f->length, g->bytes, g->length);
     return (struct answer){karvoiss_vectors(scene, length, all.f, all.g), karvoiss_cells(scene, length),
-                           touches(scene, length)};
+                           touches(scene, length, 'T'), touches(scene, length, '1')};
 }
 
 static void print_pair(const struct object *f, const struct object *g, const struct answer *a)
@@ -257,7 +268,7 @@ static void print_pair(const struct object *f, const struct object *g, const str
     printf("%-6s %-6s %3u %3u  ", f->name, g->name, (unsigned)a->v.f, (unsigned)a->v.g);
     for (int row = 0; row < 3; row++)
         for (int column = 0; column < 3; column++)
-            putchar(a->m.cell[row][column] ? '1' : '0');
+            putchar(a->m.cell[row][column]);
     printf("  %s\n", in_a_word(a));
 }
 

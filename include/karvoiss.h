@@ -36,7 +36,7 @@
  * Refusals
  * --------
  * Every result has a number and a place. Number 0: the scene was taken. Any
- * other number: it was turned away, every other result is 0 or false, and
+ * other number: it was turned away, every other result is 0, but each cell 'F', and
  * `place` is a byte offset in the scene as it was passed: the record at fault, the
  * earliest if several. Of a pair of records it is the earlier one, but for 10 the
  * later; so for 15 it is F's, the object's that comes first. For 23 it is a
@@ -61,7 +61,7 @@
  *  17  the buffer is shorter than the count (place 0; karvoiss_overlap only)
  *
  *  22  the pattern has not nine characters (place 0; karvoiss_relate only)
- *  23  a character of the pattern is none of T, F, *: the position of the first
+ *  23  a character is none of T, F, *, 0, 1, 2: the position of the first
  *      such, from 0 (karvoiss_relate only)
  *
  * 1 to 7 are found record by record; then 9 to 23 in this order, each over the
@@ -160,14 +160,33 @@ typedef struct {
 karvoiss_vectors_t karvoiss_vectors(const uint8_t *scene, size_t length,
                                     uint16_t want_f, uint16_t want_g);
 
-/* The nine-intersection matrix: cell[r][c] is true exactly if some point lies in
- * part r of F and part c of G. Parts: 0 interior, 1 boundary, 2 exterior. With F
- * and G exchanged, cell[r][c] is what cell[c][r] was.
+/* The nine-intersection matrix: cell[r][c] says what the points amount to that lie
+ * in part r of F and in part c of G. Parts: 0 interior, 1 boundary, 2 exterior. A
+ * cell has one of four signs, characters as in OGC's DE-9IM strings; the nine of
+ * them, row by row, are such a string.
+ *
+ *   'F'  70  empty: no point
+ *   '0'  48  a finite number of points, and at least one
+ *   '1'  49  all points of some segment of non-zero length, but of no triangle
+ *            with area
+ *   '2'  50  all points of some triangle with area
+ *
+ * Points, and the ends and corners of such segments and triangles, have fraction
+ * coordinates, on the grid or off it. Each cell is exactly one of the four. Two
+ * strips that share a fence have '1' in cell[1][1], and two that share a corner post
+ * '0'. cell[2][2] of a scene that is taken is always '2'. With F and G exchanged,
+ * cell[r][c] is what cell[c][r] was. A refusal has nine 'F'.
+ *
+ * Since 0.6.0. Before, a cell was a bool: true where it is '0', '1' or '2' now, and
+ * false where it is 'F'. No cell is 0, so each of the four is true to C: who wrote
+ * `if (m.cell[r][c])`, or compared a cell with true or false, must compare it with
+ * 'F'. The struct has the size that it had, so a program that was compiled with an
+ * older header links and goes wrong: compile it again.
  */
 typedef struct {
     uint32_t number;
     size_t place;
-    bool cell[3][3];
+    uint8_t cell[3][3];
 } karvoiss_cells_t;
 
 karvoiss_cells_t karvoiss_cells(const uint8_t *scene, size_t length);
@@ -177,17 +196,18 @@ karvoiss_cells_t karvoiss_cells(const uint8_t *scene, size_t length);
  * `pattern` points to `pattern_length` bytes, which are only read; it may be null
  * where `pattern_length` is 0. A pattern has nine characters, for the cells row by
  * row: II, IB, IE, BI, BB, BE, EI, EB, EE, rows by the part of F, columns by the
- * part of G (interior, boundary, exterior). T: some point lies in both parts. F:
- * none does. *: either. `holds` is true exactly if all nine cells fit. The digits
- * 0, 1 and 2 and small letters are refused with 23. No terminating zero is asked
- * for; if one is counted in, the pattern has ten characters and is refused.
+ * part of G (interior, boundary, exterior). F, 0, 1, 2: the cell has this sign, as
+ * karvoiss_cells has it. T: any sign but F. *: any sign. `holds` is true exactly if
+ * all nine cells fit. Small letters are refused with 23, and before 0.6.0 the digits
+ * were. No terminating zero is asked for; if one is counted in, the pattern has ten
+ * characters and is refused.
  *
  * A pattern that is refused is refused also where a cell misfits, and the scene
  * is always checked whole: of a scene that is turned away number and place are
  * those of karvoiss_cells, whatever the pattern. A call never takes more than
- * karvoiss_cells in flags: only those that the cells with T or F are read off are
+ * karvoiss_cells in flags: only those that the cells without * are read off are
  * looked for. `*********` costs the checks alone, and so does F for EE, which is
- * always yes.
+ * always 2.
  *
  * The named predicates of OGC Simple Features as patterns, by the types of F and
  * G; where several stand, any of them:
@@ -202,15 +222,12 @@ karvoiss_cells_t karvoiss_cells(const uint8_t *scene, size_t length);
  *   covers      any types        T*****FF*  *T****FF*  ***T**FF*  ****T*FF*
  *   crosses     1,2 1,3 2,3      T*T******
  *               2,1 3,1 3,2      T*****T**
- *               2,2              0********, which asks for a dimension: true if
- *                                T******** holds and the lines share no segment
+ *               2,2              0********
  *   overlaps    1,1 3,3          T*T***T**
- *               2,2              1*T***T**, which asks for a dimension: true if
- *                                T*T***T** holds and the lines share a segment
+ *               2,2              1*T***T**
  *
- * Other pairs of types never cross or overlap, and points never touch points. Of
- * two lines seg_shared, bit 0 of f in karvoiss_vectors, says whether they share a
- * segment. Two empty objects are disjoint, and equal by no pattern.
+ * Other pairs of types never cross or overlap, and points never touch points. Two
+ * empty objects are disjoint, and equal by no pattern.
  */
 typedef struct {
     uint32_t number;

@@ -47,7 +47,7 @@ static size_t spell(const uint8_t *data, uint8_t *end)
     size_t length = data[0] < 224 ? 9 : data[0] % (LONGEST + 1);
 
     for (size_t i = 0; i < length; i++)
-        end[i - length] = data[1 + i] < 250 ? (uint8_t)"TF*"[data[1 + i] % 3] : data[1 + i];
+        end[i - length] = data[1 + i] < 250 ? (uint8_t)"TF*012"[data[1 + i] % 6] : data[1 + i];
     return length;
 }
 

@@ -26,7 +26,7 @@ int main(int argc, char **argv)
     karvoiss_vectors_t v = karvoiss_vectors(NULL, 0, 0, 0);
     karvoiss_cells_t c = karvoiss_cells(NULL, 0);
     static const karvoiss_vectors_t no_vectors = {.number = 1};
-    static const karvoiss_cells_t no_cells = {.number = 1};
+    static const karvoiss_cells_t no_cells = {.number = 1, .cell = {{'F', 'F', 'F'}, {'F', 'F', 'F'}, {'F', 'F', 'F'}}};
 
     if (!same_vectors(&v, &no_vectors))
         fail("vectors of null", "another answer");

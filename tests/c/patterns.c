@@ -1,5 +1,5 @@
-/* Patterns against cells: of each scene, every pattern of T and F and many with *, which must hold exactly if the cells fit. Then patterns whose answers are
- * known: scene a and scene a exchanged, and patterns that are turned away. */
+/* Patterns against cells: of each scene, every pattern of T and F and many with digits and *, which must hold exactly if the cells fit. Then patterns whose answers
+ * are known: scene a and scene a exchanged, and patterns that are turned away. */
 #include "scenes.h"
 
 enum { STARRED = 1000 };
@@ -14,16 +14,18 @@ static uint32_t next(void)
     return state;
 }
 
+static bool fits_cell(uint8_t c, uint8_t cell)
+{
+    return c == '*' || (c == 'T' ? cell != 'F' : c == cell);
+}
+
 static void pattern_must(const struct scene *scene, const karvoiss_cells_t *cells, const uint8_t *pattern)
 {
     bool fits = cells->number == 0;
 
     for (int row = 0; row < 3; row++)
-        for (int column = 0; column < 3; column++) {
-            uint8_t c = pattern[3 * row + column];
-
-            fits = fits && (c == '*' || (c == 'T') == cells->cell[row][column]);
-        }
+        for (int column = 0; column < 3; column++)
+            fits = fits && fits_cell(pattern[3 * row + column], cells->cell[row][column]);
     karvoiss_relate_t answer = karvoiss_relate(scene->bytes, scene->length, pattern, 9);
     if (answer.number != cells->number || answer.place != cells->place || answer.holds != fits)
         fail(scene->name, "a pattern is not answered as the cells say");
@@ -41,10 +43,10 @@ static void try_scene(const struct scene *scene)
     }
     for (int k = 0; k < STARRED; k++) {
         for (int i = 0; i < 9; i++) {
-            uint8_t own = cells.cell[i / 3][i % 3] ? 'T' : 'F';
-            uint32_t choice = next() % 16;
+            uint8_t own = cells.cell[i / 3][i % 3];
+            uint32_t choice = next() % 32;
 
-            pattern[i] = choice < 8 ? '*' : choice < 15 ? own : own == 'T' ? 'F' : 'T';
+            pattern[i] = choice < 16 ? '*' : choice < 24 ? own : choice < 30 ? (own == 'F' ? 'F' : 'T') : (uint8_t)"TF012"[next() % 5];
         }
         pattern_must(scene, &cells, pattern);
     }
@@ -89,7 +91,10 @@ int main(int argc, char **argv)
     known(&turned, "FTTFFFTTT", 0, 0, false);
     known(&a, "TTTFFFTTx", 23, 8, false);
     known(&a, "fTTFFFTTT", 23, 0, false);
-    known(&a, "F00FFF102", 23, 1, false);
+    known(&a, "F00FFF102", 0, 0, true);
+    known(&a, "F01FFF102", 0, 0, false);
+    known(&a, "FT0FFF1*2", 0, 0, true);
+    known(&a, "F00FFF103", 23, 8, false);
     known(&a, "", 22, 0, false);
     known(&a, "FTTFFFTT", 22, 0, false);
     known(&a, "FTTFFFTTTT", 22, 0, false);
@@ -105,6 +110,6 @@ int main(int argc, char **argv)
         try_scene(&scene);
         free(scene.bytes);
     }
-    printf("patterns: 17 known answers, %d patterns over each of %d scenes\n", 512 + STARRED, argc);
+    printf("patterns: 20 known answers, %d patterns over each of %d scenes\n", 512 + STARRED, argc);
     return 0;
 }

@@ -75,11 +75,11 @@ static inline struct masks all_flags(const uint8_t *bytes, size_t length)
     return of_types[types[0] - 1][types[1] - 1];
 }
 
-/* The pattern of what was answered, nine characters: each cell as it is, but for EI, which is left open. */
+/* The pattern of what was answered, nine characters: each cell as it is, but for IE, of which it is asked whether it is empty, and EI, which is left open. */
 static inline void own_pattern(const karvoiss_cells_t *cells, uint8_t *pattern)
 {
     for (int i = 0; i < 9; i++)
-        pattern[i] = i == 6 ? '*' : cells->cell[i / 3][i % 3] ? 'T' : 'F';
+        pattern[i] = i == 6 ? '*' : i == 2 && cells->cell[0][2] != 'F' ? 'T' : cells->cell[i / 3][i % 3];
 }
 
 /* The list is asked for into `list`, whose bytes are all 0xEE before. Two zero masks have the refusals that all flags have, and want nothing. */
@@ -96,6 +96,12 @@ static inline void ask(const uint8_t *bytes, size_t length, uint8_t *list, size_
     if (answers->nothing.f != 0 || answers->nothing.g != 0)
         fail("two zero masks", "a flag");
     answers->cells = karvoiss_cells(bytes, length);
+    for (int k = 0; k < 9; k++) {
+        uint8_t sign = answers->cells.cell[k / 3][k % 3];
+
+        if (sign != 'F' && (answers->cells.number != 0 || sign < '0' || sign > '2'))
+            fail("cells", answers->cells.number != 0 ? "one beside a refusal is not F" : "one has none of the four signs");
+    }
     own_pattern(&answers->cells, pattern);
     answers->relate = karvoiss_relate(bytes, length, pattern, sizeof pattern);
     if (answers->relate.number != answers->cells.number || answers->relate.place != answers->cells.place)

@@ -1,5 +1,5 @@
-//! Scenes made by hand: document 01's twelve with their lines, its refusal table, traps of its wording, scenes with the higher type first, and pictures of
-//! rare matrices.
+//! Scenes made by hand: document 01's twelve with their lines, its refusal table, traps of its wording, scenes with the higher type first, scenes that yes and
+//! no do not tell apart, and pictures of rare matrices.
 
 use crate::picture;
 use crate::plane::{Point, Segment};
@@ -51,20 +51,20 @@ pub fn twelve() -> Vec<Known> {
     let split_square: [Point; 6] = [(0, 0), (4, 0), (4, 2), (4, 4), (0, 4), (0, 0)];
     let many: Vec<Point> = (0..1024).map(|i| (i / 32, i % 32)).collect();
     vec![
-        known("a", points(&[(0, 0), (2, 2)]), line(&[&[(0, 0), (4, 0), (4, 3)]]), "ok 1 2 5 1 011000111"),
-        known("b", points(&[(2, 2), (4, 2), (5, 5)]), square(0, 4), "ok 1 3 7 0 111000111"),
-        known("c", square(0, 4), square(1, 3), "ok 3 3 3 12 111001001"),
-        known("d", square(0, 2), square(2, 4), "ok 3 3 131 3 001011111"),
-        Known { name: "e", bytes: scene_e(), line: "ok 3 3 195 3 001011111" },
-        known("f", square(0, 4), square(0, 4), "ok 3 3 176 0 100010001"),
-        known("g", none(), none(), "ok 1 1 0 0 000000001"),
-        known("h", none(), square(0, 4), "ok 1 3 0 0 000000111"),
-        known("i", line(&[&[(0, 2), (2, 2), (4, 2)]]), line(&[&[(2, 0), (2, 2), (2, 4)]]), "ok 2 2 38 5 101001111"),
-        known("j", line(&[&[(2, 2), (4, 2), (6, 2)]]), region(&[&split_square]), "ok 2 3 93 1 111101111"),
-        known("k", none(), line(&[&triangle]), "ok 1 2 0 0 000000101"),
+        known("a", points(&[(0, 0), (2, 2)]), line(&[&[(0, 0), (4, 0), (4, 3)]]), "ok 1 2 5 1 F00FFF102"),
+        known("b", points(&[(2, 2), (4, 2), (5, 5)]), square(0, 4), "ok 1 3 7 0 000FFF212"),
+        known("c", square(0, 4), square(1, 3), "ok 3 3 3 12 212FF1FF2"),
+        known("d", square(0, 2), square(2, 4), "ok 3 3 131 3 FF2F01212"),
+        Known { name: "e", bytes: scene_e(), line: "ok 3 3 195 3 FF2F11212" },
+        known("f", square(0, 4), square(0, 4), "ok 3 3 176 0 2FFF1FFF2"),
+        known("g", none(), none(), "ok 1 1 0 0 FFFFFFFF2"),
+        known("h", none(), square(0, 4), "ok 1 3 0 0 FFFFFF212"),
+        known("i", line(&[&[(0, 2), (2, 2), (4, 2)]]), line(&[&[(2, 0), (2, 2), (2, 4)]]), "ok 2 2 38 5 0F1FF0102"),
+        known("j", line(&[&[(2, 2), (4, 2), (6, 2)]]), region(&[&split_square]), "ok 2 3 93 1 1010F0212"),
+        known("k", none(), line(&[&triangle]), "ok 1 2 0 0 FFFFFF1F2"),
         known("l", points(&[(1_000_001, 0)]), none(), "no 4 2"),
-        known("l with 1000000", points(&[(1_000_000, 0)]), none(), "ok 1 1 1 0 001000001"),
-        known("1,024 points", points(&many), none(), "ok 1 1 1 0 001000001"),
+        known("l with 1000000", points(&[(1_000_000, 0)]), none(), "ok 1 1 1 0 FF0FFFFF2"),
+        known("1,024 points", points(&many), none(), "ok 1 1 1 0 FF0FFFFF2"),
     ]
 }
 
@@ -178,7 +178,7 @@ pub fn reading_traps() -> Vec<Known> {
         ),
         scene("15 at the second segment of F", line(&[&[(0, 0), (1, 0), (5, 1)]]), line(&[&[(2, -5), (3, 5)]]), "no 15 38"),
         scene("one part of the other's segment", line(&[&[(0, 0), (2, 0)]]), line(&[&[(0, 0), (4, 0)]]), "no 15 2"),
-        scene("on one line, end to end", line(&[&[(0, 0), (2, 0)]]), line(&[&[(2, 0), (4, 0)]]), "ok 2 2 52 5 001011111"),
+        scene("on one line, end to end", line(&[&[(0, 0), (2, 0)]]), line(&[&[(2, 0), (4, 0)]]), "ok 2 2 52 5 FF1F00102"),
     ]
 }
 
@@ -192,19 +192,19 @@ pub fn either_order() -> Vec<Known> {
     let left = half((0, 0), (4, 0), true, false);
     let upright = || line(&[&[(2, 3), (2, 5)]]);
     vec![
-        scene("a exchanged", line(&[&[(0, 0), (4, 0), (4, 3)]]), points(&[(0, 0), (2, 2)]), "ok 2 1 1 5 001101101"),
-        scene("b exchanged", square(0, 4), points(&[(2, 2), (4, 2), (5, 5)]), "ok 3 1 0 7 101101101"),
-        scene("h exchanged: no points second", square(0, 4), none(), "ok 3 1 0 0 001001001"),
-        scene("j exchanged", region(&[&split_square]), line(&[&[(2, 2), (4, 2), (6, 2)]]), "ok 3 2 1 93 111101111"),
-        scene("no line, no points", empty(LINE), none(), "ok 2 1 0 0 000000001"),
-        scene("no region, no line", empty(REGION), empty(LINE), "ok 3 2 0 0 000000001"),
-        scene("no region, a point", empty(REGION), points(&[(1, 1)]), "ok 3 1 0 4 000000101"),
-        scene("no region, a line", empty(REGION), line(&[&[(0, 0), (4, 0)]]), "ok 3 2 0 68 000000111"),
-        scene("a region, no line", square(0, 4), empty(LINE), "ok 3 2 1 0 001001001"),
-        scene("a closed line, no points", line(&[&[(0, 0), (4, 0), (0, 3), (0, 0)]]), none(), "ok 2 1 0 0 001000001"),
-        scene("the outline as a line second", square(0, 4), line(&[&rectangle(0, 0, 4, 4)]), "ok 3 2 0 10 001100001"),
-        scene("equal types, the second empty", line(&[&[(0, 0), (1, 0)]]), empty(LINE), "ok 2 2 36 0 001001001"),
-        scene("equal types, the first empty", empty(LINE), line(&[&[(0, 0), (1, 0)]]), "ok 2 2 0 5 000000111"),
+        scene("a exchanged", line(&[&[(0, 0), (4, 0), (4, 3)]]), points(&[(0, 0), (2, 2)]), "ok 2 1 1 5 FF10F00F2"),
+        scene("b exchanged", square(0, 4), points(&[(2, 2), (4, 2), (5, 5)]), "ok 3 1 0 7 0F20F10F2"),
+        scene("h exchanged: no points second", square(0, 4), none(), "ok 3 1 0 0 FF2FF1FF2"),
+        scene("j exchanged", region(&[&split_square]), line(&[&[(2, 2), (4, 2), (6, 2)]]), "ok 3 2 1 93 1020F1102"),
+        scene("no line, no points", empty(LINE), none(), "ok 2 1 0 0 FFFFFFFF2"),
+        scene("no region, no line", empty(REGION), empty(LINE), "ok 3 2 0 0 FFFFFFFF2"),
+        scene("no region, a point", empty(REGION), points(&[(1, 1)]), "ok 3 1 0 4 FFFFFF0F2"),
+        scene("no region, a line", empty(REGION), line(&[&[(0, 0), (4, 0)]]), "ok 3 2 0 68 FFFFFF102"),
+        scene("a region, no line", square(0, 4), empty(LINE), "ok 3 2 1 0 FF2FF1FF2"),
+        scene("a closed line, no points", line(&[&[(0, 0), (4, 0), (0, 3), (0, 0)]]), none(), "ok 2 1 0 0 FF1FFFFF2"),
+        scene("the outline as a line second", square(0, 4), line(&[&rectangle(0, 0, 4, 4)]), "ok 3 2 0 10 FF21FFFF2"),
+        scene("equal types, the second empty", line(&[&[(0, 0), (1, 0)]]), empty(LINE), "ok 2 2 36 0 FF1FF0FF2"),
+        scene("equal types, the first empty", empty(LINE), line(&[&[(0, 0), (1, 0)]]), "ok 2 2 0 5 FFFFFF102"),
         known("7 before the types are compared", &[&[84, 2, 69, 84, 1, 69, 69]], "no 7 6"),
         scene("10 in both: the first one's", as_given(LINE, &[left, left]), twice(1, 1), "no 10 20"),
         scene("10 in the second before 11 in the first", as_given(LINE, &[left]), twice(1, 1), "no 10 32"),
@@ -228,66 +228,102 @@ pub fn answer_traps() -> Vec<Known> {
     let lollipop: [&[Point]; 2] = [&[(0, 0), (4, 0), (2, 4), (0, 0)], &[(4, 0), (6, 0)]];
     let split_square: [Point; 6] = [(0, 0), (4, 0), (4, 2), (4, 4), (0, 4), (0, 0)];
     vec![
-        scene("far from a closed line", points(&[(9, 9)]), line(&[&triangle]), "ok 1 2 1 0 001000101"),
-        scene("at a hub of three", points(&[(2, 2)]), hub(3), "ok 1 2 4 1 010000111"),
-        scene("at a hub of four", points(&[(2, 2)]), hub(4), "ok 1 2 2 1 100000111"),
-        scene("at a hub of five", points(&[(2, 2)]), hub(5), "ok 1 2 4 1 010000111"),
-        scene("at the end of a closed line's tail", points(&[(6, 0)]), line(&lollipop), "ok 1 2 4 1 010000111"),
-        scene("i with a third segment in F", line(&cross), line(&[&[(2, 0), (2, 2), (2, 4)]]), "ok 2 2 44 5 001101111"),
-        scene("i with a third segment, exchanged", line(&[&[(2, 0), (2, 2), (2, 4)]]), line(&cross), "ok 2 2 36 7 011001111"),
-        scene("a hub beside a line under one of its spokes", line(&cross), line(&[&[(0, 0), (1, 0)]]), "ok 2 2 36 5 001001111"),
+        scene("far from a closed line", points(&[(9, 9)]), line(&[&triangle]), "ok 1 2 1 0 FF0FFF1F2"),
+        scene("at a hub of three", points(&[(2, 2)]), hub(3), "ok 1 2 4 1 F0FFFF102"),
+        scene("at a hub of four", points(&[(2, 2)]), hub(4), "ok 1 2 2 1 0FFFFF102"),
+        scene("at a hub of five", points(&[(2, 2)]), hub(5), "ok 1 2 4 1 F0FFFF102"),
+        scene("at the end of a closed line's tail", points(&[(6, 0)]), line(&lollipop), "ok 1 2 4 1 F0FFFF102"),
+        scene("i with a third segment in F", line(&cross), line(&[&[(2, 0), (2, 2), (2, 4)]]), "ok 2 2 44 5 FF10F0102"),
+        scene("i with a third segment, exchanged", line(&[&[(2, 0), (2, 2), (2, 4)]]), line(&cross), "ok 2 2 36 7 F01FF0102"),
+        scene("a hub beside a line under one of its spokes", line(&cross), line(&[&[(0, 0), (1, 0)]]), "ok 2 2 36 5 FF1FF0102"),
         scene(
             "a closed line, and the same with a diagonal",
             line(&[&rectangle(0, 0, 4, 4)]),
             line(&[&rectangle(0, 0, 4, 4), &[(0, 0), (4, 4)]]),
-            "ok 2 2 3 3 110000101",
+            "ok 2 2 3 3 10FFFF1F2",
         ),
         scene(
             "a hub inside, with its far ends at corners",
             line(&[&[(0, 0), (2, 2), (4, 4)], &[(2, 2), (4, 0)]]),
             square(0, 4),
-            "ok 2 3 49 1 100110111",
+            "ok 2 3 49 1 1FF00F212",
         ),
         scene(
             "a hub outside, with its far ends on the region",
             line(&[&[(4, 0), (6, 2), (4, 4)], &[(4, 2), (6, 2)]]),
             region(&[&split_square]),
-            "ok 2 3 100 1 001011111",
+            "ok 2 3 100 1 FF1F00212",
         ),
-        scene("a hub at a corner, inside", line(&[&[(1, 1), (4, 2), (1, 3)], &[(1, 2), (4, 2)]]), region(&[&split_square]), "ok 2 3 49 1 100110111"),
-        scene("the outline with a diagonal", line(&[&rectangle(0, 0, 4, 4), &[(0, 0), (4, 4)]]), square(0, 4), "ok 2 3 43 0 110010101"),
-        scene("on an open segment", points(&[(2, 0)]), line(&[&triangle]), "ok 1 2 2 0 100000101"),
-        scene("points and no line", points(&[(2, 0)]), empty(LINE), "ok 1 2 1 0 001000001"),
-        scene("points and no region", points(&[(2, 0)]), empty(REGION), "ok 1 3 4 0 001000001"),
-        scene("a line and no region", line(&[&[(0, 0), (4, 0)]]), empty(REGION), "ok 2 3 68 0 001001001"),
-        scene("a closed line and no region", line(&[&triangle]), empty(REGION), "ok 2 3 4 0 001000001"),
-        scene("a line that only ends on the region", line(&[&[(4, 2), (6, 2)]]), region(&[&split_square]), "ok 2 3 100 1 001011111"),
-        scene("a closed line far from the region", line(&[&[(9, 9), (12, 9), (9, 12), (9, 9)]]), square(0, 4), "ok 2 3 4 1 001000111"),
-        scene("the outline as a line", line(&[&rectangle(0, 0, 4, 4)]), square(0, 4), "ok 2 3 10 0 010000101"),
-        scene("no line, a region", empty(LINE), square(0, 4), "ok 2 3 0 1 000000111"),
-        scene("a region, no region", square(0, 4), empty(REGION), "ok 3 3 3 0 001001001"),
-        scene("inside, at a corner", region(&[&[(0, 0), (2, 1), (1, 2), (0, 0)]]), square(0, 4), "ok 3 3 140 3 100110111"),
-        scene("no line, no line", empty(LINE), empty(LINE), "ok 2 2 0 0 000000001"),
-        scene("no region, no region", empty(REGION), empty(REGION), "ok 3 3 0 0 000000001"),
+        scene("a hub at a corner, inside", line(&[&[(1, 1), (4, 2), (1, 3)], &[(1, 2), (4, 2)]]), region(&[&split_square]), "ok 2 3 49 1 1FF00F212"),
+        scene("the outline with a diagonal", line(&[&rectangle(0, 0, 4, 4), &[(0, 0), (4, 4)]]), square(0, 4), "ok 2 3 43 0 11FF0F2F2"),
+        scene("on an open segment", points(&[(2, 0)]), line(&[&triangle]), "ok 1 2 2 0 0FFFFF1F2"),
+        scene("points and no line", points(&[(2, 0)]), empty(LINE), "ok 1 2 1 0 FF0FFFFF2"),
+        scene("points and no region", points(&[(2, 0)]), empty(REGION), "ok 1 3 4 0 FF0FFFFF2"),
+        scene("a line and no region", line(&[&[(0, 0), (4, 0)]]), empty(REGION), "ok 2 3 68 0 FF1FF0FF2"),
+        scene("a closed line and no region", line(&[&triangle]), empty(REGION), "ok 2 3 4 0 FF1FFFFF2"),
+        scene("a line that only ends on the region", line(&[&[(4, 2), (6, 2)]]), region(&[&split_square]), "ok 2 3 100 1 FF1F00212"),
+        scene("a closed line far from the region", line(&[&[(9, 9), (12, 9), (9, 12), (9, 9)]]), square(0, 4), "ok 2 3 4 1 FF1FFF212"),
+        scene("the outline as a line", line(&[&rectangle(0, 0, 4, 4)]), square(0, 4), "ok 2 3 10 0 F1FFFF2F2"),
+        scene("no line, a region", empty(LINE), square(0, 4), "ok 2 3 0 1 FFFFFF212"),
+        scene("a region, no region", square(0, 4), empty(REGION), "ok 3 3 3 0 FF2FF1FF2"),
+        scene("inside, at a corner", region(&[&[(0, 0), (2, 1), (1, 2), (0, 0)]]), square(0, 4), "ok 3 3 140 3 2FF10F212"),
+        scene("no line, no line", empty(LINE), empty(LINE), "ok 2 2 0 0 FFFFFFFF2"),
+        scene("no region, no region", empty(REGION), empty(REGION), "ok 3 3 0 0 FFFFFFFF2"),
         scene(
             "a region that touches itself at a corner",
             region(&[&rectangle(0, 0, 2, 2), &rectangle(2, 2, 4, 4)]),
             empty(REGION),
-            "ok 3 3 3 0 001001001",
+            "ok 3 3 3 0 FF2FF1FF2",
         ),
         scene(
             "a hole that touches the outline at a corner",
             points(&[(1, 1)]),
             region(&[&rectangle(0, 0, 4, 4), &[(0, 0), (2, 1), (1, 2), (0, 0)]]),
-            "ok 1 3 4 0 001000111",
+            "ok 1 3 4 0 FF0FFF212",
         ),
         scene(
             "an island in a hole",
             points(&[(4, 4)]),
             region(&[&rectangle(0, 0, 8, 8), &rectangle(1, 1, 7, 7), &rectangle(3, 3, 5, 5)]),
-            "ok 1 3 1 0 100000111",
+            "ok 1 3 1 0 0FFFFF212",
         ),
-        scene("limit to limit", square(-1_000_000, 1_000_000), region(&[&rectangle(-999_999, -999_999, 999_999, 999_999)]), "ok 3 3 3 12 111001001"),
+        scene("limit to limit", square(-1_000_000, 1_000_000), region(&[&rectangle(-999_999, -999_999, 999_999, 999_999)]), "ok 3 3 3 12 212FF1FF2"),
+    ]
+}
+
+/// Scenes in twos: what their parts have in common is the same in yes and no, but of one it extends to a stretch and of the other to points. Then cells that are
+/// no less than they seem, and two matrices that the maker hardly ever finds.
+pub fn extents() -> Vec<Known> {
+    let scene = |name, f: Object, g: Object, line| Known { name, bytes: scene_bytes(&f, &g), line };
+    let strip = || region(&[&rectangle(0, 0, 9, 2)]);
+    let split_strip = || region(&[&[(0, 0), (9, 0), (9, 2), (5, 2), (3, 2), (0, 2), (0, 0)]]);
+    let cross: [&[Point]; 2] = [&[(0, 0), (2, 0), (4, 0), (6, 0)], &[(0, 2), (2, 2)]];
+    let crossed: [&[Point]; 2] = [&[(2, -2), (2, 0), (2, 2), (2, 4)], &[(4, 0), (4, 2)]];
+    vec![
+        scene("strips that share a fence", strip(), region(&[&rectangle(0, 2, 9, 4)]), "ok 3 3 195 3 FF2F11212"),
+        scene("strips that share a corner post", strip(), region(&[&rectangle(9, 2, 12, 4)]), "ok 3 3 131 3 FF2F01212"),
+        scene("strips that share a piece of fence", split_strip(), region(&[&rectangle(3, 2, 5, 9)]), "ok 3 3 195 3 FF2F11212"),
+        scene(
+            "strips that share two posts",
+            split_strip(),
+            region(&[&[(3, 2), (2, 9), (0, 9), (3, 2)], &[(5, 2), (6, 9), (4, 9), (5, 2)]]),
+            "ok 3 3 131 3 FF2F01212",
+        ),
+        scene("a line along a side", line(&[&[(0, 0), (4, 0)]]), square(0, 4), "ok 2 3 34 1 F1FF0F212"),
+        scene("a path through a corner", line(&[&[(-1, 1), (0, 0), (1, -1)]]), square(0, 4), "ok 2 3 76 1 F01FF0212"),
+        scene("a path that runs along a side", line(&[&[(-1, 0), (0, 0), (4, 0), (5, 0)]]), square(0, 4), "ok 2 3 78 1 F11FF0212"),
+        scene("lines with a stretch in common", line(&[&[(0, 0), (2, 0), (4, 0)]]), line(&[&[(2, 0), (4, 0), (6, 0)]]), "ok 2 2 45 7 1010F0102"),
+        scene("lines that cross, and end on each other", line(&cross), line(&crossed), "ok 2 2 46 7 0010F0102"),
+        scene("inside along a side", region(&[&[(0, 0), (4, 0), (2, 2), (0, 0)]]), square(0, 4), "ok 3 3 152 3 2FF11F212"),
+        scene("inside at a corner", region(&[&[(0, 0), (3, 1), (1, 3), (0, 0)]]), square(0, 4), "ok 3 3 140 3 2FF10F212"),
+        scene("points on a line leave all of it but points", points(&[(0, 0), (1, 0), (4, 0)]), line(&[&[(0, 0), (4, 0)]]), "ok 1 2 6 0 00FFFF1F2"),
+        scene("points in a square leave all of it but points", points(&[(1, 1), (4, 0)]), square(0, 4), "ok 1 3 3 0 00FFFF212"),
+        scene(
+            "rings that touch, each with the other line's chord",
+            line(&[&rectangle(0, 0, 4, 4), &[(4, 8), (8, 4)]]),
+            line(&[&rectangle(4, 4, 8, 8), &[(0, 4), (4, 0)]]),
+            "ok 2 2 14 3 0010FF1F2",
+        ),
     ]
 }
 
@@ -358,7 +394,7 @@ pub fn listed() -> Vec<Listed> {
 
 /// Every scene made by hand that has a known line, but for the pictures.
 pub fn known() -> Vec<Known> {
-    [twelve(), refusal_table(), reading_traps(), answer_traps(), either_order()].into_iter().flatten().collect()
+    [twelve(), refusal_table(), reading_traps(), answer_traps(), either_order(), extents()].into_iter().flatten().collect()
 }
 
 /// A cell picture's matrix, for pictures of faces alone: one letter each, lines from above parted by a slash.
@@ -376,7 +412,8 @@ impl Drawn {
     }
 }
 
-/// The 33 matrices of two regions, and the rarest of a line and a region.
+/// The 33 matrices of two regions in yes and no, four of those that differ from one of them in that the outlines share no stretch, and the rarest of a line and a
+/// region.
 pub fn drawn_matrices() -> Vec<Drawn> {
     let faces = |(matrix, cells): &(&'static str, &str)| {
         let mut lines = vec![String::new()];
@@ -393,47 +430,51 @@ pub fn drawn_matrices() -> Vec<Drawn> {
     REGION_PICTURES.iter().map(faces).chain(LINE_REGION_PICTURES.iter().map(edges)).collect()
 }
 
-const REGION_PICTURES: [(&str, &str); 33] = [
-    ("001001111", "g.f"),
-    ("001010111", ".g./gfg/.g."),
-    ("001011101", ".f./fgf/.f."),
-    ("001011111", "gf"),
-    ("100010001", "b"),
-    ("100010111", "b.g"),
-    ("100100111", "ggg/gbg/ggg"),
-    ("100110101", ".b./bgb/.b."),
-    ("100110111", "bg"),
-    ("101010111", "b.ggg/..gfg/..ggg"),
-    ("101011001", "b.f"),
-    ("101011101", "b.fff/..fgf/..fff"),
-    ("101011111", "b.gf"),
-    ("101101111", "ggg.f/gbg../ggg.."),
-    ("101110101", "bbbbb/bgggb/bgfgb/bgggb/bbbbb"),
-    ("101110111", "bg./gfg/.g."),
-    ("101111101", ".b./fgf/.f."),
-    ("101111111", "bgf"),
-    ("111001001", "fff/fbf/fff"),
-    ("111001111", "fff.g/fbf../fff.."),
-    ("111010001", ".b./bfb/.b."),
-    ("111010101", "bbbbb/bfffb/bfgfb/bfffb/bbbbb"),
-    ("111010111", ".b./gfg/.g."),
-    ("111011001", "bf"),
-    ("111011101", "bf./fgf/.f."),
-    ("111011111", "bfg"),
-    ("111100111", "ggggg/gbbbg/gbfbg/gbbbg/ggggg"),
-    ("111101101", "fffff/fbbbf/fbgbf/fbbbf/fffff"),
-    ("111101111", "fff.ggg/fbf.gbg/fff.ggg"),
-    ("111110101", "bbbbb/bgbfb/bbbbb"),
-    ("111110111", "gb./gfg/.g."),
-    ("111111101", "fb./fgf/.f."),
-    ("111111111", "gbf"),
+const REGION_PICTURES: [(&str, &str); 37] = [
+    ("FF2FF1212", "g.f"),
+    ("FF2F1F212", ".g./gfg/.g."),
+    ("FF2F112F2", ".f./fgf/.f."),
+    ("FF2F11212", "gf"),
+    ("2FFF1FFF2", "b"),
+    ("2FFF1F212", "b.g"),
+    ("2FF1FF212", "ggg/gbg/ggg"),
+    ("2FF11F2F2", ".b./bgb/.b."),
+    ("2FF11F212", "bg"),
+    ("2F2F1F212", "b.ggg/..gfg/..ggg"),
+    ("2F2F11FF2", "b.f"),
+    ("2F2F112F2", "b.fff/..fgf/..fff"),
+    ("2F2F11212", "b.gf"),
+    ("2F21F1212", "ggg.f/gbg../ggg.."),
+    ("2F211F2F2", "bbbbb/bgggb/bgfgb/bgggb/bbbbb"),
+    ("2F211F212", "bg./gfg/.g."),
+    ("2F21112F2", ".b./fgf/.f."),
+    ("2F2111212", "bgf"),
+    ("212FF1FF2", "fff/fbf/fff"),
+    ("212FF1212", "fff.g/fbf../fff.."),
+    ("212F1FFF2", ".b./bfb/.b."),
+    ("212F1F2F2", "bbbbb/bfffb/bfgfb/bfffb/bbbbb"),
+    ("212F1F212", ".b./gfg/.g."),
+    ("212F11FF2", "bf"),
+    ("212F112F2", "bf./fgf/.f."),
+    ("212F11212", "bfg"),
+    ("2121FF212", "ggggg/gbbbg/gbfbg/gbbbg/ggggg"),
+    ("2121F12F2", "fffff/fbbbf/fbgbf/fbbbf/fffff"),
+    ("2121F1212", "fff.ggg/fbf.gbg/fff.ggg"),
+    ("21211F2F2", "bbbbb/bgbfb/bbbbb"),
+    ("21211F212", "gb./gfg/.g."),
+    ("2121112F2", "fb./fgf/.f."),
+    ("212111212", "gbf"),
+    ("212F01212", "fff.f./fbf..g/fff..."),
+    ("2F2101212", "ggg.f./gbg..g/ggg..."),
+    ("21210F212", "ggggg.ggggg/gbbbg.gbggg/gbfbg.gg.gg/gbbbg.ggggg/ggggg......"),
+    ("2121012F2", "fffff.fffff/fbbbf.fbfff/fbgbf.ff.ff/fbbbf.fffff/fffff......"),
 ];
 
 const LINE_REGION_PICTURES: [(&str, &[&str]); 6] = [
-    ("101011111", &["+ + + + +", " g g     ", "+f+f+ + +", " g g     ", "+ + + +f+"]),
-    ("101110111", &["+ + + + +", " g g g   ", "+ +f+ +f+", " g g g  f", "+ + + +f+"]),
-    ("101111111", &["+ + + + +f+", " g g g     ", "+ +f+ +f+ +", " g g g  f  ", "+ + + +f+ +"]),
-    ("111100111", &["+ + + + +", " g g g   ", "+ + +f+f+", " g g g  f", "+ + +f+f+", " g g g   ", "+ + + + +"]),
-    ("111101111", &["+ + + + +f+", " g g g     ", "+ + +f+f+ +", " g g g  f  ", "+ + +f+f+ +", " g g g     ", "+ + + + + +"]),
-    ("111111111", &["+ + + +f+", " g g g   ", "+ + +f+f+", " g g g  f", "+ + +f+f+", " g g g   ", "+ + + + +"]),
+    ("1F1F00212", &["+ + + + +", " g g     ", "+f+f+ + +", " g g     ", "+ + + +f+"]),
+    ("1F100F212", &["+ + + + +", " g g g   ", "+ +f+ +f+", " g g g  f", "+ + + +f+"]),
+    ("1F1000212", &["+ + + + +f+", " g g g     ", "+ +f+ +f+ +", " g g g  f  ", "+ + + +f+ +"]),
+    ("1010FF212", &["+ + + + +", " g g g   ", "+ + +f+f+", " g g g  f", "+ + +f+f+", " g g g   ", "+ + + + +"]),
+    ("1010F0212", &["+ + + + +f+", " g g g     ", "+ + +f+f+ +", " g g g  f  ", "+ + +f+f+ +", " g g g     ", "+ + + + + +"]),
+    ("101000212", &["+ + + +f+", " g g g   ", "+ + +f+f+", " g g g  f", "+ + +f+f+", " g g g   ", "+ + + + +"]),
 ];

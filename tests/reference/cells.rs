@@ -1,13 +1,13 @@
-//! The nine cells and the overlap list from geometry alone: every sample point of pieces.rs is asked where it lies in F and in G.
-//! Neither the vectors nor the ia of the records take part.
+//! The nine cells and the overlap list from geometry alone: every sample point of pieces.rs is asked where it lies in F and in G, and a cell extends to the most
+//! that a piece in it does. Neither the vectors nor the ia of the records take part.
 
 use crate::mistakes::Rules;
-use crate::pieces::Pieces;
+use crate::pieces::{Extent, Pieces};
 use crate::plane::{inside, Fraction, Point, Segment};
 use crate::scene::{Half, Object, LINE, POINTS, REGION};
 
 /// Rows interior, boundary, exterior of F; columns the same of G.
-pub type Matrix = [[bool; 3]; 3];
+pub type Matrix = [[Extent; 3]; 3];
 
 pub fn turned(matrix: &Matrix) -> Matrix {
     let mut result = Matrix::default();
@@ -49,10 +49,26 @@ impl<'a> Parts<'a> {
 pub fn matrix(f: &Object, g: &Object, rules: &Rules) -> Matrix {
     let (parts_f, parts_g) = (Parts::of(f, rules), Parts::of(g, rules));
     let mut matrix = Matrix::default();
-    for p in Pieces::of(f, g).samples() {
-        matrix[parts_f.part(&p)][parts_g.part(&p)] = true;
+    for sample in Pieces::of(f, g).samples() {
+        let cell = &mut matrix[parts_f.part(&sample.at)][parts_g.part(&sample.at)];
+        *cell = sample.extent.max(*cell);
     }
     matrix
+}
+
+/// The nine signs, row by row.
+pub fn signs(matrix: &Matrix) -> String {
+    matrix.iter().flatten().map(|cell| cell.sign() as char).collect()
+}
+
+/// The matrix that nine signs stand for; none if a byte is none of the four.
+#[cfg(library)]
+pub fn of_signs(signs: &[u8; 9]) -> Option<Matrix> {
+    let mut matrix = Matrix::default();
+    for (cell, sign) in matrix.iter_mut().flatten().zip(signs) {
+        *cell = [Extent::Empty, Extent::Points, Extent::Stretch, Extent::Area].into_iter().find(|extent| extent.sign() == *sign)?;
+    }
+    Some(matrix)
 }
 
 /// The different segments of two regions in the order of left halfsegments, each with its m and n.

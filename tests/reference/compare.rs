@@ -9,6 +9,7 @@ use crate::judge::{judge, Judgement};
 use crate::library;
 use crate::maker::{full, small, some_pair, with_hub};
 use crate::mistakes::{Rules, RIGHT};
+use crate::pieces::Extent;
 use crate::random::Random;
 use crate::scene::scene_bytes;
 use crate::tally::Tally;
@@ -24,7 +25,7 @@ pub struct Case {
     pub must_be_taken: bool,
     /// The seed of the masks, patterns and rooms that it is asked with.
     pub seed: u64,
-    /// Whether it is asked against every pattern of T and F, and many with *.
+    /// Whether it is asked against every pattern of T and F, and many with digits and *.
     pub every_pattern: bool,
 }
 
@@ -179,20 +180,28 @@ fn two_valued(bits: u32) -> Vec<u8> {
 }
 
 fn with_stars(random: &mut Random) -> Vec<u8> {
-    (0..9).map(|_| random.pick(b"TF**")).collect()
+    (0..9).map(|_| random.pick(b"TTFF012*****")).collect()
 }
 
-/// One that holds, with stars here and there; the same with one character another; one of any characters; and now and then one that is turned away.
+/// One that holds, with T for a digit and stars here and there; the same with one character another; one of any characters; and now and then one that is turned away.
 fn patterns(judgement: &Judgement, random: &mut Random) -> Vec<Vec<u8>> {
-    let own = judgement.cells.iter().flatten().map(|yes| if *yes { b'T' } else { b'F' });
-    let fitting: Vec<u8> = own.map(|c| if random.once_in(3) { b'*' } else { c }).collect();
+    let mut fit = |cell: &Extent| {
+        if random.once_in(3) {
+            b'*'
+        } else if random.once_in(2) && !cell.is_empty() {
+            b'T'
+        } else {
+            cell.sign()
+        }
+    };
+    let fitting: Vec<u8> = judgement.cells.iter().flatten().map(&mut fit).collect();
     let mut changed = fitting.clone();
-    changed[random.below(9)] = random.pick(b"TF");
+    changed[random.below(9)] = random.pick(b"TF012");
     let mut patterns = vec![fitting.clone(), changed.clone(), with_stars(random)];
     if random.once_in(4) {
         let mut wrong = if random.once_in(2) { fitting } else { changed };
         for _ in 0..=random.below(2) {
-            wrong[random.below(9)] = random.pick(b"tf x012+\0\xff");
+            wrong[random.below(9)] = random.pick(b"tf x3/+\0\xff");
         }
         let length = random.pick(&[0, 1, 8, 9, 9, 9, 10]);
         wrong.resize(length, b'T');

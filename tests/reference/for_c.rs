@@ -15,6 +15,7 @@ mod scene;
 
 use judge::{judge, VectorsAnswer};
 use mistakes::RIGHT;
+use pieces::Extent;
 
 #[repr(C)]
 pub struct Vectors {
@@ -28,7 +29,7 @@ pub struct Vectors {
 pub struct Cells {
     number: u32,
     place: usize,
-    cell: [[bool; 3]; 3],
+    cell: [[u8; 3]; 3],
 }
 
 #[repr(C)]
@@ -88,7 +89,7 @@ pub unsafe extern "C" fn reference_answers(
         vectors: vectors(judgement.vectors(all_f, all_g)),
         nothing: vectors(judgement.vectors(0, 0)),
         wanted: vectors(judgement.vectors(want_f, want_g)),
-        cells: Cells { number: cells.number, place: cells.place, cell: cells.cell },
+        cells: Cells { number: cells.number, place: cells.place, cell: cells.cell.map(|row| row.map(Extent::sign)) },
         relate: Relate { number: relate.number, place: relate.place, holds: relate.holds },
         overlap: Overlap { number: overlap.number, place: overlap.place, count: overlap.count },
     }

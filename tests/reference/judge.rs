@@ -1,7 +1,7 @@
 //! The reference's answer to each question about one byte string, in the caller's order: the refusals as document 01 orders them, then vectors, cells
 //! or list.
 
-use crate::cells::{matrix, overlap, Matrix};
+use crate::cells::{matrix, overlap, signs, Matrix};
 use crate::check;
 use crate::flags::{all_flags, vectors};
 use crate::mistakes::{Order, Rules};
@@ -48,7 +48,7 @@ pub struct RelateAnswer {
     pub holds: bool,
 }
 
-/// How a pattern is read: as document 02's Paper 7 has it. The others are mistakes.
+/// How a pattern is read: as document 02's Papers 7 and 8 have it. The others are mistakes.
 #[derive(Clone, Copy, PartialEq, Eq, Default)]
 pub enum Reading {
     #[default]
@@ -59,8 +59,12 @@ pub enum Reading {
     ByColumns,
     /// A cell that misfits is answered no before the rest of the pattern is looked at.
     MisfitFirst,
-    /// F for a cell that must be yes, T for no.
+    /// F for a cell that must not be empty, T for one that must be.
     Exchanged,
+    /// A digit asks for no more than T does.
+    DigitAsT,
+    /// A digit is refused with 23, as Paper 7 alone has it.
+    NoDigits,
 }
 
 /// Everything that any question about these bytes may need, found once, F being the object given first. `early` is a refusal 1 to 7, `late` one of
@@ -76,6 +80,8 @@ pub struct Judgement {
     /// Whose mask is given first.
     pub masks: Order,
     pub cells: Matrix,
+    /// The cells beside a refusal: all empty.
+    pub no_cells: Matrix,
     pub reading: Reading,
     /// The first type record whose type is not 3, if there is one.
     pub no_region: Option<usize>,
@@ -152,7 +158,7 @@ impl Judgement {
 
     pub fn cells(&self) -> CellsAnswer {
         match self.early.or(self.late) {
-            Some(refusal) => CellsAnswer { number: refusal.number, place: refusal.place, ..CellsAnswer::default() },
+            Some(refusal) => CellsAnswer { number: refusal.number, place: refusal.place, cell: self.no_cells },
             None => CellsAnswer { number: 0, place: 0, cell: self.cells },
         }
     }
@@ -167,13 +173,16 @@ impl Judgement {
             return refused(22, 0);
         }
         let cell = |at: usize| if self.reading == Reading::ByColumns { self.cells[at % 3][at / 3] } else { self.cells[at / 3][at % 3] };
-        let misfits = |at: &usize| match pattern[*at] {
-            b'T' => cell(*at) == (self.reading == Reading::Exchanged),
-            b'F' => cell(*at) != (self.reading == Reading::Exchanged),
-            _ => false,
+        let fits = |at: usize| match pattern[at] {
+            b'T' => cell(at).is_empty() == (self.reading == Reading::Exchanged),
+            b'F' => cell(at).is_empty() != (self.reading == Reading::Exchanged),
+            b'*' => true,
+            _ if self.reading == Reading::DigitAsT => !cell(at).is_empty(),
+            digit => cell(at).sign() == digit,
         };
-        let misfit = (0..9).find(misfits);
-        match pattern.iter().position(|c| !b"TF*".contains(c)) {
+        let allowed: &[u8] = if self.reading == Reading::NoDigits { b"TF*" } else { b"TF*012" };
+        let misfit = (0..9).find(|at| !fits(*at));
+        match pattern.iter().position(|c| !allowed.contains(c)) {
             Some(at) if self.reading != Reading::MisfitFirst || misfit.is_none_or(|misfit| at < misfit) => {
                 refused(23, at + (self.reading == Reading::FromOne) as usize)
             }
@@ -194,14 +203,13 @@ impl Judgement {
         OverlapAnswer { number: 0, place: 0, count: self.count }
     }
 
-    /// The line that document 01's `explore` writes, without its line feed.
+    /// The line that `explore` writes, without its line feed: document 01's, with the four signs of document 02's Paper 8.
     pub fn line(&self) -> String {
         let cells = self.cells();
         if cells.number != 0 {
             return format!("no {} {}", cells.number, cells.place);
         }
-        let digits: String = cells.cell.iter().flatten().map(|yes| if *yes { '1' } else { '0' }).collect();
         let (f, g) = self.vectors;
-        format!("ok {} {} {} {} {}", self.f.kind, self.g.kind, f, g, digits)
+        format!("ok {} {} {} {} {}", self.f.kind, self.g.kind, f, g, signs(&cells.cell))
     }
 }

@@ -8,6 +8,7 @@ pub use stand_in::*;
 
 #[cfg(library)]
 mod linked {
+    use crate::cells::of_signs;
     use crate::judge::{CellsAnswer, OverlapAnswer, RelateAnswer, VectorsAnswer};
 
     pub const NAME: &str = "the linked archive";
@@ -20,12 +21,12 @@ mod linked {
         g: u16,
     }
 
-    /// The cells are bool in C; read as bytes, a wrong one shows instead of being undefined.
+    /// The cells as they come, whatever their bytes are.
     #[repr(C)]
-    struct Cells {
-        number: u32,
-        place: usize,
-        cell: [[u8; 3]; 3],
+    pub struct Cells {
+        pub number: u32,
+        pub place: usize,
+        pub cell: [u8; 9],
     }
 
     #[repr(C)]
@@ -63,12 +64,14 @@ mod linked {
         VectorsAnswer { number: answer.number, place: answer.place, f: answer.f, g: answer.g }
     }
 
+    pub fn cells_as_given(scene: &[u8]) -> Cells {
+        unsafe { karvoiss_cells(start(scene), scene.len()) }
+    }
+
     pub fn cells(scene: &[u8]) -> Result<CellsAnswer, String> {
-        let answer = unsafe { karvoiss_cells(start(scene), scene.len()) };
-        if answer.cell.iter().flatten().any(|cell| *cell > 1) {
-            return Err(format!("cells: one is neither 0 nor 1: {:?}", answer.cell));
-        }
-        Ok(CellsAnswer { number: answer.number, place: answer.place, cell: answer.cell.map(|row| row.map(|cell| cell == 1)) })
+        let answer = cells_as_given(scene);
+        let cell = of_signs(&answer.cell).ok_or_else(|| format!("cells: one has none of the four signs: {:?}", answer.cell))?;
+        Ok(CellsAnswer { number: answer.number, place: answer.place, cell })
     }
 
     pub fn relate(scene: &[u8], pattern: &[u8]) -> Result<RelateAnswer, String> {

@@ -4,8 +4,9 @@
 use crate::cells::turned;
 use crate::flags::{common_dominating_point, ends_where, line_boundary};
 use crate::judge::{Judgement, Reading, TwoZeros};
+use crate::pieces::Extent;
 use crate::plane::{interior_above, Point, Segment};
-use crate::scene::{Half, Object, Refusal, POINTS, REGION};
+use crate::scene::{Half, Object, Refusal, LINE, POINTS, REGION};
 
 /// The order in which the two objects of a scene are taken up: the one given first, or the one of the lower type.
 #[derive(Clone, Copy, PartialEq, Eq, Default)]
@@ -66,8 +67,8 @@ pub struct Mistake {
 }
 
 /// Every mistake, by the name that `--mistake` takes: the four, from "refuse-all" on the imitations, then those about two zero masks, those about scenes whose
-/// first type is above the second, those about hubs, and those about patterns.
-pub const MISTAKES: [Mistake; 31] = [
+/// first type is above the second, those about hubs, those about what a cell extends to, and those about patterns.
+pub const MISTAKES: [Mistake; 40] = [
     Mistake {
         name: "next-halfsegment",
         says: "a line's end is a boundary point if the next halfsegment starts elsewhere",
@@ -86,8 +87,8 @@ pub const MISTAKES: [Mistake; 31] = [
     Mistake { name: "vertical-list", says: "m and n are exchanged for a vertical segment", rules: Rules { spoil: exchange_at_verticals, ..RIGHT } },
     Mistake {
         name: "exterior-boundary",
-        says: "exterior with boundary is yes when G is empty",
-        rules: Rules { spoil: |j| j.cells[2][1] |= j.is_taken() && j.g.is_empty(), ..RIGHT },
+        says: "exterior with boundary is not empty when G is",
+        rules: Rules { spoil: exterior_boundary_of_nothing, ..RIGHT },
     },
     Mistake {
         name: "refuse-all",
@@ -95,7 +96,7 @@ pub const MISTAKES: [Mistake; 31] = [
         rules: Rules { spoil: |j| j.early = j.early.or(Some(Refusal { number: 2, place: 0 })), ..RIGHT },
     },
     Mistake { name: "constant-vector", says: "one constant vector", rules: Rules { spoil: |j| j.vectors = (0, 0), ..RIGHT } },
-    Mistake { name: "constant-matrix", says: "one constant matrix", rules: Rules { spoil: |j| j.cells = [[true; 3]; 3], ..RIGHT } },
+    Mistake { name: "constant-matrix", says: "one constant matrix", rules: Rules { spoil: |j| j.cells = [[Extent::Area; 3]; 3], ..RIGHT } },
     Mistake { name: "buffer-alone", says: "the overlap buffer is left alone", rules: Rules { spoil: |j| j.writes = false, ..RIGHT } },
     Mistake {
         name: "invented-count",
@@ -118,7 +119,7 @@ pub const MISTAKES: [Mistake; 31] = [
     Mistake {
         name: "cells-of-no-flag",
         says: "the cells are asked with two zero masks: no part of F but its exterior meets anything",
-        rules: Rules { spoil: |j| j.cells[..2].fill([false; 3]), ..RIGHT },
+        rules: Rules { spoil: |j| j.cells[..2].fill([Extent::Empty; 3]), ..RIGHT },
     },
     Mistake {
         name: "still-8",
@@ -159,6 +160,33 @@ pub const MISTAKES: [Mistake; 31] = [
         says: "a hub of four is a boundary point as one of three is",
         rules: Rules { line_boundary: |line| ends_where(line, |number| number == 1 || number >= 3), ..RIGHT },
     },
+    Mistake {
+        name: "outlines-stretch",
+        says: "the outlines of two regions share a stretch wherever they share a point",
+        rules: Rules { spoil: |j| raise(j, (REGION, REGION), (1, 1), Extent::Points, Extent::Stretch), ..RIGHT },
+    },
+    Mistake {
+        name: "outlines-area",
+        says: "the outlines of two regions share an area where they share a stretch",
+        rules: Rules { spoil: |j| raise(j, (REGION, REGION), (1, 1), Extent::Stretch, Extent::Area), ..RIGHT },
+    },
+    Mistake {
+        name: "lines-stretch",
+        says: "two lines share a stretch wherever their interiors share a point",
+        rules: Rules { spoil: |j| raise(j, (LINE, LINE), (0, 0), Extent::Points, Extent::Stretch), ..RIGHT },
+    },
+    Mistake {
+        name: "outline-point",
+        says: "a line and a region's outline share points where they share a stretch",
+        rules: Rules { spoil: |j| raise(j, (LINE, REGION), (0, 1), Extent::Stretch, Extent::Points), ..RIGHT },
+    },
+    Mistake { name: "ends-stretch", says: "a line's boundary extends to a stretch", rules: Rules { spoil: ends_as_stretches, ..RIGHT } },
+    Mistake { name: "empty-as-0", says: "an empty cell is given as 0", rules: Rules { spoil: empty_as_points, ..RIGHT } },
+    Mistake {
+        name: "refused-as-0",
+        says: "a refusal hands back nine 0 in the cells",
+        rules: Rules { spoil: |j| j.no_cells = [[Extent::Points; 3]; 3], ..RIGHT },
+    },
     Mistake { name: "23-from-one", says: "23 counts positions from 1", rules: Rules { spoil: |j| j.reading = Reading::FromOne, ..RIGHT } },
     Mistake { name: "by-columns", says: "a pattern is read column by column", rules: Rules { spoil: |j| j.reading = Reading::ByColumns, ..RIGHT } },
     Mistake {
@@ -167,6 +195,12 @@ pub const MISTAKES: [Mistake; 31] = [
         rules: Rules { spoil: |j| j.reading = Reading::MisfitFirst, ..RIGHT },
     },
     Mistake { name: "t-for-f", says: "T and F are exchanged in a pattern", rules: Rules { spoil: |j| j.reading = Reading::Exchanged, ..RIGHT } },
+    Mistake { name: "digit-as-t", says: "a digit in a pattern is taken as T", rules: Rules { spoil: |j| j.reading = Reading::DigitAsT, ..RIGHT } },
+    Mistake {
+        name: "digit-as-23",
+        says: "a digit in a pattern is refused with 23",
+        rules: Rules { spoil: |j| j.reading = Reading::NoDigits, ..RIGHT },
+    },
 ];
 
 fn vectors_in_place(judgement: &mut Judgement) {
@@ -184,11 +218,43 @@ fn cells_in_place(judgement: &mut Judgement) {
 /// Where points or a line have no flag for it, what of the higher object meets their exterior is read off whether that object is empty.
 fn emptiness_in_place(judgement: &mut Judgement) {
     if judgement.is_taken() && judgement.descends() {
-        let has_elements = !judgement.g.is_empty();
-        judgement.cells[0][2] = has_elements;
+        let of = |extent: Extent| if judgement.g.is_empty() { Extent::Empty } else { extent };
+        judgement.cells[0][2] = of(if judgement.f.kind == REGION { Extent::Area } else { Extent::Stretch });
         if (judgement.f.kind, judgement.g.kind) == (REGION, POINTS) {
-            judgement.cells[1][2] = has_elements;
+            judgement.cells[1][2] = of(Extent::Stretch);
         }
+    }
+}
+
+fn exterior_boundary_of_nothing(judgement: &mut Judgement) {
+    if judgement.is_taken() && judgement.g.is_empty() {
+        judgement.cells[2][1] = Extent::Points;
+    }
+}
+
+/// A cell of a pair of types, given with the lower one first, extends to something else, wherever it has one extent.
+fn raise(judgement: &mut Judgement, kinds: (u8, u8), (row, column): (usize, usize), from: Extent, to: Extent) {
+    let (f, g) = (judgement.f.kind, judgement.g.kind);
+    let (row, column) = if f > g { (column, row) } else { (row, column) };
+    if (f.min(g), f.max(g)) == kinds && judgement.cells[row][column] == from {
+        judgement.cells[row][column] = to;
+    }
+}
+
+fn ends_as_stretches(judgement: &mut Judgement) {
+    let (f, g) = (judgement.f.kind, judgement.g.kind);
+    for (row, cells) in judgement.cells.iter_mut().enumerate() {
+        for (column, cell) in cells.iter_mut().enumerate() {
+            if (row == 1 && f == LINE || column == 1 && g == LINE) && !cell.is_empty() {
+                *cell = Extent::Stretch;
+            }
+        }
+    }
+}
+
+fn empty_as_points(judgement: &mut Judgement) {
+    if judgement.is_taken() {
+        judgement.cells.iter_mut().flatten().filter(|cell| cell.is_empty()).for_each(|cell| *cell = Extent::Points);
     }
 }
 

@@ -1,9 +1,56 @@
 //! Exact sample points of every piece into which two objects cut the plane: their vertices, the open edge pieces between those, the faces.
-//! One point of each piece is enough for every question about the pieces, since no piece crosses an element of either object.
+//! One point of each piece is enough for every question about the pieces, since no piece crosses an element of either object. There are finitely many pieces, so
+//! what a set of them extends to is the most that one of them does.
 //! The scene is split already (12 and 15), so no new vertices arise; points of a points object cut the edges that they lie on.
 
 use crate::plane::{halfway, Fraction, Point, Segment, LIMIT};
 use crate::scene::Object;
+
+/// What a set of points extends to, in the words of document 02's Paper 8: it is empty; it has a finite number of points and at least one; it has all points of
+/// some segment of non-zero length but of no triangle with area; it has all points of some triangle with area. The greater has the more.
+#[derive(Clone, Copy, PartialEq, Eq, PartialOrd, Ord, Debug, Default)]
+pub enum Extent {
+    #[default]
+    Empty,
+    Points,
+    Stretch,
+    Area,
+}
+
+impl Extent {
+    pub fn sign(self) -> u8 {
+        match self {
+            Extent::Empty => b'F',
+            Extent::Points => b'0',
+            Extent::Stretch => b'1',
+            Extent::Area => b'2',
+        }
+    }
+
+    pub fn is_empty(self) -> bool {
+        self == Extent::Empty
+    }
+}
+
+/// A point of a piece, and what that piece extends to.
+pub struct Sample {
+    pub at: Fraction,
+    pub extent: Extent,
+}
+
+impl Sample {
+    fn vertex(p: Point) -> Sample {
+        Sample { at: Fraction::whole(p), extent: Extent::Points }
+    }
+
+    fn edge(at: Fraction) -> Sample {
+        Sample { at, extent: Extent::Stretch }
+    }
+
+    fn face(at: Fraction) -> Sample {
+        Sample { at, extent: Extent::Area }
+    }
+}
 
 /// All different segments and points of a scene.
 pub struct Pieces {
@@ -30,23 +77,23 @@ impl Pieces {
     }
 
     /// One sample of every piece, of some pieces more than one.
-    pub fn samples(&self) -> Vec<Fraction> {
+    pub fn samples(&self) -> Vec<Sample> {
         let mut vertices = self.points.clone();
         vertices.extend(self.segments.iter().flat_map(|s| [s.left, s.right]));
         vertices.sort();
         vertices.dedup();
-        let mut samples: Vec<Fraction> = vertices.into_iter().map(Fraction::whole).collect();
+        let mut samples: Vec<Sample> = vertices.into_iter().map(Sample::vertex).collect();
         for s in &self.segments {
             // the points are in order, and so are those on one segment
             let mut cuts = vec![s.left];
             cuts.extend(self.points.iter().filter(|p| !s.has_end(**p) && s.has(&Fraction::whole(**p))));
             cuts.push(s.right);
-            samples.extend(cuts.windows(2).map(|pair| halfway(pair[0], pair[1])));
+            samples.extend(cuts.windows(2).map(|pair| Sample::edge(halfway(pair[0], pair[1]))));
             let sides = self.sides(s);
-            samples.extend([sides.below, sides.above]);
+            samples.extend([sides.below, sides.above].map(Sample::face));
         }
         // the only face of a scene without segments, and in any scene a point of the outermost face
-        samples.push(Fraction::whole((LIMIT + 1, LIMIT + 1)));
+        samples.push(Sample::face(Fraction::whole((LIMIT + 1, LIMIT + 1))));
         samples
     }
 

@@ -15,9 +15,12 @@ const NUMBERS: [u32; 18] = [1, 2, 3, 4, 5, 6, 7, 9, 10, 11, 12, 13, 14, 15, 16, 
 /// How often each refusal must have been met, and scenes of full size, and scenes at the limits of the range.
 const LEAST: usize = 50;
 
-/// The matrices of pairs of non-empty objects, in the order of PAIRS. They are those of the source's Table 1(b) but for two: since a line's boundary is by odd
-/// counts, two lines have 98 instead of 82, and a line and a region 51 instead of 43. A pair given the other way round has as many.
+/// The matrices of pairs of non-empty objects in yes and no, in the order of PAIRS. They are those of the source's Table 1(b) but for two: since a line's boundary is
+/// by odd counts, two lines have 98 instead of 82, and a line and a region 51 instead of 43. A pair given the other way round has as many.
 const MATRICES: [usize; 6] = [5, 14, 7, 98, 51, 33];
+
+/// The same with what each cell extends to. Where two outlines, two lines or a line and an outline have a point in common, it may be a stretch or not.
+const EXTENTS: [usize; 6] = [5, 14, 7, 130, 67, 41];
 
 /// The numbers of a line's segments that must have ended at one point: hubs.
 const HUBS: std::ops::RangeInclusive<usize> = 3..=7;
@@ -59,7 +62,9 @@ struct Pair {
     taken: usize,
     /// Of each flag of F, then of G: scenes in which it was set, and clear.
     flags: Vec<[usize; 2]>,
-    matrices: BTreeSet<Matrix>,
+    /// The matrices of yes and no, and those of extents.
+    matrices: BTreeSet<[[bool; 3]; 3]>,
+    extents: BTreeSet<Matrix>,
 }
 
 impl Tally {
@@ -85,7 +90,8 @@ impl Tally {
             counts[if bits >> i & 1 == 1 { 0 } else { 1 }] += 1;
         }
         if !f.is_empty() && !g.is_empty() {
-            pair.matrices.insert(judgement.cells);
+            pair.matrices.insert(judgement.cells.map(|row| row.map(|cell| !cell.is_empty())));
+            pair.extents.insert(judgement.cells);
         }
     }
 
@@ -122,11 +128,13 @@ impl Tally {
         let none = Pair::default();
         for kinds in PAIRS.iter().chain(&DESCENDING) {
             let pair = self.pairs.get(kinds).unwrap_or(&none);
-            let (all, names) = expected(*kinds);
-            let (types, found) = (format!("types {}, {}", kinds.0, kinds.1), pair.matrices.len());
-            println!("{types}: {} taken, {found} matrices of {all}", pair.taken);
-            if found > all || (complete && found < all) {
-                wrong.push(format!("{types}: {found} matrices of non-empty objects instead of {all}"));
+            let (all, all_extents, names) = expected(*kinds);
+            let (types, found, extents) = (format!("types {}, {}", kinds.0, kinds.1), pair.matrices.len(), pair.extents.len());
+            println!("{types}: {} taken, {found} matrices of {all}, with extents {extents} of {all_extents}", pair.taken);
+            for (found, all, of) in [(found, all, "yes and no"), (extents, all_extents, "extents")] {
+                if found > all || (complete && found < all) {
+                    wrong.push(format!("{types}: {found} matrices of {of} for non-empty objects instead of {all}"));
+                }
             }
             let counts = |bit: usize| pair.flags.get(bit).copied().unwrap_or([0, 0]);
             let shown: Vec<String> = names.iter().enumerate().map(|(bit, name)| format!("{name} {}/{}", counts(bit)[0], counts(bit)[1])).collect();
@@ -144,13 +152,13 @@ impl Tally {
     }
 }
 
-/// How many matrices a pair of types has, and its flags by name: F's, then G's.
-fn expected(kinds: (u8, u8)) -> (usize, Vec<String>) {
+/// How many matrices a pair of types has, in yes and no and with extents, and its flags by name: F's, then G's.
+fn expected(kinds: (u8, u8)) -> (usize, usize, Vec<String>) {
     let ascending = (kinds.0.min(kinds.1), kinds.0.max(kinds.1));
     let i = PAIRS.iter().position(|pair| *pair == ascending).expect("every pair is there, one way round");
     let (of_f, of_g) = if kinds == ascending { FLAG_NAMES[i] } else { (FLAG_NAMES[i].1, FLAG_NAMES[i].0) };
     let names = |text: &str, object: &str| text.split_whitespace().map(|name| format!("{object} {name}")).collect::<Vec<_>>();
-    (MATRICES[i], [names(of_f, "F"), names(of_g, "G")].concat())
+    (MATRICES[i], EXTENTS[i], [names(of_f, "F"), names(of_g, "G")].concat())
 }
 
 /// How many segments of a line end at each of its ends.

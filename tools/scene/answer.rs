@@ -18,8 +18,35 @@ pub struct Taken {
     pub cells: Cells,
 }
 
+/// What the points of a cell amount to: none, finitely many, a stretch, an area.
+#[derive(Clone, Copy, PartialEq, Eq, Debug)]
+pub enum Cell {
+    Empty,
+    Points,
+    Stretch,
+    Area,
+}
+
+impl Cell {
+    const ALL: [Cell; 4] = [Cell::Empty, Cell::Points, Cell::Stretch, Cell::Area];
+
+    /// As the answer line has it.
+    pub fn sign(self) -> char {
+        ['F', '0', '1', '2'][self as usize]
+    }
+
+    pub fn is_empty(self) -> bool {
+        self == Cell::Empty
+    }
+
+    /// The sign with its meaning; a dash where there is nothing.
+    pub fn words(self) -> &'static str {
+        ["-", "0 points", "1 stretch", "2 area"][self as usize]
+    }
+}
+
 /// Rows: interior, boundary, exterior of F. Columns: the same of G.
-pub type Cells = [[bool; 3]; 3];
+pub type Cells = [[Cell; 3]; 3];
 
 /// Why there is no answer, in words.
 pub fn ask(explore: &Path, scene: &[u8]) -> Result<Answer, String> {
@@ -59,9 +86,7 @@ pub fn parse(line: &str) -> Option<Answer> {
 }
 
 fn parse_cells(word: &str) -> Option<Cells> {
-    if word.len() != 9 || !word.bytes().all(|c| c == b'0' || c == b'1') {
-        return None;
-    }
-    let cell = |i: usize| word.as_bytes()[i] == b'1';
-    Some([0, 3, 6].map(|row| [0, 1, 2].map(|column| cell(row + column))))
+    let cell = |sign: char| Cell::ALL.into_iter().find(|cell| cell.sign() == sign);
+    let cells: [Cell; 9] = word.chars().map(cell).collect::<Option<Vec<_>>>()?.try_into().ok()?;
+    Some([0, 3, 6].map(|row| [0, 1, 2].map(|column| cells[row + column])))
 }

@@ -1,6 +1,6 @@
 //! An answer in words: what a planner would call it, the nine cells as a table, the flags by name; or the refusal and what to do about it.
 
-use crate::answer::{Answer, Taken};
+use crate::answer::{Answer, Cell, Taken};
 use crate::flags;
 use crate::listing::{self, Listing, NAMES};
 use crate::{predicate, refusals, relation, show};
@@ -20,14 +20,17 @@ pub fn words(bytes: &[u8], answer: &Answer, predicate: Option<&str>) -> Result<S
 
 fn accepted(taken: &Taken) -> String {
     let relation = relation::of(taken);
-    format!("{}\n  {}\n\n{}\n{}", relation.name, relation.says, table(taken), flag_lists(taken))
+    let ogc = relation.ogc.map(|name| format!("  In the OGC's terms: {name}.\n")).unwrap_or_default();
+    format!("{}\n  {}\n{ogc}\n{}\n{}", relation.name, relation.says, table(taken), flag_lists(taken))
 }
 
 fn table(taken: &Taken) -> String {
     let parts = ["interior", "boundary", "exterior"];
-    let word = |yes: bool| if yes { "yes" } else { "-" };
     let heading = format!("{:12}{:>12}{:>12}{:>12}\n", "", "G interior", "G boundary", "G exterior");
-    let row = |(part, row): (&str, [bool; 3])| format!("{:12}{:>12}{:>12}{:>12}\n", format!("F {part}"), word(row[0]), word(row[1]), word(row[2]));
+    let row = |(part, row): (&str, [Cell; 3])| {
+        let [interior, boundary, exterior] = row.map(Cell::words);
+        format!("{:12}{interior:>12}{boundary:>12}{exterior:>12}\n", format!("F {part}"))
+    };
     heading + &parts.into_iter().zip(taken.cells).map(row).collect::<String>()
 }
 

@@ -38,11 +38,6 @@ pub fn set(flags: &[Flag], vector: u16) -> impl Iterator<Item = (&Flag, bool)> {
     flags.iter().enumerate().map(move |(bit, flag)| (flag, vector >> bit & 1 == 1))
 }
 
-/// Segments in both objects; the vector's bit tells a crossing of lines from an overlap, which the nine cells do not.
-pub fn lines_share_a_segment(vector: u16) -> bool {
-    set(&LINE_LINE_F, vector).any(|(flag, set)| set && flag.name == "seg_shared")
-}
-
 const fn flag(name: &'static str, says: &'static str) -> Flag {
     Flag { name, says }
 }

@@ -1,11 +1,11 @@
 -- Laws of the line: which of the two it is, how long it is, and that no line of a program's numbers is longer than 33 bytes.
 use Prim.Native.Nat.{ℕ, _+_, _^_, _≤_, _<_}
 use mathlib.Core.Path.{_≡_, ap}
-use mathlib.Core.Bool.{Bool}
 use mathlib.Core.List.{List}
 use native.Mathlib.Omega.{arith}
 use lib.ListN.{length, length-append}
 use borrow.Author.Tests.{ne-eqb}
+use Rattle.plane_dimensions.specs.declared.Dimension.{Dimension}
 use Rattle.scene.specs.declared.Refusal.{Refusal}
 use Rattle.scene.specs.declared.CheckedScene.{CheckedScene}
 use Rattle.scene.specs.Read.{shapeNumber}
@@ -19,7 +19,7 @@ use Rattle.answer_line.proofs.Decimal.{decimal-length}
 
 -- ---- which
 
-pub taken-line : (e : Explored) {f g : ℕ} {m : List (List Bool)} → f ≡ shapeNumber (e .f) → g ≡ shapeNumber (e .g) → m ≡ matrixFrom e
+pub taken-line : (e : Explored) {f g : ℕ} {m : List (List Dimension)} → f ≡ shapeNumber (e .f) → g ≡ shapeNumber (e .g) → m ≡ matrixFrom e
     → okLine f g (e .v) (e .w) m ≡ lineOf (cellsValues (CellsAnswer.Taken e))
 unfolding lineOf
 taken-line e f g m = λ i. okLine (f i) (g i) (e .v) (e .w) (m i)
@@ -42,7 +42,7 @@ numbered s = go (checkScene s) (N.numbered s)
 
 -- ---- how long
 
-module _ (f g v w : ℕ) (cells : List (List Bool)) where
+module _ (f g v w : ℕ) (cells : List (List Dimension)) where
   pub ok-length : length (okLine f g v w cells)
       ≡ length (decimal f) + length (decimal g) + length (decimal v) + length (decimal w) + length (cellBytes cells) + 8
   unfolding okLine

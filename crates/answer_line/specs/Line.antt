@@ -2,10 +2,12 @@
 -- into a lent buffer.
 use Prim.Native.Nat.{ℕ, zero, suc, _+_, _-_, _*_, _/_, _%_, _≤_, _<_}
 use mathlib.Core.Path.{_≡_}
-use mathlib.Core.Bool.{Bool, true, false, cond}
+use mathlib.Core.Bool.{true, false, cond}
 use mathlib.Core.List.{List, [], _∷_, _++_, map}
 use lib.Dec.{eqb, ltb}
 use lib.ListN.{length, getD, take, drop}
+use Rattle.plane_dimensions.specs.declared.Dimension.{Dimension}
+use Rattle.plane_dimensions.specs.Dimensions.{sign}
 use Rattle.cells.specs.declared.CellsAnswer.{CellsAnswer}
 use Rattle.cells.specs.Explored.{CellsValues, cellsValues, cellsAnswerOf}
 
@@ -57,20 +59,16 @@ abbrev pub fields : List ℕ → List (List ℕ) → List ℕ
 fields first [] = first ++ lineFeed ∷ []
 fields first (next ∷ rest) = first ++ space ∷ fields next rest
 
--- "the nine cells row by row as 0 or 1", parted "by nothing"
-abbrev pub bit : Bool → ℕ
-bit true = digit 1
-bit false = digit 0
-
-abbrev pub rowByRow : List (List Bool) → List Bool
+-- "the nine cells row by row", parted "by nothing", each as the sign of its value: by Paper 8 of document 02 "`explore` prints these four signs"
+abbrev pub rowByRow : List (List Dimension) → List Dimension
 rowByRow [] = []
 rowByRow (row ∷ rows) = row ++ rowByRow rows
 
-abbrev pub cellBytes : List (List Bool) → List ℕ
-cellBytes cells = map bit (rowByRow cells)
+abbrev pub cellBytes : List (List Dimension) → List ℕ
+cellBytes cells = map sign (rowByRow cells)
 
 -- "ok, F's type, G's type, F's vector, G's vector (decimal, all flags), the nine cells"
-unfoldable pub okLine : ℕ → ℕ → ℕ → ℕ → List (List Bool) → List ℕ
+unfoldable pub okLine : ℕ → ℕ → ℕ → ℕ → List (List Dimension) → List ℕ
 okLine f g v w cells = fields okWord (decimal f ∷ decimal g ∷ decimal v ∷ decimal w ∷ cellBytes cells ∷ [])
 
 -- "or no, number, place"

@@ -1,8 +1,10 @@
 // The parts of the answer line, written into a lent buffer: each function writes at an offset and answers the offset after what it wrote.
+use plane_dimensions::Dimension;
 ghost use mathlib.Core.List.{[], _∷_, map};
 ghost use Prim.Native.Nat.{_+_, _<_, _≤_};
 ghost use lib.ListN.{length};
-ghost use Rattle.answer_line.specs.Line.{space, bit, decimal, cellBytes, Written};
+ghost use Rattle.plane_dimensions.specs.Dimensions.{sign};
+ghost use Rattle.answer_line.specs.Line.{space, decimal, cellBytes, Written};
 
 pub fn write_byte(out: &mut [u8], at: usize, b: u8) -> usize
     requires { ⌜ at < length (now out) ⌝ }
@@ -46,27 +48,23 @@ pub fn write_field(out: &mut [u8], at: usize, n: u64) -> usize
     write_decimal(out, number, n)
 }
 
-fn write_cell(out: &mut [u8], at: usize, cell: bool) -> usize
+fn write_cell(out: &mut [u8], at: usize, cell: Dimension) -> usize
     requires { ⌜ at < length (now out) ⌝ }
-    ensures { λ r. ⌜ Written (now (out .entry)) at (bit cell ∷ []) r (now (out .exit)) ⌝ }
+    ensures { λ r. ⌜ Written (now (out .entry)) at (sign cell ∷ []) r (now (out .exit)) ⌝ }
 {
-    if cell {
-        write_byte(out, at, b'1')
-    } else {
-        write_byte(out, at, b'0')
-    }
+    write_byte(out, at, plane_dimensions::sign(cell))
 }
 
-fn write_row(out: &mut [u8], at: usize, row: [bool; 3]) -> usize
-    requires { ⌜ at + length (map bit row) ≤ length (now out) ⌝ }
-    ensures { λ r. ⌜ Written (now (out .entry)) at (map bit row) r (now (out .exit)) ⌝ }
+fn write_row(out: &mut [u8], at: usize, row: [Dimension; 3]) -> usize
+    requires { ⌜ at + length (map sign row) ≤ length (now out) ⌝ }
+    ensures { λ r. ⌜ Written (now (out .entry)) at (map sign row) r (now (out .exit)) ⌝ }
 {
     let second = write_cell(out, at, row[0]);
     let third = write_cell(out, second, row[1]);
     write_cell(out, third, row[2])
 }
 
-pub fn write_cells(out: &mut [u8], at: usize, cells: [[bool; 3]; 3]) -> usize
+pub fn write_cells(out: &mut [u8], at: usize, cells: [[Dimension; 3]; 3]) -> usize
     requires { ⌜ at + length (cellBytes cells) ≤ length (now out) ⌝ }
     ensures { λ r. ⌜ Written (now (out .entry)) at (cellBytes cells) r (now (out .exit)) ⌝ }
 {

@@ -3,6 +3,7 @@
 use cells::CellsAnswer;
 use cells::question;
 use cells::table;
+use plane_dimensions::Dimension;
 use scene::records;
 ghost use Prim.Native.Nat.{_≤_};
 ghost use lib.ListN.{length};
@@ -14,7 +15,7 @@ pub mod fields;
 // No line is longer than this: a buffer of this length has room for any.
 pub const LINE_LIMIT: usize = 33;
 
-fn write_ok(out: &mut [u8], f: u8, g: u8, v: u16, w: u16, cells: [[bool; 3]; 3]) -> usize
+fn write_ok(out: &mut [u8], f: u8, g: u8, v: u16, w: u16, cells: [[Dimension; 3]; 3]) -> usize
     requires { do ⌜ (← ⟦LINE_LIMIT⟧) ≤ length (now out) ⌝ }
     ensures { λ r. ⌜ Written (now (out .entry)) 0 (okLine f g v w cells) r (now (out .exit)) ⌝ }
 {

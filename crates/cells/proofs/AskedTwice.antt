@@ -1,13 +1,12 @@
 -- Asked twice: the answers to two objects' bytes, a then b and b then a, agree.
 use Prim.Native.Nat.{ℕ}
 use mathlib.Core.Path.{_≡_, refl, sym, ap, ap₂, subst₂, _∙_}
-use mathlib.Core.Logic.{_↔_}
 use mathlib.Core.Bool.{Bool, true, false, cond}
 use mathlib.Core.List.{List, [], _∷_, _++_}
-use lib.Dec.{T}
 use lib.ListN.{length, getD}
-use Rattle.whole.proofs.Logic.{same-test}
 use Rattle.plane.specs.Plane.{Object}
+use Rattle.plane_dimensions.specs.Dimensions.{Value}
+use Rattle.plane_dimensions.proofs.Values.{only-one}
 use Rattle.scene.specs.declared.Layout.{Layout}
 use Rattle.scene.specs.declared.Scene.{Scene}
 use Rattle.scene.specs.declared.CheckedObject.{CheckedObject}
@@ -30,8 +29,9 @@ use Rattle.flags_masks.specs.Wanted.{masksFor, vectorOfF, vectorOfG}
 use Rattle.flags_masks.proofs.Masks.{every-flag-f, every-flag-g}
 use Rattle.flags_vectors.specs.declared.Vectors.{Vectors}
 use Rattle.flags_vectors.specs.Vectors.{vectorsIn}
-use Rattle.cells_matrix.specs.Matrix.{Part, Meet, cellAt}
-use Rattle.cells_matrix.proofs.Theorem.{shapeOf, meet-swap}
+use Rattle.cells_matrix.specs.Matrix.{Part, lies, InBoth, cellAt}
+use Rattle.cells_matrix.proofs.Theorem.{shapeOf}
+use Rattle.cells_matrix.proofs.Made.{value-swap}
 use Rattle.cells.specs.Explored.{CellsValues, answered, cellsAnswerOf, cellsValues}
 use Rattle.cells.specs.AskedTwice.{exchanged, answerTo, vectors, AskedTwice}
 use Rattle.cells.proofs.Taken.{shape-as, scene-cells}
@@ -166,8 +166,8 @@ module _ (a b : List ℕ) (l m : Layout) (first : readAlone a ≡ CheckedObject.
     vectors-are : vectors (answerTo (a ++ b)) ≡ givenFlags (elementsOf a l) (elementsOf b m)
     vectors-are = ap vectors (taken-is (a ++ b) scene taken) ∙ all-vectors (a ++ b) scene is-scene ∙ ap₂ givenFlags first-is second-is
 
-    cells-are : (r c : Part) → T (cellAt (answerTo (a ++ b) .cells) r c) ↔ Meet r (object a l) c (object b m)
-    cells-are r c = subst₂ (λ (x y : Object). T (cellAt (answerTo (a ++ b) .cells) r c) ↔ Meet r x c y) first-object second-object (scene-cells (a ++ b) scene taken r c)
+    cells-are : (r c : Part) → Value (cellAt (answerTo (a ++ b) .cells) r c) (InBoth r (object a l) c (object b m))
+    cells-are r c = subst₂ (λ (x y : Object). Value (cellAt (answerTo (a ++ b) .cells) r c) (InBoth r x c y)) first-object second-object (scene-cells (a ++ b) scene taken r c)
 
 -- ---- both ways
 
@@ -180,9 +180,8 @@ asked-twice a b l m first second = record {
       ∙ flags-exchanged (elementsOf a l) (elementsOf b m)
       ∙ (λ i. exchanged (sym (vectors-are a b l m first second e) i) (shape-of a l i) (shape-of b m i));
   cells-transposed = λ e r c.
-      let x = cells-are a b l m first second e c r in
-      let y = cells-are b a m l second first (other e) r c in
-      same-test (cellAt (answerTo (b ++ a) .cells) r c) (cellAt (answerTo (a ++ b) .cells) c r) (λ h. x .1 (meet-swap (y .0 h))) (λ h. y .1 (meet-swap (x .0 h)));
+      let x = value-swap (lies c (object a l)) (lies r (object b m)) (cellAt (answerTo (a ++ b) .cells) c r) (cells-are a b l m first second e c r) in
+      only-one (InBoth r (object b m) c (object a l)) (cellAt (answerTo (b ++ a) .cells) r c) (cellAt (answerTo (a ++ b) .cells) c r) (cells-are b a m l second first (other e) r c) x;
 }
   where
     number : answerTo (a ++ b) .number ≡ answerTo (b ++ a) .number

@@ -1,8 +1,7 @@
--- Demand 3 over bytes: what a taken scene gives the theorem, and the theorem's statement for every accepted scene.
+-- Demand 3 over bytes, with the four values of a cell: what a taken scene gives the theorem, and the theorem's statement for every byte string.
 use Prim.Native.Nat.{ℕ, zero, suc, _<_}
 use native.Mathlib.Omega.{arith}
-use mathlib.Core.Path.{_≡_, refl, sym, ap, _∙_, subst}
-use mathlib.Core.Logic.{_↔_}
+use mathlib.Core.Path.{_≡_, refl, sym, ap, _∙_, subst, subst₂}
 use mathlib.Core.Bool.{Bool, true, false, not, cond}
 use mathlib.Core.List.{List, [], _∷_}
 use lib.Dec.{T, leb, eqb, le→leb, eqb·suc-zero}
@@ -12,6 +11,9 @@ use Rattle.whole.proofs.Parity.{parity}
 use Rattle.plane.specs.declared.Segment.{Segment}
 use Rattle.plane.specs.Plane.{midpoint, countsBelow, Object}
 use Rattle.plane.proofs.Accepted.{Regular, interior-above}
+use Rattle.plane_dimensions.specs.declared.Dimension.{Dimension}
+use Rattle.plane_dimensions.specs.Dimensions.{Value}
+use Rattle.plane_dimensions.proofs.Values.{some-point}
 use Rattle.scene.specs.declared.Shape.{Shape}
 use Rattle.scene.specs.declared.Shape.the-variants.{Points, Line, Region}
 use Rattle.scene.specs.declared.Layout.{Layout}
@@ -35,12 +37,14 @@ use Rattle.flags.proofs.Elements.{outline-edges}
 use Rattle.flags_masks.proofs.Masks.{every-flag-f, every-flag-g}
 use Rattle.cells.specs.declared.Explored.{Explored}
 use Rattle.cells.specs.declared.CellsAnswer.{CellsAnswer}
-use Rattle.cells_matrix.specs.Matrix.{Part, Meet, matrixOf, cellAt, transposed}
+use Rattle.cells_matrix.specs.Matrix.{Part, lies, InBoth, matrixOf, cellAt, transposed}
 use Rattle.cells.specs.Explored as E
-use Rattle.cells.specs.Explored.{exploredBy, exploredIn, matrixFrom, answered, cellsAnswerOf, cellsValues, NoCellWrong}
+use Rattle.cells.specs.Explored.{exploredBy, exploredIn, matrixFrom, answered, cellsAnswerOf, cellsValues, InCell, NoDimensionWrong, NoCellWrong}
 use Rattle.cells_matrix.proofs.Common.{filled, filled-of}
 use Rattle.cells_matrix.proofs.RegionRegion.{Sound}
-use Rattle.cells_matrix.proofs.Theorem.{Accepted, Good, shapeOf, isEmpty, no-cell-wrong, cell-transposed, meet-swap}
+use Rattle.cells_matrix.proofs.Theorem.{Accepted, Good, shapeOf, isEmpty, cell-transposed}
+use Rattle.cells_matrix.proofs.Made.{value-swap}
+use Rattle.cells_matrix.proofs.Dimensions.{no-dimension-wrong}
 
 filled-none : {A : Type 0} (b : List A) → ((a : A) → a ∈ b → ⊥) → filled b ≡ false
 filled-none [] h = refl
@@ -123,7 +127,7 @@ module _ (s : List ℕ) where
 
 -- ---- the matrix of two vectors of F and G
 
-abbrev pub matrixBoth : Scene → Vectors → List (List Bool)
+abbrev pub matrixBoth : Scene → Vectors → List (List Dimension)
 matrixBoth sc both = matrixOf (sc .f .shape) (sc .g .shape) (both .f) (both .g) (E.isEmpty (sc .f)) (E.isEmpty (sc .g))
 
 -- in the caller's order: turned about the diagonal exactly where the objects were exchanged
@@ -169,7 +173,7 @@ module _ (s : List ℕ) (sc : Scene) (o : SoundScene s sc) where
           (subst (λ (b : Shape). T (leb (shapeNumber (sc .f .shape)) (shapeNumber b))) (sym q) (le→leb (shapeNumber (sc .f .shape)) (shapeNumber (sc .g .shape)) (ascending o)))
 
   -- the matrix of F and G
-  abbrev pair : List (List Bool)
+  abbrev pair : List (List Dimension)
   pair = matrixBoth sc (sceneVectors s sc (masksFor Wanted.All sc))
 
   pair-is : pair ≡ matrixOf (shapeOf of-f) (shapeOf of-g) (pack (flagsOfF of-f of-g)) (pack (flagsOfG of-f of-g)) (isEmpty of-f) (isEmpty of-g)
@@ -183,39 +187,43 @@ module _ (s : List ℕ) (sc : Scene) (o : SoundScene s sc) where
       let y = empty-as s (sc .g) (o .g-sound) (sc .g .shape) refl in
       cc
 
-  pair-right : (r c : Part) → T (cellAt pair r c) ↔ Meet r (C.object s (sc .f)) c (C.object s (sc .g))
+  pair-right : (r c : Part) → Value (cellAt pair r c) (InBoth r (C.object s (sc .f)) c (C.object s (sc .g)))
   pair-right r c =
-      subst (λ (m : List (List Bool)). T (cellAt m r c) ↔ Meet r (C.object s (sc .f)) c (C.object s (sc .g))) (sym pair-is)
-      (subst (λ (a : Object). T (cellAt m r c) ↔ Meet r a c (C.object s (sc .g))) (object-is s (sc .f))
-      (subst (λ (b : Object). T (cellAt m r c) ↔ Meet r (F.object of-f) c b) (object-is s (sc .g)) (no-cell-wrong of-f of-g accepted r c)))
+      subst (λ (m : List (List Dimension)). Value (cellAt m r c) (InBoth r (C.object s (sc .f)) c (C.object s (sc .g)))) (sym pair-is)
+      (subst₂ (λ (a b : Object). Value (cellAt m r c) (InBoth r a c b)) (object-is s (sc .f)) (object-is s (sc .g)) (no-dimension-wrong of-f of-g accepted r c))
     where
-      m : List (List Bool)
+      m : List (List Dimension)
       m = matrixOf (shapeOf of-f) (shapeOf of-g) (pack (flagsOfF of-f of-g)) (pack (flagsOfG of-f of-g)) (isEmpty of-f) (isEmpty of-g)
 
-  pub cells-right : (r c : Part) → T (cellAt (matrixFrom (exploredIn s sc)) r c) ↔ Meet r (C.object s (givenFirst sc)) c (C.object s (givenSecond sc))
+  pub cells-right : (r c : Part) → Value (cellAt (matrixFrom (exploredIn s sc)) r c) (InCell s sc r c)
   cells-right r c =
-      subst (λ (m : List (List Bool)). T (cellAt m r c) ↔ Meet r (C.object s (givenFirst sc)) c (C.object s (givenSecond sc))) (sym (given-is sc (o .taken .by-types) (sceneVectors s sc (masksFor Wanted.All sc)))) (go (turned sc))
+      subst (λ (m : List (List Dimension)). Value (cellAt m r c) (InCell s sc r c)) (sym (given-is sc (o .taken .by-types) (sceneVectors s sc (masksFor Wanted.All sc)))) (go (turned sc))
     where
-      go : (t : Bool) → T (cellAt (cond t (transposed pair) pair) r c) ↔ Meet r (C.object s (cond t (sc .g) (sc .f))) c (C.object s (cond t (sc .f) (sc .g)))
+      go : (t : Bool) → Value (cellAt (cond t (transposed pair) pair) r c) (InBoth r (C.object s (cond t (sc .g) (sc .f))) c (C.object s (cond t (sc .f) (sc .g))))
       go true =
-          let turn = cell-transposed pair r c in
-          (λ h. meet-swap (pair-right c r .0 (subst T turn h)), λ m. subst T (sym turn) (pair-right c r .1 (meet-swap m)))
+          subst (λ (d : Dimension). Value d (InBoth r (C.object s (sc .g)) c (C.object s (sc .f)))) (sym (cell-transposed pair r c))
+          (value-swap (lies c (C.object s (sc .f))) (lies r (C.object s (sc .g))) (cellAt pair c r) (pair-right c r))
       go false = pair-right r c
 
 -- Demand 3, of every byte string
-pub scene-cells : (s : List ℕ) → NoCellWrong s (cellsValues (cellsAnswerOf s) .cells)
+pub scene-cells : (s : List ℕ) → NoDimensionWrong s (cellsValues (cellsAnswerOf s) .cells)
 unfolding cellsAnswerOf checkScene
 scene-cells s sc e r c =
-    subst (λ (x : CheckedScene). T (cellAt (cellsValues (answered s x) .cells) r c) ↔ Meet r (C.object s (givenFirst sc)) c (C.object s (givenSecond sc))) (sym e)
-    (cells-right s sc (sound-scene [] [] s sc e) r c)
+    subst (λ (x : CheckedScene). Value (cellAt (cellsValues (answered s x) .cells) r c) (InCell s sc r c)) (sym e) (cells-right s sc (sound-scene [] [] s sc e) r c)
+
+-- and in yes and no
+pub yes-or-no : (s : List ℕ) (m : List (List Dimension)) → NoDimensionWrong s m → NoCellWrong s m
+yes-or-no s m right sc e r c =
+    let some = some-point (InCell s sc r c) (cellAt m r c) (right sc e r c) in
+    (λ t. let w = some .0 t in record { at = w .0; in-F = w .1 .0; in-G = w .1 .1 }, λ w. some .1 (w .at, (w .in-F, w .in-G)))
 
 -- as the contract says it of its result
 pub as-explored : (s : List ℕ) (k : CheckedScene) → checkScene s ≡ k → {x : CellsAnswer} → x ≡ answered s k
-    → (x ≡ cellsAnswerOf s) × NoCellWrong s (cellsValues x .cells) × CheckedMeans s (checkScene s)
+    → (x ≡ cellsAnswerOf s) × NoDimensionWrong s (cellsValues x .cells) × CheckedMeans s (checkScene s)
 unfolding cellsAnswerOf
 as-explored s k e {x} q =
     let p : x ≡ cellsAnswerOf s = q ∙ ap (answered s) (sym e) in
-    (p, subst (λ (x : CellsAnswer). NoCellWrong s (cellsValues x .cells)) (sym p) (scene-cells s), checked-means s)
+    (p, subst (λ (x : CellsAnswer). NoDimensionWrong s (cellsValues x .cells)) (sym p) (scene-cells s), checked-means s)
 
 -- a scene with two vectors, from its parts
 pub explored-by : (sc : Scene) (both : Vectors) {first second : Layout} → first ≡ givenFirst sc → second ≡ givenSecond sc

@@ -5,6 +5,9 @@ use mathlib.Core.Logic.{_↔_}
 use mathlib.Core.Bool.{Bool}
 use mathlib.Core.List.{List}
 use lib.Dec.{T, eqb}
+use Rattle.plane.specs.Plane.{FractionPoint}
+use Rattle.plane_dimensions.specs.declared.Dimension.{Dimension}
+use Rattle.plane_dimensions.specs.Dimensions.{Value, notEmpty}
 use Rattle.scene.specs.declared.Layout.{Layout}
 use Rattle.scene.specs.declared.Scene.{Scene}
 use Rattle.scene.specs.declared.CheckedScene.{CheckedScene}
@@ -15,7 +18,7 @@ use Rattle.flags_vectors.specs.declared.Vectors.{Vectors}
 use Rattle.flags_vectors.specs.Vectors.{vectorsIn}
 use Rattle.cells.specs.declared.Explored.{Explored}
 use Rattle.cells.specs.declared.CellsAnswer.{CellsAnswer}
-use Rattle.cells_matrix.specs.Matrix.{Part, Meet, matrixGiven, noCells, cellAt}
+use Rattle.cells_matrix.specs.Matrix.{Part, InBoth, Meet, matrixGiven, noCells, cellAt}
 
 -- "an object is empty when it has no elements"
 abbrev pub isEmpty : Layout → Bool
@@ -42,7 +45,7 @@ module _ (s : List ℕ) (sc : Scene) where
   exploredIn = exploredBy sc wholeVectors
 
 -- the matrix of what was explored: from the two vectors, the two types and emptiness alone
-abbrev pub matrixFrom : Explored → List (List Bool)
+abbrev pub matrixFrom : Explored → List (List Dimension)
 matrixFrom e = matrixGiven (e .f) (e .g) (e .v) (e .w) (e .«f_empty») (e .«g_empty»)
 
 -- ---- the answer
@@ -55,7 +58,7 @@ unfoldable pub cellsAnswerOf : List ℕ → CellsAnswer
 cellsAnswerOf s = answered s (checkScene s)
 
 -- "Where an answer is an enum, a definition states this paper's number and values for every one of its cases." What is taken has number 0;
--- "Every refusal has vectors .. and all other results 0, cells no".
+-- "Every refusal has vectors .. and all other results 0", and by Paper 8 of document 02 "a refusal hands back nine F".
 pub record CellsValues : Type 0 where
   pub number : ℕ
   pub place : ℕ
@@ -63,7 +66,7 @@ pub record CellsValues : Type 0 where
   pub g : ℕ
   pub v : ℕ
   pub w : ℕ
-  pub cells : List (List Bool)
+  pub cells : List (List Dimension)
 
 abbrev pub cellsValues : CellsAnswer → CellsValues
 cellsValues (CellsAnswer.Taken e) =
@@ -72,8 +75,17 @@ cellsValues (CellsAnswer.Refused r) = record { number = r .number; place = r .pl
 
 -- ---- what it means
 
--- Demand 3, of the bytes: for a scene that is taken, each cell is yes if and only if some point with fraction coordinates lies in the row's part of the object
--- given first and in the column's part of the object given second
-abbrev pub NoCellWrong : List ℕ → List (List Bool) → Type 0
+-- the cell of a row and a column in the caller's order: the points of a scene that is taken that lie in the row's part of the object given first and in the
+-- column's part of the object given second
+abbrev pub InCell : List ℕ → Scene → Part → Part → FractionPoint → Type 0
+InCell s sc r c = InBoth r (object s (givenFirst sc)) c (object s (givenSecond sc))
+
+-- Demand 3 with the four values of 02's Paper 8, of the bytes: for a scene that is taken, each cell is given as the value that its points have
+abbrev pub NoDimensionWrong : List ℕ → List (List Dimension) → Type 0
+NoDimensionWrong s m = (sc : Scene) → checkScene s ≡ CheckedScene.Taken sc → (r c : Part) → Value (cellAt m r c) (InCell s sc r c)
+
+-- Demand 3 in yes and no, which follows (`yes-or-no`, proofs/Taken.antt): each cell is not empty if and only if some point with fraction coordinates lies in both parts
+abbrev pub NoCellWrong : List ℕ → List (List Dimension) → Type 0
 NoCellWrong s m =
-    (sc : Scene) → checkScene s ≡ CheckedScene.Taken sc → (r c : Part) → T (cellAt m r c) ↔ Meet r (object s (givenFirst sc)) c (object s (givenSecond sc))
+    (sc : Scene) → checkScene s ≡ CheckedScene.Taken sc → (r c : Part)
+    → T (notEmpty (cellAt m r c)) ↔ Meet r (object s (givenFirst sc)) c (object s (givenSecond sc))

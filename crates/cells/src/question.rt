@@ -6,12 +6,13 @@ use flags_masks::Wanted;
 use flags_vectors::SceneAnswer;
 use flags_vectors::Vectors;
 use flags_vectors::question;
+use plane_dimensions::Dimension;
 use scene::Scene;
 use scene::order;
 ghost use mathlib.Core.Path.{_≡_};
 ghost use Rattle.scene.specs.Conditions.{checkScene};
 ghost use Rattle.check_verdict.specs.SharedPoints.{CheckedMeans};
-ghost use Rattle.cells.specs.Explored.{exploredBy, cellsAnswerOf, cellsValues, NoCellWrong};
+ghost use Rattle.cells.specs.Explored.{exploredBy, cellsAnswerOf, cellsValues, NoDimensionWrong};
 
 // A scene that is taken, with two vectors of it.
 pub fn explored(scene: Scene, both: Vectors) -> Explored
@@ -31,10 +32,10 @@ pub fn explored(scene: Scene, both: Vectors) -> Explored
     }
 }
 
-// What a scene's bytes are answered: for a scene that is taken, no cell is wrong; and what the verdict says in points.
+// What a scene's bytes are answered: for a scene that is taken, no cell has a wrong value; and what the verdict says in points.
 pub fn explore(s: &[u8]) -> CellsAnswer
     ensures { λ r. ⌜ (r ≡ cellsAnswerOf (now (s .entry)))
-        × NoCellWrong (now (s .entry)) (cellsValues r .cells)
+        × NoDimensionWrong (now (s .entry)) (cellsValues r .cells)
         × CheckedMeans (now (s .entry)) (checkScene (now (s .entry))) ⌝ }
 {
     match question::answer(s, Wanted::All) {
@@ -43,12 +44,12 @@ pub fn explore(s: &[u8]) -> CellsAnswer
     }
 }
 
-// The nine cells of an answer: a refusal has none.
-pub fn cells(answer: CellsAnswer) -> [[bool; 3]; 3]
+// The nine cells of an answer: those of a refusal are empty.
+pub fn cells(answer: CellsAnswer) -> [[Dimension; 3]; 3]
     ensures { λ r. ⌜ r ≡ cellsValues answer .cells ⌝ }
 {
     match answer {
         CellsAnswer::Taken(e) => table::matrix(e),
-        CellsAnswer::Refused(_) => [[false; 3]; 3],
+        CellsAnswer::Refused(_) => table::none(),
     }
 }

@@ -8,3 +8,6 @@ pub mod LineLine
 pub mod LineRegion
 pub mod RegionRegion
 pub mod Theorem
+pub mod Made
+pub mod Parts
+pub mod Dimensions

@@ -1,1 +1,1 @@
-// The nine-intersection matrix and the theorem that no cell is wrong: lemmas only. The code that computes it is in `cells`.
+// The nine-intersection matrix and the theorem that each cell has the value that the table gives it: lemmas only. The code that computes it is in `cells`.

@@ -8,6 +8,8 @@ use mathlib.Core.List.{List, [], _∷_, map}
 use lib.Dec.{T}
 use lib.ListN.{getD}
 use Rattle.whole.specs.Count.{odd}
+use Rattle.plane_dimensions.specs.declared.Dimension.{Dimension}
+use Rattle.plane_dimensions.specs.declared.Dimension.the-variants.{Area}
 use Rattle.scene.specs.declared.Shape.{Shape}
 use Rattle.scene.specs.declared.Shape.the-variants.{Points, Line, Region}
 use Rattle.scene.specs.declared.Scene.{Scene}
@@ -39,17 +41,17 @@ abbrev under : ℕ → (ℕ → Bool) → ℕ → Bool
 under mask v k = hasBit mask k && v k
 
 module _ (t u : Shape) (v w : ℕ → Bool) (e g : Bool) (r c : Part) where
-  abbrev cellBy : Bool
+  abbrev cellBy : Dimension
   cellBy = cellAt (matrixBy t u v w e g) r c
 
-  abbrev cellUnder : Bool
+  abbrev cellUnder : Dimension
   cellUnder = cellAt (matrixBy t u (under (maskAt t u r c .0) v) (under (maskAt t u r c .1) w) e g) r c
 
 -- all nine of a pair of types, as one matrix
-abbrev nine : (Part → Part → Bool) → List (List Bool)
+abbrev nine : (Part → Part → Dimension) → List (List Dimension)
 nine f = map (λ r. map (f r) parts) parts
 
-nine-at : (f : Part → Part → Bool) (r c : Part) → cellAt (nine f) r c ≡ f r c
+nine-at : (f : Part → Part → Dimension) (r c : Part) → cellAt (nine f) r c ≡ f r c
 nine-at f interior interior = refl
 nine-at f interior boundary = refl
 nine-at f interior exterior = refl
@@ -161,20 +163,20 @@ module _ (s : List ℕ) (sc : Scene) (by-types : turned sc ≡ descends (givenFi
           ∙ kept c r (λ k. rw flipped at (has-f k)) (λ k. rw flipped at (has-g k))
           ∙ sym (cell-transposed (matrixBoth sc all) r c)
 
--- ---- EE is always yes
+-- ---- EE always has an area
 
-ee-yes : (t u : Shape) (v w : ℕ) (e g : Bool) → cellAt (matrixGiven t u v w e g) exterior exterior ≡ true
+ee-area : (t u : Shape) (v w : ℕ) (e g : Bool) → cellAt (matrixGiven t u v w e g) exterior exterior ≡ Area
 unfolding matrixOf
-ee-yes Points Points v w e g = refl
-ee-yes Points Line v w e g = refl
-ee-yes Points Region v w e g = refl
-ee-yes Line Points v w e g = refl
-ee-yes Line Line v w e g = refl
-ee-yes Line Region v w e g = refl
-ee-yes Region Points v w e g = refl
-ee-yes Region Line v w e g = refl
-ee-yes Region Region v w e g = refl
+ee-area Points Points v w e g = refl
+ee-area Points Line v w e g = refl
+ee-area Points Region v w e g = refl
+ee-area Line Points v w e g = refl
+ee-area Line Line v w e g = refl
+ee-area Line Region v w e g = refl
+ee-area Region Points v w e g = refl
+ee-area Region Line v w e g = refl
+ee-area Region Region v w e g = refl
 
-pub always-yes : (sc : Scene) (both : Vectors) → cellAt (matrixFrom (exploredBy sc both)) exterior exterior ≡ true
-always-yes sc both =
-    ee-yes (givenFirst sc .shape) (givenSecond sc .shape) (both .f) (both .g) (E.isEmpty (givenFirst sc)) (E.isEmpty (givenSecond sc))
+pub always-area : (sc : Scene) (both : Vectors) → cellAt (matrixFrom (exploredBy sc both)) exterior exterior ≡ Area
+always-area sc both =
+    ee-area (givenFirst sc .shape) (givenSecond sc .shape) (both .f) (both .g) (E.isEmpty (givenFirst sc)) (E.isEmpty (givenSecond sc))

@@ -3,18 +3,22 @@ use Prim.Native.Nat.{ℕ}
 use native.Mathlib.Omega.{arith}
 use mathlib.Core.Path.{_≡_, refl, sym, ap, subst, _∙_, fun-ext}
 use mathlib.Core.Logic.{_↔_, ⊎-elim}
-use mathlib.Core.Bool.{Bool, true, false, not, cond}
+use mathlib.Core.Bool.{Bool, true, false, _||_, cond}
 use mathlib.Core.List.{List, [], _∷_, map}
-use lib.Dec.{T, T-not, eqb}
+use lib.Dec.{T, eqb, eqb→eq}
 use lib.ListN.{getD}
-use borrow.Author.Tests.{eqb-true, not-false}
+use borrow.Author.Tests.{eqb-true, eq-eqb, not-false}
 use Rattle.whole.specs.Count.{_∈_, here, there, every}
-use Rattle.whole.proofs.Logic.{decide, is-true, refute, every-at, every-make}
+use Rattle.whole.proofs.Logic.{is-true, refute, or-cases, every-at, every-make}
+use Rattle.plane.specs.Plane.{FractionPoint}
+use Rattle.plane_dimensions.specs.declared.Dimension.{Dimension}
+use Rattle.plane_dimensions.specs.declared.Dimension.the-variants.{Empty, Points, Length, Area}
+use Rattle.plane_dimensions.specs.Dimensions.{Value, sign, notEmpty}
+use Rattle.plane_dimensions.proofs.Values.{some-point, only-one}
 use Rattle.scene.specs.declared.Scene.{Scene}
 use Rattle.scene.specs.declared.Refusal.{Refusal}
 use Rattle.scene.specs.declared.CheckedScene.{CheckedScene}
-use Rattle.scene.specs.Read.{givenFirst, givenSecond}
-use Rattle.scene.specs.Conditions.{indices, object, checkScene}
+use Rattle.scene.specs.Conditions.{indices, checkScene}
 use Rattle.check_verdict.specs.declared.Verdict.{Verdict}
 use Rattle.check_verdict.specs.declared.Verdict.the-variants.{Sound, Refused}
 use Rattle.check_verdict.specs.Refusals.{settle}
@@ -27,15 +31,15 @@ use Rattle.flags_vectors.specs.declared.Vectors.{Vectors}
 use Rattle.flags_vectors.specs.declared.SceneAnswer.{SceneAnswer}
 use Rattle.flags_vectors.specs.Vectors.{vectorsIn, answerOf}
 use Rattle.flags_vectors.proofs.Answered.{accepted, was-refused, was-taken}
-use Rattle.cells_matrix.specs.Matrix.{Part, interior, boundary, exterior, parts, Meet, cellAt}
-use Rattle.cells.specs.Explored.{exploredBy, exploredIn, matrixFrom}
+use Rattle.cells_matrix.specs.Matrix.{Part, interior, boundary, exterior, parts, cellAt}
+use Rattle.cells.specs.Explored.{exploredBy, exploredIn, matrixFrom, InCell}
 use Rattle.cells.proofs.Taken.{cells-right}
 use Rattle.cells_pattern.specs.declared.RelateAnswer.{RelateAnswer}
-use Rattle.cells_pattern.specs.Pattern.{mustBe, mustNotBe, either, fits, Demands, position, characterFor, fitsAll}
+use Rattle.cells_pattern.specs.Pattern.{mustBe, either, isSign, fits, Demands, position, characterFor, fitsAll}
 use Rattle.cells_pattern.specs.Asked.{patternVerdict, asks, namedCells, askedCells, wantedCells}
 use Rattle.cells_pattern.specs.Related.{checkRelate, answered, relateOf, relateValues, NoPatternWrong}
 use Rattle.cells_pattern.proofs.Checked.{after-scene, taken-scene, relate-means}
-use Rattle.cells_pattern.proofs.ReadOff.{asked-kept, always-yes}
+use Rattle.cells_pattern.proofs.ReadOff.{asked-kept, always-area}
 
 part-in : (r : Part) → r ∈ parts
 part-in interior = here
@@ -46,27 +50,27 @@ part-in exterior = there (there here)
 
 module _ (p : List ℕ) where
   -- a matrix that fits fits everywhere, and the other way round
-  fits-at : (m : List (List Bool)) → T (fitsAll p m) → (r c : Part) → T (fits (characterFor p r c) (cellAt m r c))
+  fits-at : (m : List (List Dimension)) → T (fitsAll p m) → (r c : Part) → T (fits (characterFor p r c) (cellAt m r c))
   unfolding fitsAll
   fits-at m t r c =
       every-at (λ c. fits (characterFor p r c) (cellAt m r c)) (every-at (λ r. every (λ c. fits (characterFor p r c) (cellAt m r c)) parts) t (part-in r)) (part-in c)
 
-  fits-by : (m : List (List Bool)) → ((r c : Part) → T (fits (characterFor p r c) (cellAt m r c))) → T (fitsAll p m)
+  fits-by : (m : List (List Dimension)) → ((r c : Part) → T (fits (characterFor p r c) (cellAt m r c))) → T (fitsAll p m)
   unfolding fitsAll
   fits-by m h =
       every-make (λ r. every (λ c. fits (characterFor p r c) (cellAt m r c)) parts) parts (λ r _. every-make (λ c. fits (characterFor p r c) (cellAt m r c)) parts (λ c _. h r c))
 
-  alike : (m n : List (List Bool)) → ((r c : Part) → fits (characterFor p r c) (cellAt m r c) ≡ fits (characterFor p r c) (cellAt n r c)) → fitsAll p m ≡ fitsAll p n
+  alike : (m n : List (List Dimension)) → ((r c : Part) → fits (characterFor p r c) (cellAt m r c) ≡ fits (characterFor p r c) (cellAt n r c)) → fitsAll p m ≡ fitsAll p n
   unfolding fitsAll
   alike m n h = ap (λ (f : Part → Part → Bool). every (λ r. every (f r) parts) parts) (fun-ext (λ r. fun-ext (λ c. h r c)))
 
-  -- where EE must be no and is yes, nothing else matters
-  misfit : getD p 8 0 ≡ mustNotBe → (m : List (List Bool)) → cellAt m exterior exterior ≡ true → fitsAll p m ≡ false
-  misfit e m is = refute (fitsAll p m) (λ t. subst T (ap (λ c. fits c (cellAt m exterior exterior)) e ∙ ap (fits mustNotBe) is) (fits-at m t exterior exterior))
+  -- where EE does not fit, nothing else matters
+  misfit : fits (getD p 8 0) Area ≡ false → (m : List (List Dimension)) → cellAt m exterior exterior ≡ Area → fitsAll p m ≡ false
+  misfit e m is = refute (fitsAll p m) (λ t. subst T (ap (fits (getD p 8 0)) is ∙ e) (fits-at m t exterior exterior))
 
 -- ---- the cells that a pattern asks
 
-any-fits : (c : ℕ) → c ≡ either → (x y : Bool) → fits c x ≡ fits c y
+any-fits : (c : ℕ) → c ≡ either → (x y : Dimension) → fits c x ≡ fits c y
 any-fits c e x y = subst (λ k. fits k x ≡ fits k y) (sym e) refl
 
 named : (p : List ℕ) (r c : Part) → getD (map (λ i. asks (getD p i 0)) (indices 9 0)) (position r c) false ≡ asks (characterFor p r c)
@@ -84,53 +88,78 @@ asked-bit : (p : List ℕ) (r c : Part) → hasBit (namedCells p) (position r c)
 asked-bit p r c = pack-bit (map (λ i. asks (getD p i 0)) (indices 9 0)) (position r c) ∙ named p r c
 
 module _ (s p : List ℕ) (sc : Scene) (taken : checkScene s ≡ CheckedScene.Taken sc) where
-  abbrev whole : List (List Bool)
+  abbrev whole : List (List Dimension)
   whole = matrixFrom (exploredIn s sc)
 
-  abbrev read : ℕ → List (List Bool)
+  abbrev read : ℕ → List (List Dimension)
   read cells = matrixFrom (exploredBy sc (vectorsIn s sc (Wanted.Cells cells)))
 
   -- the matrix of the flags that are wanted fits exactly if that of all flags does
   same-fit : fitsAll p (read (askedCells p)) ≡ fitsAll p whole
   unfolding askedCells
-  same-fit = go (eqb (getD p 8 0) mustNotBe) refl
+  same-fit = go (fits (getD p 8 0) Area) refl
     where
       each : (r c : Part) (b : Bool) → asks (characterFor p r c) ≡ b
           → fits (characterFor p r c) (cellAt (read (namedCells p)) r c) ≡ fits (characterFor p r c) (cellAt whole r c)
       each r c true e = ap (fits (characterFor p r c)) (asked-kept s sc (accepted s sc taken .taken .by-types) (namedCells p) r c (is-true _ (asked-bit p r c ∙ e)))
       each r c false e = any-fits (characterFor p r c) (eqb-true (characterFor p r c) either (not-false _ e)) (cellAt (read (namedCells p)) r c) (cellAt whole r c)
 
-      go : (b : Bool) → eqb (getD p 8 0) mustNotBe ≡ b → fitsAll p (read (cond b 0 (namedCells p))) ≡ fitsAll p whole
-      go true e =
-          let m = eqb-true (getD p 8 0) mustNotBe e in
-          misfit p m (read 0) (always-yes sc (vectorsIn s sc (Wanted.Cells 0))) ∙ sym (misfit p m whole (always-yes sc (vectorsIn s sc Wanted.All)))
-      go false e = alike p (read (namedCells p)) whole (λ r c. each r c (asks (characterFor p r c)) refl)
+      go : (b : Bool) → fits (getD p 8 0) Area ≡ b → fitsAll p (read (cond b (namedCells p) 0)) ≡ fitsAll p whole
+      go true e = alike p (read (namedCells p)) whole (λ r c. each r c (asks (characterFor p r c)) refl)
+      go false e = misfit p e (read 0) (always-area sc (vectorsIn s sc (Wanted.Cells 0))) ∙ sym (misfit p e whole (always-area sc (vectorsIn s sc Wanted.All)))
 
 -- ---- in points
 
-fits-means : (c : ℕ) (cell : Bool) {A : Type 0} → T cell ↔ A → T (fits c cell) ↔ Demands c A
-fits-means c cell {A} h = (to, from)
+-- a sign is one value's
+sign-of : (c : ℕ) → T (isSign c) → (d : Dimension) × (c ≡ sign d)
+sign-of c t = ⊎-elim (λ t. ⊎-elim (λ t. ⊎-elim (is Empty) (is Points) (or-cases (eqb c 70) (eqb c 48) t)) (is Length) (or-cases (eqb c 70 || eqb c 48) (eqb c 49) t)) (is Area) (or-cases (eqb c 70 || eqb c 48 || eqb c 49) (eqb c 50) t)
   where
-    to : T (fits c cell) → Demands c A
-    to t = (λ e. h .0 (subst (λ k. T (fits k cell)) e t), λ e a. T-not cell (subst (λ k. T (fits k cell)) e t) (h .1 a))
+    is : (d : Dimension) → T (eqb c (sign d)) → (d : Dimension) × (c ≡ sign d)
+    is d t = (d, eqb→eq c (sign d) t)
 
-    from : Demands c A → T (fits c cell)
-    from d = go (eqb c mustBe) (eqb c mustNotBe) refl refl
-      where
-        go : (a b : Bool) → eqb c mustBe ≡ a → eqb c mustNotBe ≡ b → T (cond a cell (cond b (not cell) true))
-        go true b e q = h .1 (d .0 (eqb-true c mustBe e))
-        go false true e q = ⊎-elim (λ t. absurd (d .1 (eqb-true c mustNotBe q) (h .0 t))) (λ t. t) (decide cell)
-        go false false e q = tt
+-- so that it fits that value alone
+sign-fits : (d e : Dimension) → T (fits (sign d) e) → d ≡ e
+sign-fits Empty Empty t = refl
+sign-fits Empty Points t = absurd t
+sign-fits Empty Length t = absurd t
+sign-fits Empty Area t = absurd t
+sign-fits Points Empty t = absurd t
+sign-fits Points Points t = refl
+sign-fits Points Length t = absurd t
+sign-fits Points Area t = absurd t
+sign-fits Length Empty t = absurd t
+sign-fits Length Points t = absurd t
+sign-fits Length Length t = refl
+sign-fits Length Area t = absurd t
+sign-fits Area Empty t = absurd t
+sign-fits Area Points t = absurd t
+sign-fits Area Length t = absurd t
+sign-fits Area Area t = refl
+
+module _ (A : FractionPoint → Type 0) (d : Dimension) (value : Value d A) where
+  fits-means : (c : ℕ) → T (fits c d) ↔ Demands c A
+  fits-means c = (to, from)
+    where
+      to : T (fits c d) → Demands c A
+      to t = (λ e. some-point A d value .0 (subst (λ k. T (fits k d)) e t), λ x e. subst (λ y. Value y A) (sym (sign-fits x d (subst (λ k. T (fits k d)) e t))) value)
+
+      from : Demands c A → T (fits c d)
+      from h = go (eqb c mustBe) (isSign c) refl refl
+        where
+          go : (a b : Bool) → eqb c mustBe ≡ a → isSign c ≡ b → T (cond a (notEmpty d) (cond b (eqb c (sign d)) true))
+          go true b e q = some-point A d value .1 (h .0 (eqb-true c mustBe e))
+          go false true e q = let x = sign-of c (is-true _ q) in is-true (eqb c (sign d)) (eq-eqb c (sign d) (x .1 ∙ ap sign (only-one A (x .0) d (h .1 (x .0) (x .1)) value)))
+          go false false e q = tt
 
 pattern-right : (s p : List ℕ) (sc : Scene) → checkScene s ≡ CheckedScene.Taken sc
-    → T (fitsAll p (matrixFrom (exploredIn s sc))) ↔ ((r c : Part) → Demands (characterFor p r c) (Meet r (object s (givenFirst sc)) c (object s (givenSecond sc))))
+    → T (fitsAll p (matrixFrom (exploredIn s sc))) ↔ ((r c : Part) → Demands (characterFor p r c) (InCell s sc r c))
 pattern-right s p sc taken = (λ t r c. means r c .0 (fits-at p m t r c), λ d. fits-by p m (λ r c. means r c .1 (d r c)))
   where
-    m : List (List Bool)
+    m : List (List Dimension)
     m = matrixFrom (exploredIn s sc)
 
-    means : (r c : Part) → T (fits (characterFor p r c) (cellAt m r c)) ↔ Demands (characterFor p r c) (Meet r (object s (givenFirst sc)) c (object s (givenSecond sc)))
-    means r c = fits-means (characterFor p r c) (cellAt m r c) (cells-right s sc (accepted s sc taken) r c)
+    means : (r c : Part) → T (fits (characterFor p r c) (cellAt m r c)) ↔ Demands (characterFor p r c) (InCell s sc r c)
+    means r c = fits-means (InCell s sc r c) (cellAt m r c) (cells-right s sc (accepted s sc taken) r c) (characterFor p r c)
 
 -- ---- the answer
 
@@ -138,7 +167,7 @@ module _ (s p : List ℕ) where
   no-pattern-wrong : NoPatternWrong s p (relateValues (relateOf s p) .holds)
   unfolding relateOf
   no-pattern-wrong sc e =
-      subst (λ (x : CheckedScene). T (relateValues (answered s p x) .holds) ↔ ((r c : Part) → Demands (characterFor p r c) (Meet r (object s (givenFirst sc)) c (object s (givenSecond sc)))))
+      subst (λ (x : CheckedScene). T (relateValues (answered s p x) .holds) ↔ ((r c : Part) → Demands (characterFor p r c) (InCell s sc r c)))
       (sym e) (pattern-right s p sc (taken-scene s p sc e))
 
   -- as the contract says it of its result

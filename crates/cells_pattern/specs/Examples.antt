@@ -1,8 +1,10 @@
 -- Patterns against the matrix of document 01's scene a, and patterns that are turned away, by computation.
 use Prim.Native.Nat.{ℕ}
 use mathlib.Core.Path.{_≡_, refl}
-use mathlib.Core.Bool.{Bool, true, false}
+use mathlib.Core.Bool.{true, false}
 use mathlib.Core.List.{List, [], _∷_}
+use Rattle.plane_dimensions.specs.declared.Dimension.{Dimension}
+use Rattle.plane_dimensions.specs.declared.Dimension.the-variants.{Empty, Points, Length, Area}
 use Rattle.scene.specs.declared.Refusal.{Refusal}
 use Rattle.check_verdict.specs.declared.Verdict.{Verdict}
 use Rattle.check_verdict.specs.declared.Verdict.the-variants.{Sound, Refused}
@@ -10,7 +12,7 @@ use Rattle.cells_matrix.specs.Matrix.{transposed}
 use Rattle.cells_pattern.specs.Pattern.{fitsAll}
 use Rattle.cells_pattern.specs.Asked.{patternVerdict}
 
--- T, F, * and x
+-- T, F, * and the digits
 abbrev y : ℕ
 y = 84
 
@@ -20,9 +22,18 @@ n = 70
 abbrev e : ℕ
 e = 42
 
--- "011000111"
-abbrev sceneA : List (List Bool)
-sceneA = (false ∷ true ∷ true ∷ []) ∷ (false ∷ false ∷ false ∷ []) ∷ (true ∷ true ∷ true ∷ []) ∷ []
+abbrev zero-sign : ℕ
+zero-sign = 48
+
+abbrev one-sign : ℕ
+one-sign = 49
+
+abbrev two-sign : ℕ
+two-sign = 50
+
+-- "F00FFF102"
+abbrev sceneA : List (List Dimension)
+sceneA = (Empty ∷ Points ∷ Points ∷ []) ∷ (Empty ∷ Empty ∷ Empty ∷ []) ∷ (Length ∷ Points ∷ Area ∷ []) ∷ []
 
 -- FTTFFFTTT
 abbrev rows : List ℕ
@@ -31,6 +42,18 @@ rows = n ∷ y ∷ y ∷ n ∷ n ∷ n ∷ y ∷ y ∷ y ∷ []
 -- FFTTFTTFT
 abbrev columns : List ℕ
 columns = n ∷ n ∷ y ∷ y ∷ n ∷ y ∷ y ∷ n ∷ y ∷ []
+
+-- F00FFF102 with a last character, and F01FFF102
+abbrev digits : ℕ → List ℕ
+digits c = n ∷ zero-sign ∷ zero-sign ∷ n ∷ n ∷ n ∷ one-sign ∷ zero-sign ∷ c ∷ []
+
+own-signs : fitsAll (digits two-sign) sceneA ≡ true
+unfolding fitsAll
+own-signs = refl
+
+other-sign : fitsAll (n ∷ zero-sign ∷ one-sign ∷ n ∷ n ∷ n ∷ one-sign ∷ zero-sign ∷ two-sign ∷ []) sceneA ≡ false
+unfolding fitsAll
+other-sign = refl
 
 own-rows : fitsAll rows sceneA ≡ true
 unfolding fitsAll
@@ -75,7 +98,11 @@ ten : patternVerdict (n ∷ y ∷ y ∷ n ∷ n ∷ n ∷ y ∷ y ∷ y ∷ 120 
 unfolding patternVerdict
 ten = refl
 
--- TTTFFFTTx, and fTTFFFTTT
+-- F00FFF103, TTTFFFTTx, and fTTFFFTTT
+no-sign : patternVerdict (digits 51) ≡ refused 23 8
+unfolding patternVerdict
+no-sign = refl
+
 last : patternVerdict (y ∷ y ∷ y ∷ n ∷ n ∷ n ∷ y ∷ y ∷ 120 ∷ []) ≡ refused 23 8
 unfolding patternVerdict
 last = refl

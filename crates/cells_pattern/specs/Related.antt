@@ -7,10 +7,9 @@ use mathlib.Core.List.{List, [], _∷_}
 use lib.Dec.{T}
 use Rattle.scene.specs.declared.Scene.{Scene}
 use Rattle.scene.specs.declared.CheckedScene.{CheckedScene}
-use Rattle.scene.specs.Read.{givenFirst, givenSecond}
-use Rattle.scene.specs.Conditions.{Rule, rule, object, sceneRules, checkSceneBy}
-use Rattle.cells_matrix.specs.Matrix.{Part, Meet}
-use Rattle.cells.specs.Explored.{exploredIn, matrixFrom}
+use Rattle.scene.specs.Conditions.{Rule, rule, sceneRules, checkSceneBy}
+use Rattle.cells_matrix.specs.Matrix.{Part}
+use Rattle.cells.specs.Explored.{exploredIn, matrixFrom, InCell}
 use Rattle.cells_pattern.specs.declared.RelateAnswer.{RelateAnswer}
 use Rattle.cells_pattern.specs.Pattern.{Demands, characterFor, fitsAll, firstOther, notNine}
 
@@ -43,9 +42,9 @@ relateValues (RelateAnswer.Refused r) = record { number = r .number; place = r .
 
 -- ---- what it means
 
--- Of a scene that is taken with a pattern that is: yes exactly if each T has a point with fraction coordinates in both parts, and each F has none. Rows are
--- those of the object given first, columns of the one given second.
+-- Of a scene that is taken with a pattern that is: yes exactly if the cell of each T has a point with fraction coordinates, and that of each sign the sign's value.
+-- Rows are those of the object given first, columns of the one given second.
 abbrev pub NoPatternWrong : List ℕ → List ℕ → Bool → Type 0
 NoPatternWrong s p holds =
     (sc : Scene) → checkRelate s p ≡ CheckedScene.Taken sc
-    → T holds ↔ ((r c : Part) → Demands (characterFor p r c) (Meet r (object s (givenFirst sc)) c (object s (givenSecond sc))))
+    → T holds ↔ ((r c : Part) → Demands (characterFor p r c) (InCell s sc r c))

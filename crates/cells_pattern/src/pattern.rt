@@ -1,21 +1,29 @@
 // A pattern's bytes: what is turned away, the cells that are asked, and whether a matrix fits.
 use check_verdict::Verdict;
+use plane_dimensions::Dimension;
+use plane_dimensions::sign;
 use scene::Fault;
 use scene::Refusal;
 ghost use mathlib.Core.Path.{_≡_};
 ghost use Prim.Native.Nat.{_+_, _<_, _≤_};
 ghost use lib.ListN.{length};
 ghost use Rattle.whole.specs.Count.{bit};
-ghost use Rattle.cells_pattern.specs.Pattern.{fits, isCharacter, fitsRow, fitsAll, firstOther};
+ghost use Rattle.cells_pattern.specs.Pattern.{isSign, fits, isCharacter, fitsRow, fitsAll, firstOther};
 ghost use Rattle.cells_pattern.specs.Asked.{patternVerdict, asks, namedRow, askedCells, wantedCells};
+
+fn is_sign(c: u8) -> bool
+    ensures { λ r. ⌜ r ≡ isSign c ⌝ }
+{
+    (c == b'F') | (c == b'0') | (c == b'1') | (c == b'2')
+}
 
 fn is_character(c: u8) -> bool
     ensures { λ r. ⌜ r ≡ isCharacter c ⌝ }
 {
-    (c == b'T') | (c == b'F') | (c == b'*')
+    (c == b'T') | is_sign(c) | (c == b'*')
 }
 
-// 23: the first character that is none of the three.
+// 23: the first character outside the six.
 fn first_other(p: &[u8]) -> Fault
     ensures { λ r. ⌜ r ≡ firstOther (now (p .entry)) 0 ⌝ }
 {
@@ -60,12 +68,12 @@ fn asked_row(p: &[u8], at: usize) -> u16
     asked(p[at]) + 2 * asked(p[at + 1]) + 4 * asked(p[at + 2])
 }
 
-// A bit for each cell that is asked, none where EE must be no.
+// A bit for each cell that is asked, none where EE, which has an area, does not fit.
 fn asked_cells(p: &[u8]) -> u16
     requires { ⌜ length (now p) ≡ 9 ⌝ }
     ensures { λ r. ⌜ r ≡ askedCells (now (p .entry)) ⌝ }
 {
-    if p[8] == b'F' {
+    if !fits(p[8], Dimension::Area) {
         return 0;
     }
     asked_row(p, 0) + 8 * asked_row(p, 3) + 64 * asked_row(p, 6)
@@ -83,20 +91,21 @@ pub fn wanted_cells(p: &[u8], verdict: Verdict) -> u16
 }
 
 // Does a cell fit a character?
-fn fits(c: u8, cell: bool) -> bool
+fn fits(c: u8, cell: Dimension) -> bool
     ensures { λ r. ⌜ r ≡ fits c cell ⌝ }
 {
+    let own = sign(cell);
     if c == b'T' {
-        cell
-    } else if c == b'F' {
-        !cell
+        own != b'F'
+    } else if is_sign(c) {
+        c == own
     } else {
         true
     }
 }
 
 // Do the three cells of a row fit the characters from a position on?
-fn fits_row(p: &[u8], at: usize, row: [bool; 3]) -> bool
+fn fits_row(p: &[u8], at: usize, row: [Dimension; 3]) -> bool
     requires { ⌜ at + 3 ≤ length (now p) ⌝ }
     ensures { λ r. ⌜ r ≡ fitsRow (now (p .entry)) at row ⌝ }
 {
@@ -104,7 +113,7 @@ fn fits_row(p: &[u8], at: usize, row: [bool; 3]) -> bool
 }
 
 // Do all nine cells fit, row by row?
-pub fn fits_all(p: &[u8], m: [[bool; 3]; 3]) -> bool
+pub fn fits_all(p: &[u8], m: [[Dimension; 3]; 3]) -> bool
     requires { ⌜ length (now p) ≡ 9 ⌝ }
     ensures { λ r. ⌜ r ≡ fitsAll (now (p .entry)) m ⌝ }
 {

@@ -1,8 +1,18 @@
--- What C gets for each answer: number 0 means taken; a refusal has its number and place, no flag, no cell, and no pattern holds.
+-- What C gets for each answer: number 0 means taken; a refusal has its number and place, no flag, nine F, and no pattern that holds. And what the signs of the cells mean.
+use Prim.Native.Nat.{ℕ}
+use mathlib.Core.Path.{_≡_}
+use mathlib.Core.List.{List, [], map}
+use lib.ListN.{getD}
+use Rattle.plane_dimensions.specs.declared.Dimension.{Dimension}
+use Rattle.plane_dimensions.specs.Dimensions.{sign, Value}
+use Rattle.scene.specs.declared.Scene.{Scene}
+use Rattle.scene.specs.declared.CheckedScene.{CheckedScene}
+use Rattle.scene.specs.Conditions.{checkScene}
 use Rattle.flags_vectors.specs.declared.VectorsAnswer.{VectorsAnswer}
 use Rattle.flags_vectors.specs.Vectors.{vectorsValues}
 use Rattle.cells.specs.declared.CellsAnswer.{CellsAnswer}
-use Rattle.cells.specs.Explored.{cellsValues}
+use Rattle.cells.specs.Explored.{cellsValues, InCell}
+use Rattle.cells_matrix.specs.Matrix.{Part, index, parts}
 use Rattle.cells_pattern.specs.declared.RelateAnswer.{RelateAnswer}
 use Rattle.cells_pattern.specs.Related.{relateValues}
 use Rattle.karvoiss.specs.declared.KarvoissVectors.{KarvoissVectors}
@@ -16,10 +26,17 @@ vectorsForC e =
     let values = vectorsValues e in
     record { number = values .number; place = values .place; f = values .f; g = values .g }
 
+-- "Give each cell as F, 0, 1 or 2"
+abbrev pub rowSigns : List Dimension → List ℕ
+rowSigns row = map (λ c. sign (getD row (index c) Dimension.Empty)) parts
+
+abbrev pub signs : List (List Dimension) → List (List ℕ)
+signs m = map (λ r. rowSigns (getD m (index r) [])) parts
+
 abbrev pub cellsForC : CellsAnswer → KarvoissCells
 cellsForC e =
     let values = cellsValues e in
-    record { number = values .number; place = values .place; cell = values .cells }
+    record { number = values .number; place = values .place; cell = signs (values .cells) }
 
 abbrev pub relateForC : RelateAnswer → KarvoissRelate
 relateForC e =
@@ -28,3 +45,13 @@ relateForC e =
 
 abbrev pub overlapForC : Overlap → KarvoissOverlap
 overlapForC o = record { number = o .number; place = o .place; count = o .count }
+
+-- ---- what the signs mean
+
+abbrev pub signAt : List (List ℕ) → Part → Part → ℕ
+signAt m r c = getD (getD m (index r) []) (index c) 0
+
+-- for a scene that is taken, each byte is the sign of the value that the points of its cell have
+abbrev pub NoSignWrong : List ℕ → List (List ℕ) → Type 0
+NoSignWrong s m =
+    (sc : Scene) → checkScene s ≡ CheckedScene.Taken sc → (r c : Part) → (d : Dimension) × (signAt m r c ≡ sign d) × Value d (InCell s sc r c)

@@ -3,16 +3,18 @@ use cells::CellsAnswer;
 use cells_pattern::RelateAnswer;
 use flags_vectors::VectorsAnswer;
 use flags_vectors::question;
+use plane_dimensions::Dimension;
+use plane_dimensions::sign;
 ghost use mathlib.Core.Path.{_≡_};
 ghost use Rattle.check_verdict.specs.SharedPoints.{CheckedMeans};
 ghost use Rattle.flags_vectors.specs.Vectors.{these, checkVectors, vectorsOf, NoFlagWrong};
 ghost use Rattle.scene.specs.Conditions.{checkScene};
-ghost use Rattle.cells.specs.Explored.{cellsAnswerOf, NoCellWrong};
+ghost use Rattle.cells.specs.Explored.{cellsAnswerOf};
 ghost use lib.ListN.{length};
 ghost use Rattle.cells_pattern.specs.Related.{checkRelate, relateOf, NoPatternWrong};
 ghost use Rattle.overlap.specs.Rules.{checkList};
 ghost use Rattle.overlap.specs.Overlap.{overlapOf, bufferAfter};
-ghost use Rattle.karvoiss.specs.Answer.{vectorsForC, cellsForC, relateForC, overlapForC};
+ghost use Rattle.karvoiss.specs.Answer.{vectorsForC, rowSigns, signs, cellsForC, NoSignWrong, relateForC, overlapForC};
 
 #[repr(C)]
 pub struct KarvoissVectors {
@@ -49,11 +51,24 @@ pub extern "C" fn karvoiss_vectors(scene: &[u8], want_f: u16, want_g: u16) -> Ka
 pub struct KarvoissCells {
     pub number: u32,
     pub place: usize,
-    pub cell: [[bool; 3]; 3],
+    pub cell: [[u8; 3]; 3],
+}
+
+fn row_signs(row: [Dimension; 3]) -> [u8; 3]
+    ensures { λ r. ⌜ r ≡ rowSigns row ⌝ }
+{
+    [sign(row[0]), sign(row[1]), sign(row[2])]
+}
+
+// The signs of nine cells.
+fn signs(m: [[Dimension; 3]; 3]) -> [[u8; 3]; 3]
+    ensures { λ r. ⌜ r ≡ signs m ⌝ }
+{
+    [row_signs(m[0]), row_signs(m[1]), row_signs(m[2])]
 }
 
 // The answer as C gets it. The literal is proved by hand, so it stands in a function of its own.
-fn handed(number: u32, place: usize, cell: [[bool; 3]; 3]) -> KarvoissCells
+fn handed(number: u32, place: usize, cell: [[u8; 3]; 3]) -> KarvoissCells
     ensures { λ r. ⌜ r ≡ record { number = number; place = place; cell = cell } ⌝ }
 {
     KarvoissCells {
@@ -63,18 +78,18 @@ fn handed(number: u32, place: usize, cell: [[bool; 3]; 3]) -> KarvoissCells
     }
 }
 
-// The cells question: for every byte string the whole answer; no cell is wrong; and what the verdict says in points.
+// The cells question: for every byte string the whole answer; no sign is wrong; and what the verdict says in points.
 #[no_mangle]
 pub extern "C" fn karvoiss_cells(scene: &[u8]) -> KarvoissCells
     ensures { λ r. ⌜ (r ≡ cellsForC (cellsAnswerOf (now (scene .entry))))
-        × NoCellWrong (now (scene .entry)) (r .cell)
+        × NoSignWrong (now (scene .entry)) (r .cell)
         × CheckedMeans (now (scene .entry)) (checkScene (now (scene .entry))) ⌝ }
 {
     let answer = cells::question::explore(scene);
-    let matrix = cells::question::cells(answer);
+    let cell = signs(cells::question::cells(answer));
     match answer {
-        CellsAnswer::Taken(_) => handed(0, 0, matrix),
-        CellsAnswer::Refused(r) => handed(r.number as u32, r.place, matrix),
+        CellsAnswer::Taken(_) => handed(0, 0, cell),
+        CellsAnswer::Refused(r) => handed(r.number as u32, r.place, cell),
     }
 }
 

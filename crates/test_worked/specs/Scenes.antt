@@ -1,5 +1,5 @@
--- Document 01's section "The twelve scenes": scenes a to l as bytes, with the line that each gives, and the one statement that the definitions give them. The
--- checker computes it, from the bytes to the whole line.
+-- Document 01's section "The twelve scenes": scenes a to l as bytes, with the line that each gives, its cells in the four signs of document 02's Paper 8, and the
+-- one statement that the definitions give them. The checker computes it, from the bytes to the whole line.
 use Prim.Native.Nat.{ℕ, _/_, _%_}
 use Prim.Native.Char.{Char, code}
 use Prim.Native.String.{String}
@@ -66,30 +66,30 @@ pub table : List Row
 unfolding word P L R points line region box square text _gives_
 table =
     -- a. (0,0), (2,2); line (0,0)-(4,0), (4,0)-(4,3)
-    (points (P 0 0 ++ P 2 2) ++ line (L 0 0 4 0 1 ++ L 0 0 4 0 0 ++ L 4 0 4 3 1 ++ L 4 0 4 3 0) gives "ok 1 2 5 1 011000111\n")
+    (points (P 0 0 ++ P 2 2) ++ line (L 0 0 4 0 1 ++ L 0 0 4 0 0 ++ L 4 0 4 3 1 ++ L 4 0 4 3 0) gives "ok 1 2 5 1 F00FFF102\n")
     -- b. (2,2), (4,2), (5,5); square 0..4
-    ∷ (points (P 2 2 ++ P 4 2 ++ P 5 5) ++ square 0 4 gives "ok 1 3 7 0 111000111\n")
+    ∷ (points (P 2 2 ++ P 4 2 ++ P 5 5) ++ square 0 4 gives "ok 1 3 7 0 000FFF212\n")
     -- c. square 0..4; square 1..3
-    ∷ (square 0 4 ++ square 1 3 gives "ok 3 3 3 12 111001001\n")
+    ∷ (square 0 4 ++ square 1 3 gives "ok 3 3 3 12 212FF1FF2\n")
     -- d. square 0..2; square 2..4
-    ∷ (square 0 2 ++ square 2 4 gives "ok 3 3 131 3 001011111\n")
+    ∷ (square 0 2 ++ square 2 4 gives "ok 3 3 131 3 FF2F01212\n")
     -- e. square 0..2; x 2..4, y 0..2
-    ∷ (square 0 2 ++ region (box 2 0 4 2) gives "ok 3 3 195 3 001011111\n")
+    ∷ (square 0 2 ++ region (box 2 0 4 2) gives "ok 3 3 195 3 FF2F11212\n")
     -- f. square 0..4 twice
-    ∷ (square 0 4 ++ square 0 4 gives "ok 3 3 176 0 100010001\n")
+    ∷ (square 0 4 ++ square 0 4 gives "ok 3 3 176 0 2FFF1FFF2\n")
     -- g. no points twice
-    ∷ (points [] ++ points [] gives "ok 1 1 0 0 000000001\n")
+    ∷ (points [] ++ points [] gives "ok 1 1 0 0 FFFFFFFF2\n")
     -- h. no points; square 0..4
-    ∷ (points [] ++ square 0 4 gives "ok 1 3 0 0 000000111\n")
+    ∷ (points [] ++ square 0 4 gives "ok 1 3 0 0 FFFFFF212\n")
     -- i. (0,2)-(2,2)-(4,2); (2,0)-(2,2)-(2,4)
     ∷ (line (L 0 2 2 2 1 ++ L 0 2 2 2 0 ++ L 2 2 4 2 1 ++ L 2 2 4 2 0)
-    ++ line (L 2 0 2 2 1 ++ L 2 0 2 2 0 ++ L 2 2 2 4 1 ++ L 2 2 2 4 0) gives "ok 2 2 38 5 101001111\n")
+    ++ line (L 2 0 2 2 1 ++ L 2 0 2 2 0 ++ L 2 2 2 4 1 ++ L 2 2 2 4 0) gives "ok 2 2 38 5 0F1FF0102\n")
     -- j. (2,2)-(4,2)-(6,2); square 0..4, right side split at (4,2)
     ∷ (line (L 2 2 4 2 1 ++ L 2 2 4 2 0 ++ L 4 2 6 2 1 ++ L 4 2 6 2 0)
     ++ region (R 0 0 4 0 1 1 ++ R 0 0 0 4 1 0 ++ R 0 0 0 4 0 0 ++ R 0 4 4 4 1 0 ++ R 0 0 4 0 0 1
-    ++ R 4 0 4 2 1 1 ++ R 4 0 4 2 0 1 ++ R 4 2 4 4 1 1 ++ R 0 4 4 4 0 0 ++ R 4 2 4 4 0 1) gives "ok 2 3 93 1 111101111\n")
+    ++ R 4 0 4 2 1 1 ++ R 4 0 4 2 0 1 ++ R 4 2 4 4 1 1 ++ R 0 4 4 4 0 0 ++ R 4 2 4 4 0 1) gives "ok 2 3 93 1 1010F0212\n")
     -- k. no points; line round (0,0), (4,0), (0,3)
-    ∷ (points [] ++ line (L 0 0 4 0 1 ++ L 0 0 0 3 1 ++ L 0 0 0 3 0 ++ L 0 3 4 0 1 ++ L 0 3 4 0 0 ++ L 0 0 4 0 0) gives "ok 1 2 0 0 000000101\n")
+    ∷ (points [] ++ line (L 0 0 4 0 1 ++ L 0 0 0 3 1 ++ L 0 0 0 3 0 ++ L 0 3 4 0 1 ++ L 0 3 4 0 0 ++ L 0 0 4 0 0) gives "ok 1 2 0 0 FFFFFF1F2\n")
     -- l. points (1000001,0); no points
     ∷ (points (P 1000001 0) ++ points [] gives "no 4 2\n")
     ∷ []

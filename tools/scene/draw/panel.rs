@@ -87,12 +87,12 @@ impl Panel<'_> {
         self.y += 6.0;
         for (part, row) in parts.iter().zip(cells) {
             self.svg.text((from - 8.0, self.y + 15.0), "font-size=\"11\" fill=\"#444\" text-anchor=\"end\"", &format!("F {part}"));
-            for (column, yes) in row.iter().enumerate() {
+            for (column, cell) in row.iter().enumerate() {
                 let at = from + column as f64 * width;
-                let (fill, colour, word) = if *yes { ("#3d4a5c", "white", "yes") } else { ("#f4f4f4", "#999", "no") };
+                let (fill, colour) = if cell.is_empty() { ("#f4f4f4", "#999") } else { ("#3d4a5c", "white") };
                 self.svg.rect((at, self.y), (width, height), &format!("fill=\"{fill}\" stroke=\"white\" stroke-width=\"2\""));
                 let style = format!("font-size=\"12\" fill=\"{colour}\" text-anchor=\"middle\"");
-                self.svg.text((at + width / 2.0, self.y + 15.5), &style, word);
+                self.svg.text((at + width / 2.0, self.y + 15.5), &style, cell.words());
             }
             self.y += height;
         }

@@ -1,11 +1,11 @@
--- `karvoiss::handed` meets its contract: the record of what it was passed (`Rows.antt`), at nine bools.
+-- `karvoiss::handed` meets its contract: the record of what it was passed (`Rows.antt`), at nine bytes.
 use mathlib.Core.Path.{refl}
-use base.Stored.{codedBool}
-use mathlib.Core.Bool.{Bool}
-use mir.Syntax.{w32, w64, tyBool}
+use Prim.Native.Nat.{ℕ}
+use base.Stored.{codedℕ}
+use mir.Syntax.{w8, w32, w64, tyInt}
 use contract.Running.{givenOf, tables, tablesOf}
-use denote.Builtin.{bool}
-use denote.Struct.Laws.{bool-laws, bool-plain}
+use denote.Builtin.{u8}
+use denote.Struct.Laws.{u8-laws, u8-plain}
 use denote.Triple.Spec.{tripleOf}
 use denote.Triple.Table.{entered}
 use Rattle.karvoiss.specs.declared.KarvoissCells.{KarvoissCells}
@@ -21,6 +21,6 @@ unfolding code.routine tablesOf
 handed-spec 𝓤 H 𝓜 𝓖 𝓡 =
     entered 𝓤 H (tripleOf 𝓤 H (𝓖 .A) handed.signature (handed.spec 𝓤 H (𝓖 .A) (𝓜 .mem) (𝓡 .run)))
     (tables 𝓤 H 𝓜 𝓡 code.env .C) (tables 𝓤 H 𝓜 𝓡 code.env .Λ) #karvoiss·handed code.function (code.unfolded 𝓤 H 𝓜 𝓡)
-    (meets Bool codedBool tyBool (bool .own) 3 3 bool-laws bool-plain (T.struct .name) w32 w64 KarvoissCells
+    (meets ℕ codedℕ (tyInt w8) (u8 .own) 3 3 u8-laws u8-plain (T.struct .name) w32 w64 KarvoissCells
     (λ a b xs. record { number = a; place = b; cell = xs }) (T.the-type .to) (T.the-type .to-one) (λ a b xs. refl)
     𝓤 H (𝓖 .A) (givenOf 𝓤 H 𝓜 𝓖) (tablesOf 𝓤 H 𝓜 (tables 𝓤 H 𝓜 𝓡 code.env)))

@@ -1,33 +1,53 @@
 -- `karvoiss::karvoiss_cells` meets its contract: each case of the answer, in its fields.
 use Prim.Native.Nat.{ℕ}
-use mathlib.Core.Path.{_≡_, sym, ap, subst, _∙_}
-use mathlib.Core.Bool.{Bool}
+use mathlib.Core.Path.{_≡_, refl, sym, ap, subst, _∙_}
 use mathlib.Core.List.{List}
 use borrow.Author.Needs.{needs}
+use Rattle.plane_dimensions.specs.declared.Dimension.{Dimension}
+use Rattle.plane_dimensions.specs.Dimensions.{sign}
+use Rattle.cells_matrix.specs.Matrix.{Part, interior, boundary, exterior, cellAt}
 use Rattle.cells.specs.declared.CellsAnswer.{CellsAnswer}
-use Rattle.cells.specs.Explored.{cellsAnswerOf, cellsValues, NoCellWrong}
+use Rattle.cells.specs.Explored.{cellsAnswerOf, cellsValues, NoDimensionWrong}
 use Rattle.karvoiss.specs.declared.KarvoissCells.{KarvoissCells}
-use Rattle.karvoiss.specs.Answer.{cellsForC}
+use Rattle.karvoiss.specs.Answer.{signs, cellsForC, signAt, NoSignWrong}
 use Rattle.karvoiss.proofs.karvoiss_cells.Statement.{statement}
 use Rattle.karvoiss.proofs.karvoiss_cells.Tie as tie
 
--- the fields, from an answer and its matrix
-abbrev given : CellsAnswer → List (List Bool) → KarvoissCells
+sign-at : (m : List (List Dimension)) (r c : Part) → signAt (signs m) r c ≡ sign (cellAt m r c)
+sign-at m interior interior = refl
+sign-at m interior boundary = refl
+sign-at m interior exterior = refl
+sign-at m boundary interior = refl
+sign-at m boundary boundary = refl
+sign-at m boundary exterior = refl
+sign-at m exterior interior = refl
+sign-at m exterior boundary = refl
+sign-at m exterior exterior = refl
+
+-- no value is wrong, so no sign is
+signs-right : (s : List ℕ) (m : List (List Dimension)) → NoDimensionWrong s m → NoSignWrong s (signs m)
+signs-right s m right sc e r c = (cellAt m r c, sign-at m r c, right sc e r c)
+
+-- the fields, from an answer and its signs
+abbrev given : CellsAnswer → List (List ℕ) → KarvoissCells
 given a m = record { number = cellsValues a .number; place = cellsValues a .place; cell = m }
 
-module _ (s : List ℕ) {M : Type 0} {a b : CellsAnswer} {m : List (List Bool)} {x : KarvoissCells} where
-  in-fields : (a ≡ cellsAnswerOf s) × NoCellWrong s (cellsValues a .cells) × M → m ≡ cellsValues a .cells → a ≡ b → x ≡ given b m
-      → (x ≡ cellsForC (cellsAnswerOf s)) × NoCellWrong s (x .cell) × M
-  in-fields e cells q is = (whole ∙ ap cellsForC (e .0), subst (λ (x : KarvoissCells). NoCellWrong s (x .cell)) (sym whole) (e .1), e .2)
+module _ (s : List ℕ) {M : Type 0} {a b : CellsAnswer} {m : List (List Dimension)} {n : List (List ℕ)} {x : KarvoissCells} where
+  in-fields : (a ≡ cellsAnswerOf s) × NoDimensionWrong s (cellsValues a .cells) × M → m ≡ cellsValues a .cells → n ≡ signs m → a ≡ b → x ≡ given b n
+      → (x ≡ cellsForC (cellsAnswerOf s)) × NoSignWrong s (x .cell) × M
+  in-fields e cells written q is = (whole ∙ ap cellsForC (e .0), subst (λ (x : KarvoissCells). NoSignWrong s (x .cell)) (sym whole) (signs-right s (cellsValues a .cells) (e .1)), e .2)
     where
       whole : x ≡ cellsForC a
-      whole = is ∙ ap (λ (b : CellsAnswer). given b m) (sym q) ∙ ap (given a) cells
+      whole = is ∙ ap (λ (b : CellsAnswer). given b n) (sym q) ∙ ap (given a) (written ∙ ap signs cells)
 
 explore-requires : tie.Need-explore-requires
 explore-requires c κs = search needs
 
 cells-requires : tie.Need-cells-requires
 cells-requires c κs = search needs
+
+signs-requires : tie.Need-signs-requires
+signs-requires c κs = search needs
 
 enum-told : tie.Need-enum-told
 enum-told c = search needs
@@ -47,16 +67,18 @@ handed-requires-2 c κs = search needs
 returns : tie.Need-returns
 returns c =
     let told = c .before in
-    let called = told .before .before in
+    let written = told .before .before in
+    let called = written .before in
     let explored = called .before in
-    in-fields (explored .before .before .args .scene .now) (explored .explore .ensures) (called .cells .ensures) (told .enum-told .given .1) (c .handed .ensures)
+    in-fields (explored .before .before .args .scene .now) (explored .explore .ensures) (called .cells .ensures) (written .signs .ensures) (told .enum-told .given .1) (c .handed .ensures)
 
 returns-2 : tie.Need-returns-2
 returns-2 c =
     let told = c .before .before .before in
-    let called = told .before .before in
+    let written = told .before .before in
+    let called = written .before in
     let explored = called .before in
-    in-fields (explored .before .before .args .scene .now) (explored .explore .ensures) (called .cells .ensures) (told .answer .given .1) (c .handed2 .ensures)
+    in-fields (explored .before .before .args .scene .now) (explored .explore .ensures) (called .cells .ensures) (written .signs .ensures) (told .answer .given .1) (c .handed2 .ensures)
 
 pub karvoiss-cells-spec : {M : Type 1} → statement M
 karvoiss-cells-spec =
@@ -64,6 +86,7 @@ karvoiss-cells-spec =
     (tie.spec
     explore-requires
     cells-requires
+    signs-requires
     enum-told
     handed-requires
     enum-known-answer

@@ -5,18 +5,19 @@ use mathlib.Core.Path.{_≡_}
 use mathlib.Core.List.{List, [], map}
 use native.Mathlib.Omega.{arith}
 use lib.ListN.{length, getD}
-use borrow.Kind.Array.{eBool, eArr, good-length}
-use Rattle.answer_line.specs.Line.{bit, cellBytes}
+use borrow.Kind.Array.{eArr, good-length}
+use Rattle.plane_dimensions.specs.Dimensions.{sign}
+use Rattle.answer_line.specs.Line.{cellBytes}
 use Rattle.answer_line.proofs.Written.{followed}
-use Rattle.answer_line.proofs.Cells.{three-rows, three-rows-length}
+use Rattle.answer_line.proofs.Cells.{cell, three-rows, three-rows-length}
 use Rattle.answer_line.proofs.fields.write_cells.Statement.{statement}
 use Rattle.answer_line.proofs.fields.write_cells.Tie as tie
 
 whole : (c : tie.Start) → length (c .args .t3) ≡ 3
-whole c = good-length (eArr eBool 3) 3 (c .args .t3) _ (c .good .1 .1 .0)
+whole c = good-length (eArr cell 3) 3 (c .args .t3) _ (c .good .1 .1 .0)
 
 abbrev row : tie.Start → ℕ → List ℕ
-row c i = map bit (getD (c .args .t3) i [])
+row c i = map sign (getD (c .args .t3) i [])
 
 parts : (c : tie.Start) → length (cellBytes (c .args .t3)) ≡ length (row c 0) + length (row c 1) + length (row c 2)
 parts c = three-rows-length (c .args .t3) (whole c)

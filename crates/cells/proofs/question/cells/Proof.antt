@@ -1,4 +1,4 @@
--- `cells::question::cells` meets its contract: the matrix of what was explored, or no cell.
+-- `cells::question::cells` meets its contract: the matrix of what was explored, or nine empty cells.
 use mathlib.Core.Path.{sym, ap, _∙_}
 use borrow.Author.Needs.{needs}
 use Rattle.cells.specs.declared.CellsAnswer.{CellsAnswer}
@@ -15,11 +15,16 @@ matrix-requires c κs = search needs
 enum-told : tie.Need-enum-told
 enum-told c = search needs
 
+none-requires : tie.Need-none-requires
+none-requires c κs = search needs
+
 returns : tie.Need-returns
 returns c = c .matrix .ensures ∙ sym (ap (λ (a : CellsAnswer). cellsValues a .cells) (c .before .before .answer .given .1))
 
 returns-2 : tie.Need-returns-2
-returns-2 c = sym (ap (λ (a : CellsAnswer). cellsValues a .cells) (c .enum-told .given .1))
+returns-2 c = c .none .ensures ∙ sym (ap (λ (a : CellsAnswer). cellsValues a .cells) (c .before .enum-told .given .1))
 
 pub cells-spec : {M : Type 1} → statement M
-cells-spec = tie.close (tie.spec enum-known-answer matrix-requires enum-told returns returns-2)
+cells-spec =
+    tie.close
+    (tie.spec enum-known-answer matrix-requires enum-told none-requires returns returns-2)

@@ -1,7 +1,7 @@
 -- `cells::table::ascending` meets its contract.
+use borrow.Author.Needs.{needs}
 use Rattle.flags.specs.Flags.{hasBit}
 use Rattle.cells_matrix.specs.Matrix.{matrixOf}
-use borrow.Author.Needs.{needs}
 use Rattle.cells.proofs.table.ascending.Statement.{statement}
 use Rattle.cells.proofs.table.ascending.Tie as tie
 
@@ -32,6 +32,9 @@ enum-told-5 c = search needs
 enum-told-6 : tie.Need-enum-told-6
 enum-told-6 c = search needs
 
+none-requires : tie.Need-none-requires
+none-requires c κs = search needs
+
 enum-told-7 : tie.Need-enum-told-7
 enum-told-7 c = search needs
 
@@ -50,8 +53,14 @@ enum-told-9 c = search needs
 enum-told-10 : tie.Need-enum-told-10
 enum-told-10 c = search needs
 
+none-requires-2 : tie.Need-none-requires-2
+none-requires-2 c κs = search needs
+
 enum-told-11 : tie.Need-enum-told-11
 enum-told-11 c = search needs
+
+none-requires-3 : tie.Need-none-requires-3
+none-requires-3 c κs = search needs
 
 enum-told-12 : tie.Need-enum-told-12
 enum-told-12 c = search needs
@@ -73,7 +82,7 @@ returns-3 c = rw (c .before .before .before .enum-told .given .1, c .before .enu
 
 returns-4 : tie.Need-returns-4
 unfolding matrixOf hasBit
-returns-4 c = rw (c .before .before .enum-told5 .given .1, c .enum-told6 .given .1)
+returns-4 c = rw (c .before .before .before .enum-told5 .given .1, c .before .enum-told6 .given .1) (c .none .ensures)
 
 returns-5 : tie.Need-returns-5
 unfolding matrixOf hasBit
@@ -85,11 +94,11 @@ returns-6 c = rw (c .before .before .before .enum-told5 .given .1, c .before .en
 
 returns-7 : tie.Need-returns-7
 unfolding matrixOf hasBit
-returns-7 c = rw (c .before .before .enum-told9 .given .1, c .enum-told10 .given .1)
+returns-7 c = rw (c .before .before .before .enum-told9 .given .1, c .before .enum-told10 .given .1) (c .none2 .ensures)
 
 returns-8 : tie.Need-returns-8
 unfolding matrixOf hasBit
-returns-8 c = rw (c .before .before .enum-told9 .given .1, c .enum-told11 .given .1)
+returns-8 c = rw (c .before .before .before .enum-told9 .given .1, c .before .enum-told11 .given .1) (c .none3 .ensures)
 
 returns-9 : tie.Need-returns-9
 unfolding matrixOf hasBit
@@ -108,13 +117,16 @@ ascending-spec =
     points-region-requires
     enum-told-5
     enum-told-6
+    none-requires
     enum-told-7
     line-line-requires
     enum-told-8
     line-region-requires
     enum-told-9
     enum-told-10
+    none-requires-2
     enum-told-11
+    none-requires-3
     enum-told-12
     region-region-requires
     returns

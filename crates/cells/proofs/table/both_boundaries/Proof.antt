@@ -15,8 +15,8 @@ either-requires c κs = search needs
 has-requires-2 : tie.Need-has-requires-2
 has-requires-2 c κs = search needs
 
-either-requires-2 : tie.Need-either-requires-2
-either-requires-2 c κs = search needs
+length-or-points-requires : tie.Need-length-or-points-requires
+length-or-points-requires c κs = search needs
 
 returns : tie.Need-returns
 returns c = cc
@@ -29,5 +29,5 @@ both-boundaries-spec =
     has-requires
     either-requires
     has-requires-2
-    either-requires-2
+    length-or-points-requires
     returns)

@@ -1,12 +1,9 @@
 -- `cells::table::line_line` meets its contract.
+use borrow.Author.Needs.{needs}
 use Rattle.flags.specs.Flags.{hasBit}
 use Rattle.cells_matrix.specs.Matrix.{matrixOf}
-use borrow.Author.Needs.{needs}
 use Rattle.cells.proofs.table.line_line.Statement.{statement}
 use Rattle.cells.proofs.table.line_line.Tie as tie
-
-has-either-requires : tie.Need-has-either-requires
-has-either-requires c κs = search needs
 
 has-requires : tie.Need-has-requires
 has-requires c κs = search needs
@@ -14,20 +11,29 @@ has-requires c κs = search needs
 has-requires-2 : tie.Need-has-requires-2
 has-requires-2 c κs = search needs
 
-has-requires-3 : tie.Need-has-requires-3
-has-requires-3 c κs = search needs
+length-or-points-requires : tie.Need-length-or-points-requires
+length-or-points-requires c κs = search needs
 
-has-requires-4 : tie.Need-has-requires-4
-has-requires-4 c κs = search needs
+points-at-requires : tie.Need-points-at-requires
+points-at-requires c κs = search needs
 
-has-requires-5 : tie.Need-has-requires-5
-has-requires-5 c κs = search needs
+length-at-requires : tie.Need-length-at-requires
+length-at-requires c κs = search needs
 
-has-requires-6 : tie.Need-has-requires-6
-has-requires-6 c κs = search needs
+points-at-requires-2 : tie.Need-points-at-requires-2
+points-at-requires-2 c κs = search needs
 
-has-requires-7 : tie.Need-has-requires-7
-has-requires-7 c κs = search needs
+points-at-requires-3 : tie.Need-points-at-requires-3
+points-at-requires-3 c κs = search needs
+
+points-at-requires-4 : tie.Need-points-at-requires-4
+points-at-requires-4 c κs = search needs
+
+length-at-requires-2 : tie.Need-length-at-requires-2
+length-at-requires-2 c κs = search needs
+
+points-at-requires-5 : tie.Need-points-at-requires-5
+points-at-requires-5 c κs = search needs
 
 returns : tie.Need-returns
 unfolding matrixOf hasBit
@@ -37,12 +43,14 @@ pub line-line-spec : {M : Type 1} → statement M
 line-line-spec =
     tie.close
     (tie.spec
-    has-either-requires
     has-requires
     has-requires-2
-    has-requires-3
-    has-requires-4
-    has-requires-5
-    has-requires-6
-    has-requires-7
+    length-or-points-requires
+    points-at-requires
+    length-at-requires
+    points-at-requires-2
+    points-at-requires-3
+    points-at-requires-4
+    length-at-requires-2
+    points-at-requires-5
     returns)

@@ -1,17 +1,17 @@
 -- `cells::table::matrix` meets its contract, by the order of the two types.
 use native.Mathlib.Omega.{arith}
 use mathlib.Core.Path.{ap, _∙_}
-use mathlib.Core.Bool.{Bool}
 use mathlib.Core.List.{List}
 use borrow.Author.Needs.{needs}
 use borrow.Author.Tests.{lt-ltb, le-ltb}
+use Rattle.plane_dimensions.specs.declared.Dimension.{Dimension}
 use Rattle.scene.specs.Read.{shapeNumber}
 use Rattle.cells_matrix.specs.Matrix.{matrixOf, transposed}
 use Rattle.cells.specs.declared.Explored.{Explored}
 use Rattle.cells.proofs.table.matrix.Statement.{statement}
 use Rattle.cells.proofs.table.matrix.Tie as tie
 
-abbrev of : Explored → List (List Bool)
+abbrev of : Explored → List (List Dimension)
 of e = matrixOf (e .f) (e .g) (e .v) (e .w) (e .«f_empty») (e .«g_empty»)
 
 shape-number-requires : tie.Need-shape-number-requires

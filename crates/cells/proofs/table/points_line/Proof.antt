@@ -1,24 +1,24 @@
 -- `cells::table::points_line` meets its contract.
+use borrow.Author.Needs.{needs}
 use Rattle.flags.specs.Flags.{hasBit}
 use Rattle.cells_matrix.specs.Matrix.{matrixOf}
-use borrow.Author.Needs.{needs}
 use Rattle.cells.proofs.table.points_line.Statement.{statement}
 use Rattle.cells.proofs.table.points_line.Tie as tie
 
-has-requires : tie.Need-has-requires
-has-requires c κs = search needs
+points-at-requires : tie.Need-points-at-requires
+points-at-requires c κs = search needs
 
-has-requires-2 : tie.Need-has-requires-2
-has-requires-2 c κs = search needs
+points-at-requires-2 : tie.Need-points-at-requires-2
+points-at-requires-2 c κs = search needs
 
-has-requires-3 : tie.Need-has-requires-3
-has-requires-3 c κs = search needs
+points-at-requires-3 : tie.Need-points-at-requires-3
+points-at-requires-3 c κs = search needs
 
-negate-requires : tie.Need-negate-requires
-negate-requires c κs = search needs
+length-if-requires : tie.Need-length-if-requires
+length-if-requires c κs = search needs
 
-has-requires-4 : tie.Need-has-requires-4
-has-requires-4 c κs = search needs
+points-at-requires-4 : tie.Need-points-at-requires-4
+points-at-requires-4 c κs = search needs
 
 returns : tie.Need-returns
 unfolding matrixOf hasBit
@@ -27,4 +27,10 @@ returns c = cc
 pub points-line-spec : {M : Type 1} → statement M
 points-line-spec =
     tie.close
-    (tie.spec has-requires has-requires-2 has-requires-3 negate-requires has-requires-4 returns)
+    (tie.spec
+    points-at-requires
+    points-at-requires-2
+    points-at-requires-3
+    length-if-requires
+    points-at-requires-4
+    returns)

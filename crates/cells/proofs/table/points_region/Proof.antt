@@ -1,21 +1,24 @@
 -- `cells::table::points_region` meets its contract.
+use borrow.Author.Needs.{needs}
 use Rattle.flags.specs.Flags.{hasBit}
 use Rattle.cells_matrix.specs.Matrix.{matrixOf}
-use borrow.Author.Needs.{needs}
 use Rattle.cells.proofs.table.points_region.Statement.{statement}
 use Rattle.cells.proofs.table.points_region.Tie as tie
 
-negate-requires : tie.Need-negate-requires
-negate-requires c κs = search needs
+points-at-requires : tie.Need-points-at-requires
+points-at-requires c κs = search needs
 
-has-requires : tie.Need-has-requires
-has-requires c κs = search needs
+points-at-requires-2 : tie.Need-points-at-requires-2
+points-at-requires-2 c κs = search needs
 
-has-requires-2 : tie.Need-has-requires-2
-has-requires-2 c κs = search needs
+points-at-requires-3 : tie.Need-points-at-requires-3
+points-at-requires-3 c κs = search needs
 
-has-requires-3 : tie.Need-has-requires-3
-has-requires-3 c κs = search needs
+area-if-requires : tie.Need-area-if-requires
+area-if-requires c κs = search needs
+
+length-if-requires : tie.Need-length-if-requires
+length-if-requires c κs = search needs
 
 returns : tie.Need-returns
 unfolding matrixOf hasBit
@@ -23,4 +26,11 @@ returns c = cc
 
 pub points-region-spec : {M : Type 1} → statement M
 points-region-spec =
-    tie.close (tie.spec negate-requires has-requires has-requires-2 has-requires-3 returns)
+    tie.close
+    (tie.spec
+    points-at-requires
+    points-at-requires-2
+    points-at-requires-3
+    area-if-requires
+    length-if-requires
+    returns)
