@@ -53,6 +53,9 @@ mod random;
 #[allow(dead_code)]
 #[path = "../tests/reference/scene.rs"]
 mod scene;
+#[allow(dead_code)]
+#[path = "../tests/reference/summary.rs"]
+mod summary;
 
 use cells::Matrix;
 use compare::boundary_outside;
@@ -73,6 +76,7 @@ const USAGE: &str = "usage: bench compare           GEOS's cells against ours; f
        bench peer               GEOS's times alone
        bench ours               our times alone, for bench/against
        bench turns              times of many different scenes asked one after another, ours and GEOS's
+       bench summaries          times of summaries and of what two of them tell, beside the full answer and GEOS's relate
        bench slowest            our times for scenes with a fault, and the slowest of many random scenes
        bench make DIR           writes the scenes of full size, a file each
        bench count ours FILE..  asks for the cells of each scene once, for callgrind
@@ -99,6 +103,7 @@ fn main() {
         ["peer"] => time(false),
         ["ours"] => ours(),
         ["turns"] => turns(),
+        ["summaries"] => summaries(),
         ["slowest"] => slowest(),
         ["make", directory] => make(directory),
         ["count", who, ref files @ ..] => count(who, files),
@@ -230,6 +235,36 @@ fn turns() -> bool {
         let in_turn = mean(clock::best(|| scenes.iter().all(ours)));
         let its = mean(clock::best(|| scenes.iter().all(its)));
         println!("turn {} {} {} {again:.3} {in_turn:.3} {its:.3}", kinds.0, kinds.1, scenes.len());
+    }
+    true
+}
+
+/// The rows of the family whose objects lie side by side: both summaries from the objects' bytes, what the two tell, the full answer, and GEOS's relate on
+/// geometries that are built already, which knows their boxes too.
+fn summaries() -> bool {
+    let geos = Geos::new();
+    for row in rows::all().into_iter().filter(|row| row.family == rows::APART) {
+        let (bytes, (all_f, all_g)) = (&row.bytes, all_flags(row.kinds.0, row.kinds.1));
+        let (_, second) = read_scene(bytes).expect("the rows are scenes");
+        let (f, g) = bytes.split_at(second.start);
+        let [one, other] = [f, g].map(|object| library::summary(object).record);
+        let full = library::vectors(bytes, all_f, all_g);
+        let told = library::far(&one, &other).expect("look is 0 or 1");
+        assert_eq!((told.number, told.look, told.f, told.g), (0, false, full.f, full.g), "{} is not told apart", row.name());
+        let parts = parts(bytes);
+        let built = Pair::build(&geos, bytes, &parts);
+        let right = if built.relate() == Some(right_cells(bytes)) { "right" } else { "wrong" };
+        let mut best = [f64::MAX; 4];
+        for _ in 0..PASSES {
+            let times = [
+                clock::best(|| (library::summary(f), library::summary(g))),
+                clock::best(|| library::far(black_box(&one), black_box(&other))),
+                clock::best(|| library::vectors(bytes, all_f, all_g)),
+                clock::best(|| built.relate()),
+            ];
+            best.iter_mut().zip(times).for_each(|(best, time)| *best = best.min(time));
+        }
+        println!("summary {} {} {} {} {right}", row.kinds.0, row.kinds.1, row.size, columns(&best));
     }
     true
 }

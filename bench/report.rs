@@ -1,7 +1,7 @@
 //! The measured part of docs/BENCH.md, everything after its marker, written from the runs' outputs.
 
 use crate::picture;
-use crate::results::{read, Compared, Other, Results, Times, Turns};
+use crate::results::{read, Compared, Other, Results, Summaries, Times, Turns};
 use crate::rows::{kind_name, name, EITHER_ORDER, FULL, RANDOM, SIZES};
 use crate::shapes::{Family, FAMILIES};
 use std::fmt::Write as _;
@@ -44,6 +44,7 @@ fn measured(results: &Results) -> String {
         patterns(results),
         table(results),
         in_turn(results),
+        summaries(results),
         faults(results),
         comparison(results),
     ]
@@ -232,6 +233,30 @@ fn in_turn(results: &Results) -> String {
         let times = [again, ours, geos].map(|time| short(*time)).join(" | ");
         let _ = writeln!(text, "| {} | {scenes} | {times} | {:.3} |", pair_name(*kinds), ours / geos);
     }
+    text
+}
+
+fn summaries(results: &Results) -> String {
+    let new = &results.versions[0];
+    let mut text = format!(
+        "### Summaries\n\nThe family far. Both summaries from the objects' bytes; what the two tell, in nanoseconds; the full answer, our vectors with all flags wanted; and GEOS {new} \
+         relate alone, on geometries that are built. Below 100 nanoseconds for a pair of summaries was wanted.\n\n\
+         | types | segments | both summaries | told, ns | full answer | full answer / told | GEOS {new} relate | relate / told |\n|---|---|---|---|---|---|---|---|\n"
+    );
+    for Summaries { kinds, size, made, told, full, relate } in &results.summaries {
+        let peer = relate.map_or("- | -".to_string(), |relate| format!("{} | {:.0}", short(relate), relate / told));
+        let _ = writeln!(
+            text,
+            "| {} | {size} | {} | {:.0} | {} | {:.0} | {peer} |",
+            pair_name(*kinds),
+            short(*made),
+            told * 1000.0,
+            short(*full),
+            full / told
+        );
+    }
+    let slowest = results.summaries.iter().map(|row| row.told * 1000.0).fold(0.0, f64::max);
+    let _ = writeln!(text, "\nThe slowest pair of summaries: {slowest:.0} nanoseconds.");
     text
 }
 

@@ -53,6 +53,16 @@ pub struct Turns {
     pub geos: f64,
 }
 
+/// A pair of objects side by side: both summaries, what they tell, the full answer, and GEOS's relate on built geometries, if its cells are right.
+pub struct Summaries {
+    pub kinds: (u8, u8),
+    pub size: usize,
+    pub made: f64,
+    pub told: f64,
+    pub full: f64,
+    pub relate: Option<f64>,
+}
+
 /// One pair of types in the comparison with one version.
 pub struct Compared {
     pub kinds: (u8, u8),
@@ -68,6 +78,7 @@ pub struct Results {
     pub counts: [HashMap<String, u64>; 2],
     pub compared: [Vec<Compared>; 2],
     pub turns: Vec<Turns>,
+    pub summaries: Vec<Summaries>,
     pub faults: Vec<Other>,
     pub random: Vec<Other>,
 }
@@ -126,6 +137,16 @@ fn turns(directory: &Path) -> Vec<Turns> {
     all.iter().map(one).collect()
 }
 
+fn summaries(directory: &Path) -> Vec<Summaries> {
+    let all = lines(directory, "summaries", "summary");
+    let one = |words: &Vec<String>| {
+        let [made, told, full, relate] = [3, 4, 5, 6].map(|column| number(&words[column]));
+        let relate = (words[7] == "right").then_some(relate);
+        Summaries { kinds: (number(&words[0]), number(&words[1])), size: number(&words[2]), made, told, full, relate }
+    };
+    all.iter().map(one).collect()
+}
+
 pub fn read(directory: &Path) -> Results {
     let version = |file: &str| lines(directory, file, "version")[0][0].split('-').next().unwrap_or_default().to_string();
     Results {
@@ -135,6 +156,7 @@ pub fn read(directory: &Path) -> Results {
         counts: [counts(directory, "count-ours"), counts(directory, "count-geos")],
         compared: [compared(directory, "compared-new"), compared(directory, "compared-old")],
         turns: turns(directory),
+        summaries: summaries(directory),
         faults: others(directory, "fault"),
         random: others(directory, "any"),
     }

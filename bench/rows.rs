@@ -24,6 +24,9 @@ pub const EITHER_ORDER: [(u8, u8); 9] = [
 /// The family of the random scenes: parts of one network of squares and triangles.
 pub const RANDOM: &str = "random";
 
+/// The family whose objects lie side by side, their boxes apart.
+pub const APART: &str = "far";
+
 pub struct Row {
     pub family: &'static str,
     pub kinds: (u8, u8),

@@ -1,7 +1,8 @@
-/* A small store of shapes. It keeps each shape as a named object in a file,
- * asks Karvoiss how every two of them lie to each other, and prints a register
- * of the answers, one pair to a line. Then it asks the other way round, and
- * checks that both answers say the same.
+/* A small store of shapes. It keeps each shape as a named object in a file, with
+ * its summary, asks Karvoiss how every two of them lie to each other, and prints a
+ * register of the answers, one pair to a line. It asks the two summaries first, and
+ * loads the outlines only where these say "look"; at the end it says how often that
+ * was. Then it asks the other way round, and checks that both answers say the same.
  *
  *     store          fills a store in a temporary file
  *     store FILE     fills and keeps it in FILE
@@ -19,7 +20,7 @@
 /* An object's bytes: a type record, up to 1,024 elements of at most 19 bytes,
  * and an end record. A scene is two objects, one after the other. */
 enum { POINTS = 1, LINE = 2, REGION = 3 };
-enum { NAME = 12, OBJECT_BYTES = 2 + 1024 * 19 + 1, OBJECTS = 16 };
+enum { NAME = 12, SUMMARY = 20, OBJECT_BYTES = 2 + 1024 * 19 + 1, OBJECTS = 16 };
 
 struct object {
     char name[NAME];
@@ -132,22 +133,43 @@ static void make_shape(struct object *o, const char *name, uint8_t type, const s
     end(o);
 }
 
-/* ---- The file: for each object its name, its length, its bytes ----------- */
+/* ---- The file: for each object its name, summary, length and bytes ------- */
 
+/* What is known of an object without its outline: all but its bytes, which begin at
+ * `start` in the file. */
+struct entry {
+    char name[NAME];
+    uint8_t summary[SUMMARY];
+    size_t length;
+    long start;
+};
+
+/* Whether the bytes are an object at all is not tested here: the calls do that. One
+ * that is refused has 20 zeros, which are no summary. */
 static bool save(FILE *file, const struct object *o)
 {
-    return fwrite(o->name, NAME, 1, file) == 1 && fwrite(&o->length, sizeof o->length, 1, file) == 1
-        && fwrite(o->bytes, 1, o->length, file) == o->length;
+    karvoiss_summary_t s = karvoiss_summary(o->bytes, o->length);
+
+    return fwrite(o->name, NAME, 1, file) == 1 && fwrite(s.record, SUMMARY, 1, file) == 1
+        && fwrite(&o->length, sizeof o->length, 1, file) == 1 && fwrite(o->bytes, 1, o->length, file) == o->length;
 }
 
-/* Whether the bytes are an object at all is not tested here: the calls do that. */
-static bool load(FILE *file, struct object *o)
+/* The next entry; the bytes are passed over. */
+static bool next_entry(FILE *file, struct entry *e)
 {
-    bool good = fread(o->name, NAME, 1, file) == 1 && fread(&o->length, sizeof o->length, 1, file) == 1
-        && o->length <= OBJECT_BYTES && fread(o->bytes, 1, o->length, file) == o->length;
+    bool good = fread(e->name, NAME, 1, file) == 1 && fread(e->summary, SUMMARY, 1, file) == 1
+        && fread(&e->length, sizeof e->length, 1, file) == 1 && e->length <= OBJECT_BYTES;
 
-    o->name[NAME - 1] = '\0';
-    return good;
+    e->name[NAME - 1] = '\0';
+    e->start = ftell(file);
+    return good && fseek(file, (long)e->length, SEEK_CUR) == 0;
+}
+
+static bool load(FILE *file, const struct entry *e, struct object *o)
+{
+    memcpy(o->name, e->name, NAME);
+    o->length = e->length;
+    return fseek(file, e->start, SEEK_SET) == 0 && fread(o->bytes, 1, o->length, file) == o->length;
 }
 
 static bool fill(FILE *file)
@@ -159,6 +181,8 @@ static bool fill(FILE *file)
     static const struct segment field[] = {{0, 0, 4, 0, 1}, {0, 0, 0, 4, 0}, {0, 4, 4, 4, 0}, {4, 0, 4, 2, 1}, {4, 2, 4, 4, 1}};
     static const struct segment yard[] = {{4, 0, 8, 0, 1}, {4, 0, 4, 2, 0}, {4, 2, 8, 2, 0}, {8, 0, 8, 2, 1}};
     static const struct segment plot[] = {{3, 6, 4, 4, 1}, {4, 4, 5, 6, 1}, {3, 6, 5, 6, 0}};
+    static const struct segment isle[] = {{70, 70, 90, 70, 1}, {70, 70, 80, 95, 0}, {80, 95, 90, 70, 0}};
+    static const struct segment ring[] = {{60, 0, 64, 0, 0}, {60, 0, 62, 3, 0}, {62, 3, 64, 0, 0}};
     static struct object o;
     bool good = true;
 
@@ -173,6 +197,12 @@ static bool fill(FILE *file)
     make_shape(&o, "yard", REGION, yard, 4);
     good &= save(file, &o);
     make_shape(&o, "plot", REGION, plot, 3);
+    good &= save(file, &o);
+    make_shape(&o, "isle", REGION, isle, 3);
+    good &= save(file, &o);
+    make_shape(&o, "ring", LINE, ring, 3);
+    good &= save(file, &o);
+    make_points(&o, "none", wells, 0);
     good &= save(file, &o);
     make_points(&o, "lost", far_away, 1);
     good &= save(file, &o);
@@ -189,7 +219,7 @@ static uint8_t type_of(const struct object *o)
 
 /* Nothing need be tested before a call: whatever the bytes are, the answer says
  * so. The place is an offset in the scene, and tells which object is at fault. */
-static void print_refusal(const struct object *f, const struct object *g, uint32_t number, size_t place)
+static void print_refusal(const struct entry *f, const struct entry *g, uint32_t number, size_t place)
 {
     bool in_f = place < f->length;
 
@@ -235,7 +265,7 @@ static bool touches(const uint8_t *scene, size_t length, uint8_t how)
 struct answer {
     karvoiss_vectors_t v;
     karvoiss_cells_t m;
-    bool touches, share_stretch;
+    bool touches, share_stretch, looked;
 };
 
 /* A cell that is 'F' is empty. */
@@ -246,8 +276,29 @@ static const char *in_a_word(const struct answer *a)
     return a->share_stretch ? "they share a stretch" : a->touches ? "they share points" : "apart";
 }
 
-/* Either type may come first: the answer is in the order of the two objects. */
-static struct answer ask(const struct object *f, const struct object *g)
+/* What of an object lies in the exterior of another that is far from it: all of it.
+ * So the cells follow from the summaries' type, emptiness and boundary alone. */
+static void signs_apart(const uint8_t *summary, uint8_t *interior, uint8_t *boundary)
+{
+    static const char dimensions[4] = {[POINTS] = '0', [LINE] = '1', [REGION] = '2'};
+    uint8_t type = summary[1], empty = summary[2], has_boundary = summary[19];
+
+    *interior = empty ? 'F' : (uint8_t)dimensions[type];
+    *boundary = has_boundary ? (uint8_t)dimensions[type - 1] : 'F';
+}
+
+static karvoiss_cells_t cells_apart(const struct entry *f, const struct entry *g)
+{
+    karvoiss_cells_t m = {.cell = {{'F', 'F', 'F'}, {'F', 'F', 'F'}, {'F', 'F', '2'}}};
+
+    signs_apart(f->summary, &m.cell[0][2], &m.cell[1][2]);
+    signs_apart(g->summary, &m.cell[2][0], &m.cell[2][1]);
+    return m;
+}
+
+/* The full answer, from the outlines. Either type may come first: the answer is in
+ * the order of the two objects. */
+static struct answer ask_outlines(const struct object *f, const struct object *g)
 {
     static uint8_t scene[2 * OBJECT_BYTES];
     size_t length = f->length + g->length;
@@ -256,10 +307,27 @@ static struct answer ask(const struct object *f, const struct object *g)
     memcpy(scene, f->bytes, f->length);
     memcpy(scene + f->length, g->bytes, g->length);
     return (struct answer){karvoiss_vectors(scene, length, all.f, all.g), karvoiss_cells(scene, length),
-                           touches(scene, length, 'T'), touches(scene, length, '1')};
+                           touches(scene, length, 'T'), touches(scene, length, '1'), true};
 }
 
-static void print_pair(const struct object *f, const struct object *g, const struct answer *a)
+/* The summaries are asked first. What they tell is the full answer; where they say
+ * "look", and where one is bad, since its object was refused, the outlines are
+ * loaded. */
+static struct answer ask(FILE *file, const struct entry *f, const struct entry *g)
+{
+    static struct object first, second;
+    karvoiss_far_t far = karvoiss_far(f->summary, SUMMARY, g->summary, SUMMARY);
+
+    if (far.number == 0 && !far.look)
+        return (struct answer){.v = {.f = far.f, .g = far.g}, .m = cells_apart(f, g)};
+    if (!load(file, f, &first) || !load(file, g, &second)) {
+        perror("store");
+        exit(1);
+    }
+    return ask_outlines(&first, &second);
+}
+
+static void print_pair(const struct entry *f, const struct entry *g, const struct answer *a)
 {
     if (a->v.number != 0) {
         print_refusal(f, g, a->v.number, a->v.place);
@@ -298,9 +366,9 @@ static struct both vectors_turned(uint8_t type_f, uint8_t type_g, struct both v)
 /* The same number both ways; the cells turned about the diagonal, the vectors
  * exchanged. A place is an offset in the scene as it was asked about, so places
  * may differ. */
-static bool agree(const struct object *f, const struct object *g, const struct answer *one, const struct answer *other)
+static bool agree(const struct entry *f, const struct entry *g, const struct answer *one, const struct answer *other)
 {
-    struct both turned = vectors_turned(type_of(f), type_of(g), (struct both){one->v.f, one->v.g});
+    struct both turned = vectors_turned(f->summary[1], g->summary[1], (struct both){one->v.f, one->v.g});
     bool same = one->v.number == other->v.number && one->m.number == other->m.number;
 
     same = same && turned.f == other->v.f && turned.g == other->v.g;
@@ -313,8 +381,8 @@ static bool agree(const struct object *f, const struct object *g, const struct a
 
 int main(int argc, char **argv)
 {
-    static struct object objects[OBJECTS];
-    int count = 0, pairs = 0, agreed = 0;
+    static struct entry entries[OBJECTS];
+    int count = 0, pairs = 0, looked = 0, agreed = 0;
     FILE *file = argc > 1 ? fopen(argv[1], "wb+") : tmpfile();
 
     if (file == NULL || !fill(file)) {
@@ -322,20 +390,22 @@ int main(int argc, char **argv)
         return 1;
     }
     rewind(file);
-    while (count < OBJECTS && load(file, &objects[count]))
+    while (count < OBJECTS && next_entry(file, &entries[count]))
         count++;
-    fclose(file);
 
     printf("F      G        f   g  cells\n");
     for (int i = 0; i < count; i++)
         for (int k = i + 1; k < count; k++) {
-            const struct object *f = &objects[i], *g = &objects[k];
-            struct answer one = ask(f, g), other = ask(g, f);
+            const struct entry *f = &entries[i], *g = &entries[k];
+            struct answer one = ask(file, f, g), other = ask(file, g, f);
 
             print_pair(f, g, &one);
             pairs++;
+            looked += one.looked;
             agreed += agree(f, g, &one, &other);
         }
+    fclose(file);
+    printf("outlines were loaded for %d pairs of %d\n", looked, pairs);
     printf("the other way round, the same is said of %d pairs of %d\n", agreed, pairs);
     return agreed == pairs ? 0 : 1;
 }

@@ -3,10 +3,11 @@
  * A scene is a byte string of two objects, F then G. Each is points, a line or
  * a region, and either type may come first. The functions below read a scene and
  * answer a question about it, in the scene's order: what is said of F is said of
- * the object that the bytes have first. They are total: any bytes of any length
- * may be passed, nothing need be tested beforehand. They keep no state, allocate
- * nothing, and may be called from several threads at once. The scene's bytes are
- * only read.
+ * the object that the bytes have first. Two more make the summary of an object, and
+ * say what two of these tell. All are total: any bytes of any length may be passed,
+ * nothing need be tested beforehand. They keep no state, allocate nothing, and may be
+ * called from several threads at once. The bytes passed are only read, but for the
+ * buffer of karvoiss_overlap.
  *
  * `scene` points to `length` bytes; it may be null where `length` is 0.
  *
@@ -23,7 +24,9 @@
  *   69    end
  *
  * An object is a type record, 0 to 1,024 elements of its kind, and an end
- * record. A scene is two objects and no more, of any types in either order.
+ * record. A scene is two objects and no more, of any types in either order. One
+ * object's bytes alone, which karvoiss_summary takes, are those that it has in a
+ * scene.
  * Points are ordered by x, then y. A segment's left end comes before its right
  * end. It is stored as two halfsegments: d = 1, whose dominating point is the
  * left end, and d = 0, whose dominating point is the right end. Elements are
@@ -59,13 +62,15 @@
  *  15  unequal segments of F and G share a point that is not an end of both
  *  16  a type is not 3: the first such type record (karvoiss_overlap only)
  *  17  the buffer is shorter than the count (place 0; karvoiss_overlap only)
- *
+ *  18  a bad summary (place 0: the first, 1: the second; karvoiss_far only)
  *  22  the pattern has not nine characters (place 0; karvoiss_relate only)
  *  23  a character is none of T, F, *, 0, 1, 2: the position of the first
  *      such, from 0 (karvoiss_relate only)
  *
  * 1 to 7 are found record by record; then 9 to 23 in this order, each over the
- * whole scene. A number that is not in the table never occurs.
+ * whole scene. karvoiss_summary has 1 to 7 and 10 to 14 over one object's bytes, 7
+ * being bytes after its end; karvoiss_far has 18 alone. A number that is not in the
+ * table never occurs.
  *
  * Since 0.3.0 either type may come first. Before, a scene whose first type was
  * above its second was refused with 8, and a caller had to exchange the objects
@@ -85,12 +90,15 @@ extern "C" {
 
 /* The stack that each call needs at most, in bytes. No call recurses, and each
  * was measured on scenes of full size, of every pair of types in either order,
- * to need about 5,600 bytes; the numbers leave room for other compilers.
+ * to need about 6,000 bytes, karvoiss_summary 25,520, since it copies its object,
+ * and karvoiss_far 160; the numbers leave room for other compilers.
  */
 #define KARVOISS_VECTORS_STACK 11200
 #define KARVOISS_CELLS_STACK 11200
 #define KARVOISS_RELATE_STACK 11200
 #define KARVOISS_OVERLAP_STACK 11200
+#define KARVOISS_SUMMARY_STACK 51200
+#define KARVOISS_FAR_STACK 400
 
 /* The topological feature vectors of F and G.
  *
@@ -256,6 +264,106 @@ typedef struct {
 
 karvoiss_overlap_t karvoiss_overlap(const uint8_t *scene, size_t length,
                                     uint8_t *list, size_t room);
+
+/* The summary of one object, to be kept beside it: most pairs lie far apart, and two
+ * summaries tell that without the outlines (karvoiss_far). Since 0.7.0.
+ *
+ * `object` points to the `length` bytes of one object; it may be null where `length`
+ * is 0. Taken: `record` holds the summary. Refused, with 1 to 7 or 10 to 14:
+ * `record` holds 20 zeros. A summary is a record of kind 83:
+ *
+ *   byte 0       83
+ *   byte 1       the type: 1 points, 2 line, 3 region
+ *   byte 2       1 if the object is empty, else 0
+ *   bytes 3-6    least x      of all points and all ends of segments; signed 32-bit,
+ *   bytes 7-10   least y      low byte first; four zeros if the object is empty
+ *   bytes 11-14  greatest x
+ *   bytes 15-18  greatest y
+ *   byte 19      1 if the object's boundary has a point, else 0
+ *
+ * Points have no boundary. A line's boundary has a point exactly if there is an end at
+ * which an odd number of its segments end, so a closed line's has none. A region's has
+ * one exactly if it is not empty. The line (-1,2)-(3,-4) has the summary
+ *
+ *   53 02 00 ff ff ff ff fc ff ff ff 03 00 00 00 02 00 00 00 01   (hexadecimal)
+ */
+typedef struct {
+    uint32_t number;
+    size_t place;
+    uint8_t record[20];
+} karvoiss_summary_t;
+
+karvoiss_summary_t karvoiss_summary(const uint8_t *object, size_t length);
+
+/* What two summaries tell: both vectors with all flags of the pair of types, or that
+ * the outlines must be looked at. Since 0.7.0.
+ *
+ * `first` and `second` point to the two summaries; either may be null where its
+ * length is 0. If the boxes share no point, or an object is empty, `look` is false,
+ * and `f` and `g` are the first's vector and the second's: of two objects that form
+ * an accepted scene, what karvoiss_vectors gives for it with all flags wanted. Two
+ * accepted objects whose boxes share no point always form one. Otherwise `look` is
+ * true, both vectors are 0, and a scene of the two must be asked about. Boxes that
+ * touch at an edge or at a corner share a point; the four zeros of an empty object
+ * are no box.
+ *
+ * A bad summary is refused with 18 before anything else, place 0 if the first is bad
+ * and 1 if the second is and the first is not; `look` is false then and both vectors
+ * are 0. A summary is bad exactly if no accepted object has it:
+ *
+ *   its length is not 20, or byte 0 is not 83
+ *   the type is not 1 to 3; byte 2 or byte 19 is not 0 or 1
+ *   a coordinate is below -1,000,000 or above 1,000,000
+ *   a least coordinate is above its greatest
+ *   empty:   a coordinate that is not 0, or byte 19 is 1
+ *   points, not empty:  byte 19 is 1
+ *   line, not empty:    the box is one point; or it is flat, and byte 19 is 0
+ *   region, not empty:  the box is flat; or byte 19 is 0
+ *
+ * Flat: least and greatest x are equal, or least and greatest y are. A summary that
+ * karvoiss_summary made is never bad; the 20 zeros that it has beside a refusal are.
+ *
+ * The vectors of far objects, by what an object is beside the other's type. An empty
+ * object has vector 0. "ends" is a line whose boundary has a point, byte 19.
+ *
+ *               beside points            beside a line             beside a region
+ *   points      1 poi_disjoint           1 poi_disjoint            4 poi_outside
+ *   line        0                        4 seg_unshared, or 1 (*)  4 seg_outside
+ *   line, ends  1 bound_poi_disjoint     36 bound_disjoint too,    68 bound_disjoint
+ *                                        or 5 (*)                  too
+ *   region      0                        1 seg_unshared            3 (0/1), (1/0)
+ *
+ *   (*) of two lines the first has 4 or 36, the second 1 or 5
+ *
+ * The cells of a pair that is far follow from the types, from which object is empty,
+ * and from the vectors: what of an object is not empty lies in the other's exterior.
+ * Row by row they are the signs
+ *
+ *   F F i   F F b   j c 2
+ *
+ * with i, b for the interior and the boundary of the first, j, c for those of the
+ * second:
+ *
+ *                                                         i or j  b or c
+ *   empty                                                   F       F
+ *   points                                                  0       F
+ *   line whose vector has no bound_.. flag                  1       F
+ *   line whose vector has bound_.. set: byte 19 is 1        1       0
+ *   region                                                  2       1
+ *
+ * So a region and a line with ends, far apart, have FF2FF1102, a closed line and no
+ * points FF1FFFFF2, and two empty objects FFFFFFFF2.
+ */
+typedef struct {
+    uint32_t number;
+    size_t place;
+    bool look;
+    uint16_t f;
+    uint16_t g;
+} karvoiss_far_t;
+
+karvoiss_far_t karvoiss_far(const uint8_t *first, size_t first_length,
+                            const uint8_t *second, size_t second_length);
 
 #ifdef __cplusplus
 }

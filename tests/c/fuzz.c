@@ -1,4 +1,5 @@
 /* For libFuzzer: an input is two masks, a room (each 16 bits, low byte first), a pattern with its length, and a scene. The archive must answer what the reference does.
+ * The same bytes are asked about as one object and as two summaries, the first of them as long as the room's lowest five bits say.
  * The scene, the pattern and the list end at pages that may not be touched, so that a byte too far is noticed though the archive has no checks of its own. */
 #define _DEFAULT_SOURCE
 #include "scenes.h"
@@ -16,9 +17,11 @@ struct reference {
     karvoiss_cells_t cells;
     karvoiss_relate_t relate;
     karvoiss_overlap_t overlap;
+    karvoiss_summary_t summary;
+    karvoiss_far_t far;
 };
 
-struct reference reference_answers(const uint8_t *scene, size_t length, uint16_t want_f, uint16_t want_g,
+struct reference reference_answers(const uint8_t *scene, size_t length, size_t split, uint16_t want_f, uint16_t want_g,
                                    const uint8_t *pattern, size_t pattern_length, uint8_t *list, size_t room);
 int LLVMFuzzerTestOneInput(const uint8_t *data, size_t size);
 
@@ -71,6 +74,7 @@ int LLVMFuzzerTestOneInput(const uint8_t *data, size_t size)
 
     size_t length = size - HEAD, room = number(data + 4) % ROOM;
     uint16_t want_f = (uint16_t)number(data), want_g = (uint16_t)number(data + 2);
+    size_t split = number(data + 4) % 32 < length ? number(data + 4) % 32 : length;
     uint8_t *scene = scene_end - length, *list = list_end - room;
 
     size_t pattern_length = spell(data + PATTERN, pattern_end);
@@ -80,13 +84,15 @@ int LLVMFuzzerTestOneInput(const uint8_t *data, size_t size)
     memset(expected, 0xEE, GUARD + room);
     memset(list - GUARD, 0xEE, GUARD + room);
 
-    struct reference reference = reference_answers(scene, length, want_f, want_g, pattern, pattern_length, expected + GUARD, room);
+    struct reference reference = reference_answers(scene, length, split, want_f, want_g, pattern, pattern_length, expected + GUARD, room);
     karvoiss_vectors_t vectors = karvoiss_vectors(scene, length, reference.all.f, reference.all.g);
     karvoiss_vectors_t wanted = karvoiss_vectors(scene, length, want_f, want_g);
     karvoiss_vectors_t nothing = karvoiss_vectors(scene, length, 0, 0);
     karvoiss_cells_t cells = karvoiss_cells(scene, length);
     karvoiss_relate_t relate = karvoiss_relate(scene, length, pattern, pattern_length);
     karvoiss_overlap_t overlap = karvoiss_overlap(scene, length, list, room);
+    karvoiss_summary_t summary = karvoiss_summary(scene, length);
+    karvoiss_far_t far = karvoiss_far(scene, split, scene + split, length - split);
 
     require(same_vectors(&reference.vectors, &vectors), "vectors");
     require(same_vectors(&reference.wanted, &wanted), "vectors under the masks");
@@ -94,6 +100,8 @@ int LLVMFuzzerTestOneInput(const uint8_t *data, size_t size)
     require(same_cells(&reference.cells, &cells), "cells");
     require(same_relate(&reference.relate, &relate), "pattern");
     require(same_overlap(&reference.overlap, &overlap), "overlap list");
+    require(same_summary(&reference.summary, &summary), "summary");
+    require(same_far(&reference.far, &far), "what two summaries tell");
     require(memcmp(expected, list - GUARD, GUARD + room) == 0, "the lent buffer, its list or what is around it");
     require(memcmp(data + HEAD, scene, length) == 0, "the scene was changed");
     return 0;

@@ -1,4 +1,4 @@
-/* Null where the length is 0: for the scene of each call, and for the pattern and the list, alone and with it. */
+/* Null where the length is 0: for the scene of each call, for the pattern and the list, alone and with it, and for either summary. */
 #include "scenes.h"
 
 static const uint8_t empty_regions[] = {84, 3, 69, 84, 3, 69};
@@ -7,6 +7,26 @@ static void is_overlap(const char *name, karvoiss_overlap_t answer, uint32_t num
 {
     if (answer.number != number || answer.place != 0 || answer.count != count)
         fail(name, "another answer");
+}
+
+static void is_bad_at(const char *name, karvoiss_far_t answer, size_t place)
+{
+    karvoiss_far_t bad = {.number = 18, .place = place};
+
+    if (!same_far(&answer, &bad))
+        fail(name, "another answer");
+}
+
+static void summaries_of_null(const struct scene *scene)
+{
+    static const karvoiss_summary_t no_summary = {.number = 1};
+    karvoiss_summary_t null = karvoiss_summary(NULL, 0), some = karvoiss_summary(scene->bytes, second_object(scene->bytes, scene->length));
+
+    if (!same_summary(&null, &no_summary) || some.number != 0)
+        fail("summary of null", "another answer");
+    is_bad_at("null twice", karvoiss_far(NULL, 0, NULL, 0), 0);
+    is_bad_at("null first", karvoiss_far(NULL, 0, some.record, 20), 0);
+    is_bad_at("null second", karvoiss_far(some.record, 20, NULL, 0), 1);
 }
 
 static void is_relate(const char *name, karvoiss_relate_t answer, uint32_t number)
@@ -41,6 +61,7 @@ int main(int argc, char **argv)
     is_overlap("overlap of two regions into null", karvoiss_overlap(scene.bytes, scene.length, NULL, 0), 17, 0);
     if (list[0] != 0xEE)
         fail("overlap of null into a buffer", "the buffer was changed");
-    puts("null: 9 calls");
+    summaries_of_null(&scene);
+    puts("null: 13 calls");
     return 0;
 }

@@ -1,54 +1,7 @@
 /* Scenes, patterns and lists that lie right before a page that may not be touched, and right after one. Each scene is asked about whole and cut at
  * every byte, in pages that may only be read; the answers must be those that the same bytes get in ordinary memory. */
 #define _DEFAULT_SOURCE
-#include "scenes.h"
-
-#include <signal.h>
-#include <sys/mman.h>
-#include <unistd.h>
-
-static size_t page;
-static const char *current = "nothing yet";
-
-/* `size` bytes, a whole number of pages, between two pages that may not be touched. */
-struct fenced {
-    uint8_t *start;
-    size_t size;
-};
-
-static struct fenced fence(size_t least)
-{
-    struct fenced area = {.size = (least + page - 1) / page * page};
-    uint8_t *all = mmap(NULL, area.size + 2 * page, PROT_NONE, MAP_PRIVATE | MAP_ANONYMOUS, -1, 0);
-
-    if (all == MAP_FAILED || mprotect(all + page, area.size, PROT_READ | PROT_WRITE) != 0)
-        fail("mmap", "no memory");
-    area.start = all + page;
-    return area;
-}
-
-static uint8_t *at_start(struct fenced area, size_t length)
-{
-    (void)length;
-    return area.start;
-}
-
-static uint8_t *at_end(struct fenced area, size_t length)
-{
-    return area.start + area.size - length;
-}
-
-static void say_where(int signal)
-{
-    (void)signal;
-    static const char what[] = "border: a page was touched that was not lent: ";
-
-    if (write(2, what, sizeof what - 1) < 0 || write(2, current, strlen(current)) < 0 || write(2, "\n", 1) < 0)
-        _exit(2);
-    _exit(1);
-}
-
-typedef uint8_t *(*placing)(struct fenced, size_t);
+#include "fences.h"
 
 static void ask_at(struct fenced scenes, placing place, const struct scene *scene, size_t length)
 {
@@ -114,13 +67,9 @@ static size_t lists_at(struct fenced lists, placing place, const struct scene *s
 
 int main(int argc, char **argv)
 {
-    static const placing placings[] = {at_start, at_end};
-    struct sigaction action = {.sa_handler = say_where};
     size_t cuts = 0, rooms = 0, patterns = 0;
 
-    page = (size_t)sysconf(_SC_PAGESIZE);
-    sigaction(SIGSEGV, &action, NULL);
-    sigaction(SIGBUS, &action, NULL);
+    watch_fences();
     for (int i = 1; i < argc; i++) {
         struct scene scene = read_scene(argv[i]);
         struct fenced scenes = fence(scene.length), lists = fence(LIST), characters = fence(16);

@@ -22,13 +22,15 @@ struct masks {
     uint16_t f, g;
 };
 
-/* `nothing` is asked for under two zero masks. */
+/* `nothing` is asked for under two zero masks; `first` and `second` are the summaries of the two objects, and `far` is what they tell. */
 struct answers {
     karvoiss_vectors_t vectors;
     karvoiss_vectors_t nothing;
     karvoiss_cells_t cells;
     karvoiss_relate_t relate;
     karvoiss_overlap_t overlap;
+    karvoiss_summary_t first, second;
+    karvoiss_far_t far;
     uint8_t list[LIST];
 };
 
@@ -75,6 +77,42 @@ static inline struct masks all_flags(const uint8_t *bytes, size_t length)
     return of_types[types[0] - 1][types[1] - 1];
 }
 
+/* Where the second object begins: after the first end record, or where the bytes end. */
+static inline size_t second_object(const uint8_t *bytes, size_t length)
+{
+    size_t at = 0;
+
+    while (at < length && bytes[at] != 69 && record_length(bytes[at]) > 0)
+        at += record_length(bytes[at]);
+    return at < length && bytes[at] == 69 ? at + 1 : length;
+}
+
+/* The summaries of the two objects, as far as they have some, and what these tell: the full answer, if anything. A refusal has zeros, and its zeros are no summary. */
+static inline void ask_summaries(const uint8_t *bytes, size_t length, struct answers *answers)
+{
+    static const uint8_t zeros[20];
+    size_t start = second_object(bytes, length);
+    const karvoiss_summary_t *summaries[2] = {&answers->first, &answers->second};
+
+    answers->first = karvoiss_summary(bytes, start);
+    answers->second = karvoiss_summary(length == 0 ? bytes : bytes + start, length - start);
+    for (int k = 0; k < 2; k++)
+        if ((summaries[k]->number == 0) != (memcmp(summaries[k]->record, zeros, sizeof zeros) != 0))
+            fail("summary", "zeros beside no refusal, or a record beside one");
+    answers->far = karvoiss_far(answers->first.record, 20, answers->second.record, 20);
+    if (answers->first.number != 0 || answers->second.number != 0) {
+        if (answers->far.number != 18 || answers->far.place != (answers->first.number == 0))
+            fail("far", "20 zeros are taken for a summary");
+    } else if (answers->far.number != 0) {
+        fail("far", "a summary that was made is refused");
+    } else if (!answers->far.look
+               && (answers->vectors.number != 0 || answers->far.f != answers->vectors.f || answers->far.g != answers->vectors.g)) {
+        fail("far", "what is told is not the full answer");
+    }
+    if ((answers->far.look || answers->far.number != 0) && (answers->far.f != 0 || answers->far.g != 0))
+        fail("far", "vectors beside a refusal or a look");
+}
+
 /* The pattern of what was answered, nine characters: each cell as it is, but for IE, of which it is asked whether it is empty, and EI, which is left open. */
 static inline void own_pattern(const karvoiss_cells_t *cells, uint8_t *pattern)
 {
@@ -109,6 +147,7 @@ static inline void ask(const uint8_t *bytes, size_t length, uint8_t *list, size_
     if (answers->relate.holds != (answers->cells.number == 0))
         fail("a pattern", "the scene's own does not hold");
     answers->overlap = karvoiss_overlap(bytes, length, list, room);
+    ask_summaries(bytes, length, answers);
 }
 
 static inline bool same_vectors(const karvoiss_vectors_t *a, const karvoiss_vectors_t *b)
@@ -131,10 +170,21 @@ static inline bool same_overlap(const karvoiss_overlap_t *a, const karvoiss_over
     return a->number == b->number && a->place == b->place && a->count == b->count;
 }
 
+static inline bool same_summary(const karvoiss_summary_t *a, const karvoiss_summary_t *b)
+{
+    return a->number == b->number && a->place == b->place && memcmp(a->record, b->record, sizeof a->record) == 0;
+}
+
+static inline bool same_far(const karvoiss_far_t *a, const karvoiss_far_t *b)
+{
+    return a->number == b->number && a->place == b->place && a->look == b->look && a->f == b->f && a->g == b->g;
+}
+
 static inline bool same_answers(const struct answers *a, const struct answers *b)
 {
     return same_vectors(&a->vectors, &b->vectors) && same_vectors(&a->nothing, &b->nothing) && same_cells(&a->cells, &b->cells)
-        && same_relate(&a->relate, &b->relate) && same_overlap(&a->overlap, &b->overlap);
+        && same_relate(&a->relate, &b->relate) && same_overlap(&a->overlap, &b->overlap) && same_summary(&a->first, &b->first)
+        && same_summary(&a->second, &b->second) && same_far(&a->far, &b->far);
 }
 
 #endif

@@ -11,6 +11,7 @@ static _Alignas(64) uint8_t stack[STACK];
 static ucontext_t here, there;
 static struct scene scene;
 static struct masks all;
+static size_t second;
 static uint8_t list[LIST];
 static struct answers answers;
 
@@ -32,6 +33,21 @@ static void ask_relate(void)
 static void ask_overlap(void)
 {
     answers.overlap = karvoiss_overlap(scene.bytes, scene.length, list, LIST);
+}
+
+static void ask_summary(void)
+{
+    answers.first = karvoiss_summary(scene.bytes, second);
+}
+
+static void ask_other_summary(void)
+{
+    answers.second = karvoiss_summary(scene.bytes + second, scene.length - second);
+}
+
+static void ask_far(void)
+{
+    answers.far = karvoiss_far(answers.first.record, 20, answers.second.record, 20);
 }
 
 /* The few bytes of the asking function itself are counted in. */
@@ -65,13 +81,18 @@ int main(int argc, char **argv)
         {"karvoiss_cells", ask_cells, KARVOISS_CELLS_STACK, 0},
         {"karvoiss_relate", ask_relate, KARVOISS_RELATE_STACK, 0},
         {"karvoiss_overlap", ask_overlap, KARVOISS_OVERLAP_STACK, 0},
+        {"karvoiss_summary, the first object", ask_summary, KARVOISS_SUMMARY_STACK, 0},
+        {"karvoiss_summary, the second object", ask_other_summary, KARVOISS_SUMMARY_STACK, 0},
+        {"karvoiss_far", ask_far, KARVOISS_FAR_STACK, 0},
     };
+    const int count = sizeof calls / sizeof *calls;
     int bad = argc < 2;
 
     for (int i = 1; i < argc; i++) {
         scene = read_scene(argv[i]);
         all = all_flags(scene.bytes, scene.length);
-        for (int k = 0; k < 4; k++) {
+        second = second_object(scene.bytes, scene.length);
+        for (int k = 0; k < count; k++) {
             size_t used = used_by(calls[k].asks);
 
             if (used > calls[k].measured)
@@ -79,7 +100,7 @@ int main(int argc, char **argv)
         }
         free(scene.bytes);
     }
-    for (int k = 0; k < 4; k++) {
+    for (int k = 0; k < count; k++) {
         printf("stack: %s used %zu bytes, the header states %zu\n", calls[k].name, calls[k].measured, calls[k].stated);
         if (calls[k].measured > calls[k].stated || calls[k].measured == 0)
             bad = 1;

@@ -1,9 +1,11 @@
 //! Scenes made by hand: document 01's twelve with their lines, its refusal table, traps of its wording, scenes with the higher type first, scenes that yes and
-//! no do not tell apart, and pictures of rare matrices.
+//! no do not tell apart, and pictures of rare matrices. And objects with their summaries, pairs of summaries with what they tell, good summaries and bad ones.
 
+use crate::mistakes::RIGHT;
 use crate::picture;
 use crate::plane::{Point, Segment};
-use crate::scene::{half_record, point_record, scene_bytes, Half, Object, LINE, REGION};
+use crate::scene::{half_record, object_bytes, point_record, scene_bytes, Half, Object, LINE, POINTS, REGION};
+use crate::summary::{Summary, SUMMARY};
 
 /// A name, the scene's bytes, and the line that `explore` must write.
 pub struct Known {
@@ -390,6 +392,156 @@ pub fn listed() -> Vec<Listed> {
         ask("16: no line, a square", empty(LINE), square(0, 4), 9, "no 16 0"),
         ask("10 before 16", square(0, 4), twice(1, 1), 9, "no 10 166"),
     ]
+}
+
+/// One object's bytes, and its summary in hexadecimal or the refusal.
+pub fn summarised() -> Vec<Known> {
+    let known = |name, bytes: Vec<u8>, line| Known { name, bytes, line };
+    let object = |name, object: Object, line| Known { name, bytes: object_bytes(&object), line };
+    let empty = |kind| as_given(kind, &[]);
+    let left = half((0, 0), (4, 0), true, false);
+    let many: Vec<u8> = (0..1025).flat_map(|i| point_record((i / 32, i % 32))).collect();
+    let bridged: [&[Point]; 3] = [&rectangle(0, 0, 2, 2), &[(2, 2), (4, 4)], &rectangle(4, 4, 6, 6)];
+    vec![
+        object("a line", line(&[&[(-1, 2), (3, -4)]]), "53 02 00 ff ff ff ff fc ff ff ff 03 00 00 00 02 00 00 00 01"),
+        object("no points", points(&[]), "53 01 01 00 00 00 00 00 00 00 00 00 00 00 00 00 00 00 00 00"),
+        object("no line", empty(LINE), "53 02 01 00 00 00 00 00 00 00 00 00 00 00 00 00 00 00 00 00"),
+        object("no region", empty(REGION), "53 03 01 00 00 00 00 00 00 00 00 00 00 00 00 00 00 00 00 00"),
+        object("a point at the origin", points(&[(0, 0)]), "53 01 00 00 00 00 00 00 00 00 00 00 00 00 00 00 00 00 00 00"),
+        object("points", points(&[(4, 9), (5, -1), (7, 3)]), "53 01 00 04 00 00 00 ff ff ff ff 07 00 00 00 09 00 00 00 00"),
+        object("a flat line", line(&[&[(1, 7), (2, 7), (5, 7)]]), "53 02 00 01 00 00 00 07 00 00 00 05 00 00 00 07 00 00 00 01"),
+        object("a closed line", line(&[&[(0, 0), (4, 0), (0, 3), (0, 0)]]), "53 02 00 00 00 00 00 00 00 00 00 04 00 00 00 03 00 00 00 00"),
+        object("two closed rings joined by a bridge", line(&bridged), "53 02 00 00 00 00 00 00 00 00 00 06 00 00 00 06 00 00 00 01"),
+        object("a square", square(0, 4), "53 03 00 00 00 00 00 00 00 00 00 04 00 00 00 04 00 00 00 01"),
+        object("limit to limit", square(-1_000_000, 1_000_000), "53 03 00 c0 bd f0 ff c0 bd f0 ff 40 42 0f 00 40 42 0f 00 01"),
+        known("no byte", vec![], "no 1 0"),
+        known("a type alone", vec![84, 1], "no 1 2"),
+        known("another kind", vec![84, 1, 76], "no 2 2"),
+        known("type 4", vec![84, 4], "no 3 0"),
+        object("out of range", points(&[(1_000_001, 0)]), "no 4 2"),
+        known("ends the wrong way round", joined(&[&[84, 2], &half_record(LINE, &half((3, 0), (2, 0), true, false))]), "no 5 2"),
+        known("1,025 points", joined(&[&[84, 1], &many]), "no 6 9218"),
+        known("a byte after the end", vec![84, 1, 69, 0], "no 7 3"),
+        known("a scene", vec![84, 1, 69, 84, 1, 69], "no 7 3"),
+        object("a point twice", twice(1, 1), "no 10 11"),
+        object("half a segment", as_given(LINE, &[left]), "no 11 2"),
+        object("segments that cross", line(&[&[(0, 0), (2, 2)], &[(0, 2), (2, 0)]]), "no 12 2"),
+        object("an open outline", with_ia(&[((0, 0), (4, 0), true)]), "no 13 2"),
+        object("a triangle inside out", with_ia(&[((0, 0), (4, 0), false), ((0, 0), (2, 3), true), ((2, 3), (4, 0), true)]), "no 14 2"),
+    ]
+}
+
+/// Two summaries, and `look`, both vectors or the refusal.
+pub struct Told {
+    pub name: &'static str,
+    pub first: Vec<u8>,
+    pub second: Vec<u8>,
+    pub line: &'static str,
+}
+
+fn summary_of(object: &Object) -> Vec<u8> {
+    Summary::of(object, &RIGHT).bytes().to_vec()
+}
+
+/// Pairs of summaries, and what they tell.
+pub fn told() -> Vec<Told> {
+    let pair = |name, f: &Object, g: &Object, line| Told { name, first: summary_of(f), second: summary_of(g), line };
+    let empty = |kind| as_given(kind, &[]);
+    let far_off = |by: i64| points(&[(by, by)]);
+    let (round, ends, closed) = (square(-4, 4), line(&[&[(90, 90), (91, 95)]]), line(&[&[(90, 90), (95, 90), (90, 95), (90, 90)]]));
+    let distant = region(&[&rectangle(200, 0, 201, 1)]);
+    let mut pairs = vec![
+        pair("no line, a region round the origin", &empty(LINE), &round, "0 1"),
+        pair("a region round the origin, no line", &round, &empty(LINE), "1 0"),
+        pair("no points twice", &points(&[]), &points(&[]), "0 0"),
+        pair("no region, a point at the origin", &empty(REGION), &far_off(0), "0 4"),
+        pair("a square and a point at its corner", &square(0, 4), &far_off(4), "look"),
+        pair("a square and a point a step off its corner", &square(0, 4), &far_off(5), "0 4"),
+        pair("squares that touch at a side", &square(0, 4), &region(&[&rectangle(4, 0, 8, 4)]), "look"),
+        pair("squares a step apart", &square(0, 4), &region(&[&rectangle(5, 0, 8, 4)]), "3 3"),
+        pair("one above the other, a step apart", &square(0, 4), &region(&[&rectangle(0, 5, 4, 9)]), "3 3"),
+        pair("boxes that meet, outlines that do not", &square(0, 9), &far_off(5), "look"),
+        pair("a box in the empty corner of another", &line(&[&[(0, 0), (9, 0), (9, 9)]]), &far_off(1), "look"),
+        pair("points, points", &far_off(0), &far_off(50), "1 1"),
+        pair("points, a line with ends", &far_off(0), &ends, "1 1"),
+        pair("points, a closed line", &far_off(0), &closed, "1 0"),
+        pair("a closed line, points", &closed, &far_off(0), "0 1"),
+        pair("points, a region", &far_off(50), &round, "4 0"),
+        pair("a line with ends, a closed line", &line(&[&[(0, 0), (1, 1)]]), &closed, "36 1"),
+        pair("a closed line, a line with ends", &closed, &line(&[&[(0, 0), (1, 1)]]), "4 5"),
+        pair("a line with ends, a region", &ends, &round, "68 1"),
+        pair("a region, a closed line", &round, &closed, "1 4"),
+        pair("a region, a region", &round, &distant, "3 3"),
+        pair("a line with ends, no points", &ends, &points(&[]), "1 0"),
+        pair("no points, a closed line", &points(&[]), &closed, "0 0"),
+    ];
+    let cut = summary_of(&round)[..19].to_vec();
+    pairs.push(Told { name: "19 bytes twice", first: cut.clone(), second: cut, line: "no 18 0" });
+    pairs
+}
+
+/// The summary of a point that is far from what `judged` has.
+pub fn a_point() -> Vec<u8> {
+    summary_of(&points(&[(999_999, -999_999)]))
+}
+
+/// Good summaries and bad ones: for each way of being bad, the nearest that are bad and the nearest that are not.
+pub fn judged() -> Vec<(String, Vec<u8>, bool)> {
+    const GOOD: bool = true;
+    const BAD: bool = false;
+    let summary = |kind, empty, least: Point, greatest: Point, boundary| Summary { kind, empty, least, greatest, boundary };
+    let (origin, limit) = ((0, 0), 1_000_000);
+    let region = summary(REGION, false, (-1, -2), (3, 4), true).bytes().to_vec();
+    let mut all = Vec::new();
+
+    // length and single bytes: the region's, with something else in one place
+    let mut with = |name: &str, at: usize, byte: u8, verdict: bool| {
+        let mut record = region.clone();
+        record[at] = byte;
+        all.push((format!("{name} {byte}"), record, verdict));
+    };
+    [(82, BAD), (SUMMARY, GOOD), (84, BAD)].into_iter().for_each(|(byte, verdict)| with("kind", 0, byte, verdict));
+    [(0, BAD), (2, GOOD), (3, GOOD), (4, BAD), (255, BAD)].into_iter().for_each(|(byte, verdict)| with("type", 1, byte, verdict));
+    [(0, GOOD), (2, BAD), (255, BAD)].into_iter().for_each(|(byte, verdict)| with("empty byte", 2, byte, verdict));
+    [(1, GOOD), (2, BAD), (255, BAD)].into_iter().for_each(|(byte, verdict)| with("boundary byte", 19, byte, verdict));
+    for length in 0..20 {
+        all.push((format!("{length} bytes"), region[..length].to_vec(), BAD));
+    }
+    all.push(("21 bytes".to_string(), [&region[..], &[0]].concat(), BAD));
+
+    let mut add = |name: &str, summary: Summary, verdict: bool| all.push((name.to_string(), summary.bytes().to_vec(), verdict));
+    for (past, verdict) in [(0, GOOD), (1, BAD)] {
+        add("least x at the limit", summary(POINTS, false, (-limit - past, 0), origin, false), verdict);
+        add("least y at the limit", summary(POINTS, false, (0, -limit - past), origin, false), verdict);
+        add("greatest x at the limit", summary(POINTS, false, origin, (limit + past, 0), false), verdict);
+        add("greatest y at the limit", summary(POINTS, false, origin, (0, limit + past), false), verdict);
+        add("least x above", summary(POINTS, false, (5 + past, 0), (5, 9), false), verdict);
+        add("least y above", summary(POINTS, false, (0, 5 + past), (9, 5), false), verdict);
+        add("least x above, a region", summary(REGION, false, (4 + 2 * past, 0), (5, 9), true), verdict);
+        for kind in [POINTS, LINE, REGION] {
+            add("empty, least x", summary(kind, true, (-past, 0), origin, false), verdict);
+            add("empty, least y", summary(kind, true, (0, -past), origin, false), verdict);
+            add("empty, greatest x", summary(kind, true, origin, (past, 0), false), verdict);
+            add("empty, greatest y", summary(kind, true, origin, (0, past), false), verdict);
+            add("empty, boundary", summary(kind, true, origin, origin, past == 1), verdict);
+        }
+        add("points, boundary", summary(POINTS, false, (1, 1), (5, 5), past == 1), verdict);
+        add("a line, wide by one", summary(LINE, false, (7 + past, 7), (8, 7), true), verdict);
+        add("a line, high by one", summary(LINE, false, (7, 7 + past), (7, 8), true), verdict);
+        add("a line without a boundary, high by one", summary(LINE, false, (7, 7 + past), (9, 8), false), verdict);
+        add("a line without a boundary, wide by one", summary(LINE, false, (7 + past, 7), (8, 9), false), verdict);
+        add("a region, high by one", summary(REGION, false, (7, 7 + past), (9, 8), true), verdict);
+        add("a region, wide by one", summary(REGION, false, (7 + past, 7), (8, 9), true), verdict);
+        add("a region, boundary", summary(REGION, false, (7, 7), (9, 9), past == 0), verdict);
+    }
+    add("a line that is a point, without a boundary", summary(LINE, false, (7, 7), (7, 7), false), BAD);
+    add("a region that is a point", summary(REGION, false, (7, 7), (7, 7), true), BAD);
+    add("a flat line with a boundary", summary(LINE, false, (7, 7), (9, 7), true), GOOD);
+    add("an upright line with a boundary", summary(LINE, false, (7, 7), (7, 9), true), GOOD);
+    add("a line with a boundary", summary(LINE, false, (7, 7), (9, 9), true), GOOD);
+    add("one point", summary(POINTS, false, (7, 7), (7, 7), false), GOOD);
+    add("flat points", summary(POINTS, false, (7, 7), (9, 7), false), GOOD);
+    all
 }
 
 /// Every scene made by hand that has a known line, but for the pictures.

@@ -21,6 +21,11 @@ pub fn later(f: &Object, g: &Object, rules: &Rules) -> Option<Refusal> {
         .or_else(|| crossing(one, other).map(|place| Refusal { number: 15, place }))
 }
 
+/// Conditions 10 to 14 of one object alone.
+pub fn alone(object: &Object, rules: &Rules) -> Option<Refusal> {
+    later(object, &Object::default(), rules)
+}
+
 fn halves(object: &Object) -> impl Iterator<Item = (usize, &Half)> {
     object.places.iter().copied().zip(&object.halves)
 }

@@ -1,17 +1,18 @@
-//! The comparison: every scene is put to the engine under test and to the reference, as vectors under several masks, as cells, against
-//! patterns and as an overlap list, and every bit of the answers and of the memory around them must agree.
+//! The comparison: every scene is put to the engine under test and to the reference, as vectors under several masks, as cells, against patterns and as an
+//! overlap list, and its objects for their summaries and for what these tell; every bit of the answers and of the memory around them must agree.
 
 use crate::byhand;
-use crate::damage::{damaged, noise};
+use crate::damage::{damaged, noise, spoilt_summary};
 use crate::drawing::scene_text;
 use crate::exchange::{self, Answers};
 use crate::judge::{judge, Judgement};
 use crate::library;
-use crate::maker::{full, small, some_pair, with_hub};
+use crate::maker::{full, side_by_side, small, some_pair, with_hub};
 use crate::mistakes::{Rules, RIGHT};
 use crate::pieces::Extent;
 use crate::random::Random;
-use crate::scene::scene_bytes;
+use crate::scene::{object_bytes, scene_bytes};
+use crate::summary::{are_far, far, summary, FarAnswer, Summary};
 use crate::tally::Tally;
 use std::fmt::Debug;
 
@@ -30,15 +31,16 @@ pub struct Case {
 }
 
 impl Case {
-    /// The scene that a seed names: mostly small and valid, a third damaged or not split, an eighth with a hub, a few of full size, a few that never
-    /// were scenes.
+    /// The scene that a seed names: mostly small and valid, a third damaged or not split, a ninth with a hub, a ninth of objects side by side, a few of full size, a few
+    /// that never were scenes.
     pub fn of_seed(seed: u64) -> Case {
         let mut random = Random::new(seed);
         let kinds = some_pair(&mut random);
-        let choice = random.below(1600);
+        let choice = random.below(1800);
         let (f, g) = match choice {
             0..=3 => full(&mut random, kinds),
-            1400.. => with_hub(&mut random),
+            1400..=1599 => with_hub(&mut random),
+            1600.. => return Case::side_by_side_of_seed(seed),
             _ => small(&mut random, kinds),
         };
         let (bytes, must_be_taken) = match choice {
@@ -54,6 +56,18 @@ impl Case {
     pub fn hub_of_seed(seed: u64) -> Case {
         let (f, g) = with_hub(&mut Random::new(seed));
         Case { from: format!("seed {seed}, with a hub"), bytes: scene_bytes(&f, &g), must_be_taken: true, seed, every_pattern: false }
+    }
+
+    /// The objects side by side that a seed names. They are a scene if no point is in both boxes.
+    pub fn side_by_side_of_seed(seed: u64) -> Case {
+        let (f, g) = side_by_side(&mut Random::new(seed));
+        let must_be_taken = are_far(&Summary::of(&f, &RIGHT), &Summary::of(&g, &RIGHT));
+        Case { from: format!("seed {seed}, side by side"), bytes: scene_bytes(&f, &g), must_be_taken, seed, every_pattern: false }
+    }
+
+    /// The bytes of the object that a seed names: the first of two side by side.
+    pub fn object_of_seed(seed: u64) -> Vec<u8> {
+        object_bytes(&side_by_side(&mut Random::new(seed)).0)
     }
 
     fn by_hand(name: &str, bytes: Vec<u8>) -> Case {
@@ -81,7 +95,10 @@ pub fn ask(case: &Case, rules: &Rules, tally: &mut Tally) -> Result<(), String> 
     }
     let answers = ask_one(&case.bytes, &judgement, &mut random, tally).map_err(|what| failure(case, &case.bytes, &what))?;
     let (f, g) = (&judgement.f, &judgement.g);
+    ask_summary(&case.bytes, rules, &mut random, tally).map_err(|what| failure(case, &case.bytes, &what))?;
     if g.start > 0 {
+        let objects = case.bytes.split_at(g.start);
+        ask_summaries(objects, &answers, rules, &mut random, tally).map_err(|what| failure(case, &case.bytes, &what))?;
         let exchanged = exchange::bytes(&case.bytes, g.start);
         let others = ask_one(&exchanged, &judge(&exchanged, rules), &mut random, tally).map_err(|what| failure(case, &exchanged, &what))?;
         if others != answers.exchanged(f.kind, g.kind) {
@@ -153,6 +170,68 @@ fn ask_patterns(scene: &Lent, judgement: &Judgement, patterns: Vec<Vec<u8>>, tal
         }
     }
     Ok(())
+}
+
+/// Asks about the objects and the summaries made by hand.
+pub fn ask_by_hand(rules: &Rules, tally: &mut Tally) -> Result<(), String> {
+    let mut random = Random::new(0);
+    for known in byhand::summarised() {
+        ask_summary(&known.bytes, rules, &mut random, tally)?;
+    }
+    for told in byhand::told() {
+        ask_far(&told.first, &told.second, rules, &mut random, tally)?;
+    }
+    let point = byhand::a_point();
+    for (_, record, _) in byhand::judged() {
+        ask_far(&record, &point, rules, &mut random, tally)?;
+        ask_far(&point, &record, rules, &mut random, tally)?;
+    }
+    Ok(())
+}
+
+/// Asks for the summary of some bytes; gives the engine's, if it has one.
+fn ask_summary(bytes: &[u8], rules: &Rules, random: &mut Random, tally: &mut Tally) -> Result<Option<[u8; 20]>, String> {
+    let object = Lent::new(random, bytes);
+    let answer = library::summary(object.inside());
+    agree(&format!("summary of {} bytes", bytes.len()), &summary(bytes, rules), &answer)?;
+    object.is_unchanged("the object, after its summary")?;
+    tally.questions += 1;
+    Ok((answer.number == 0).then_some(answer.record))
+}
+
+/// Asks for the summaries of two objects, what they tell, in either order, and what spoilt ones do. What is told must be the engine's full answer to the two as a
+/// scene, which must be one then; and it must be told exactly if the boxes share no point or an object is empty.
+fn ask_summaries((f, g): (&[u8], &[u8]), scene: &Answers, rules: &Rules, random: &mut Random, tally: &mut Tally) -> Result<(), String> {
+    let records = [ask_summary(f, rules, random, tally)?, ask_summary(g, rules, random, tally)?];
+    let [Some(first), Some(second)] = records else { return Ok(()) };
+    let told = ask_far(&first, &second, rules, random, tally)?;
+    let turned = ask_far(&second, &first, rules, random, tally)?;
+    let other = Answers { vectors: (told.f, told.g), ..scene.clone() }.exchanged(first[1], second[1]);
+    if (turned.f, turned.g) != other.vectors || turned.look != told.look {
+        return Err(format!("the engine tells {told:?}, but {turned:?} with the summaries exchanged"));
+    }
+    if !told.look && (scene.numbers[0] != 0 || scene.vectors != (told.f, told.g)) {
+        return Err(format!("the engine tells {told:?}, but answers the scene with number {} and {:?}", scene.numbers[0], scene.vectors));
+    }
+    tally.told(&told, &first, &second);
+    for _ in 0..2 {
+        let [first, second] = [first, second].map(|record| if random.once_in(3) { record.to_vec() } else { spoilt_summary(random, &record) });
+        let answer = ask_far(&first, &second, rules, random, tally)?;
+        if answer.number != 0 {
+            tally.bad_summary(answer.place);
+        }
+    }
+    Ok(())
+}
+
+fn ask_far(first: &[u8], second: &[u8], rules: &Rules, random: &mut Random, tally: &mut Tally) -> Result<FarAnswer, String> {
+    let [one, other] = [first, second].map(|record| Lent::new(random, record));
+    let answer = library::far(one.inside(), other.inside())?;
+    agree(&format!("what the summaries {first:?} and {second:?} tell"), &far(first, second, rules), &answer)?;
+    one.is_unchanged("the first summary")?;
+    other.is_unchanged("the second summary")?;
+    tally.questions += 1;
+    Ok(answer)
 }
 
 fn agree<T: PartialEq + Debug>(question: &str, expected: &T, answer: &T) -> Result<(), String> {

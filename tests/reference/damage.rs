@@ -5,6 +5,7 @@ use crate::maker::small;
 use crate::plane::{turn, Point, Segment, LIMIT};
 use crate::random::Random;
 use crate::scene::{half_record, point_record, Half, Object, END, LINE, LINE_HALF, MOST, POINT, POINTS, REGION, REGION_HALF, TYPE};
+use crate::summary::SUMMARY;
 
 pub fn damaged(random: &mut Random, f: &Object, g: &Object) -> Vec<u8> {
     let mut objects = [f.clone(), g.clone()];
@@ -233,6 +234,37 @@ fn damage_records(random: &mut Random, records: &mut Vec<Vec<u8>>) {
             random.shuffle(&mut records[low..=high]);
         }
     }
+}
+
+/// A summary with something else in one or two of its fields, or of another length. Some of these are good.
+pub fn spoilt_summary(random: &mut Random, record: &[u8]) -> Vec<u8> {
+    let mut spoilt = record.to_vec();
+    for _ in 0..random.between(1, 2) {
+        let field = 3 + 4 * random.below(4);
+        match random.below(10) {
+            0 => spoilt[0] = random.pick(&[SUMMARY, SUMMARY + 1, TYPE, 0, 255]),
+            1 => spoilt[1] = random.pick(&[0, 1, 2, 3, 4, 255]),
+            2 => spoilt[2] = random.pick(&[0, 1, 2, 255]),
+            3 => spoilt[19] = random.pick(&[0, 1, 2, 255]),
+            4 | 5 => {
+                // a box with less width or height, or none
+                let from = 3 + 4 * random.below(2);
+                let value: [u8; 4] = std::array::from_fn(|i| spoilt[from + i]);
+                spoilt[from + 8..from + 12].copy_from_slice(&value);
+            }
+            6 => spoilt[3..19].fill(0),
+            _ => {
+                let value = random.pick(&[0, 0, 1, -1, LIMIT, LIMIT + 1, -LIMIT, -LIMIT - 1, i32::MAX as i64, i32::MIN as i64]) as i32;
+                spoilt[field..field + 4].copy_from_slice(&value.to_le_bytes());
+            }
+        }
+    }
+    match random.below(16) {
+        0 => spoilt.truncate(random.below(20)),
+        1 => spoilt.push(random.pick(&[0, 1, SUMMARY])),
+        _ => (),
+    }
+    spoilt
 }
 
 fn damage_bytes(random: &mut Random, bytes: &mut Vec<u8>) {

@@ -12,10 +12,12 @@ mod mistakes;
 mod pieces;
 mod plane;
 mod scene;
+mod summary;
 
 use judge::{judge, VectorsAnswer};
 use mistakes::RIGHT;
 use pieces::Extent;
+use summary::LENGTH;
 
 #[repr(C)]
 pub struct Vectors {
@@ -47,6 +49,22 @@ pub struct Overlap {
 }
 
 #[repr(C)]
+pub struct Summary {
+    number: u32,
+    place: usize,
+    record: [u8; LENGTH],
+}
+
+#[repr(C)]
+pub struct Far {
+    number: u32,
+    place: usize,
+    look: bool,
+    f: u16,
+    g: u16,
+}
+
+#[repr(C)]
 pub struct Answers {
     all_f: u16,
     all_g: u16,
@@ -56,6 +74,8 @@ pub struct Answers {
     cells: Cells,
     relate: Relate,
     overlap: Overlap,
+    summary: Summary,
+    far: Far,
 }
 
 fn vectors(answer: VectorsAnswer) -> Vectors {
@@ -63,13 +83,15 @@ fn vectors(answer: VectorsAnswer) -> Vectors {
 }
 
 /// The masks of all flags, and under them the vectors; the vectors under the wanted masks and under two zeros, the cells, the pattern, and the overlap list into `list`.
+/// The summary of the same bytes as one object; and what the first `split` of them and the rest tell as two summaries.
 ///
 /// # Safety
-/// `scene` has `length` bytes, `pattern` has `pattern_length` and `list` has `room`, none is null.
+/// `scene` has `length` bytes, of which `split` is no more, `pattern` has `pattern_length` and `list` has `room`, none is null.
 #[no_mangle]
 pub unsafe extern "C" fn reference_answers(
     scene: *const u8,
     length: usize,
+    split: usize,
     want_f: u16,
     want_g: u16,
     pattern: *const u8,
@@ -83,6 +105,8 @@ pub unsafe extern "C" fn reference_answers(
     let (cells, overlap) = (judgement.cells(), judgement.overlap(list));
     let relate = judgement.relate(pattern);
     let (all_f, all_g) = judgement.all_flags();
+    let summary = summary::summary(scene, &RIGHT);
+    let far = summary::far(&scene[..split], &scene[split..], &RIGHT);
     Answers {
         all_f,
         all_g,
@@ -92,5 +116,7 @@ pub unsafe extern "C" fn reference_answers(
         cells: Cells { number: cells.number, place: cells.place, cell: cells.cell.map(|row| row.map(Extent::sign)) },
         relate: Relate { number: relate.number, place: relate.place, holds: relate.holds },
         overlap: Overlap { number: overlap.number, place: overlap.place, count: overlap.count },
+        summary: Summary { number: summary.number, place: summary.place, record: summary.record },
+        far: Far { number: far.number, place: far.place, look: far.look, f: far.f, g: far.g },
     }
 }

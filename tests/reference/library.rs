@@ -10,6 +10,7 @@ pub use stand_in::*;
 mod linked {
     use crate::cells::of_signs;
     use crate::judge::{CellsAnswer, OverlapAnswer, RelateAnswer, VectorsAnswer};
+    use crate::summary::{FarAnswer, SummaryAnswer, LENGTH};
 
     pub const NAME: &str = "the linked archive";
 
@@ -43,11 +44,30 @@ mod linked {
         count: usize,
     }
 
+    #[repr(C)]
+    struct Summary {
+        number: u32,
+        place: usize,
+        record: [u8; LENGTH],
+    }
+
+    /// `look` is bool in C; read as a byte, a wrong one shows instead of being undefined.
+    #[repr(C)]
+    struct Far {
+        number: u32,
+        place: usize,
+        look: u8,
+        f: u16,
+        g: u16,
+    }
+
     extern "C" {
         fn karvoiss_vectors(scene: *const u8, length: usize, want_f: u16, want_g: u16) -> Vectors;
         fn karvoiss_cells(scene: *const u8, length: usize) -> Cells;
         fn karvoiss_relate(scene: *const u8, length: usize, pattern: *const u8, pattern_length: usize) -> Relate;
         fn karvoiss_overlap(scene: *const u8, length: usize, list: *mut u8, room: usize) -> Overlap;
+        fn karvoiss_summary(object: *const u8, length: usize) -> Summary;
+        fn karvoiss_far(first: *const u8, first_length: usize, second: *const u8, second_length: usize) -> Far;
     }
 
     /// Null where the length is 0, which the header allows.
@@ -74,6 +94,19 @@ mod linked {
         Ok(CellsAnswer { number: answer.number, place: answer.place, cell })
     }
 
+    pub fn summary(object: &[u8]) -> SummaryAnswer {
+        let answer = unsafe { karvoiss_summary(start(object), object.len()) };
+        SummaryAnswer { number: answer.number, place: answer.place, record: answer.record }
+    }
+
+    pub fn far(first: &[u8], second: &[u8]) -> Result<FarAnswer, String> {
+        let answer = unsafe { karvoiss_far(start(first), first.len(), start(second), second.len()) };
+        if answer.look > 1 {
+            return Err(format!("far: look is neither 0 nor 1: {}", answer.look));
+        }
+        Ok(FarAnswer { number: answer.number, place: answer.place, look: answer.look == 1, f: answer.f, g: answer.g })
+    }
+
     pub fn relate(scene: &[u8], pattern: &[u8]) -> Result<RelateAnswer, String> {
         let answer = unsafe { karvoiss_relate(start(scene), scene.len(), start(pattern), pattern.len()) };
         if answer.holds > 1 {
@@ -92,6 +125,7 @@ mod linked {
 mod stand_in {
     use crate::judge::{judge, CellsAnswer, OverlapAnswer, RelateAnswer, VectorsAnswer};
     use crate::mistakes::RIGHT;
+    use crate::summary::{self, FarAnswer, SummaryAnswer};
 
     pub const NAME: &str = "no archive: the reference against itself";
 
@@ -109,5 +143,13 @@ mod stand_in {
 
     pub fn overlap(scene: &[u8], list: &mut [u8]) -> OverlapAnswer {
         judge(scene, &RIGHT).overlap(list)
+    }
+
+    pub fn summary(object: &[u8]) -> SummaryAnswer {
+        summary::summary(object, &RIGHT)
+    }
+
+    pub fn far(first: &[u8], second: &[u8]) -> Result<FarAnswer, String> {
+        Ok(summary::far(first, second, &RIGHT))
     }
 }

@@ -23,34 +23,40 @@ mod plan;
 mod plane;
 mod random;
 mod scene;
+mod summary;
 mod tally;
 
-use compare::{ask, Case};
+use compare::{ask, ask_by_hand, Case};
 use judge::{judge, VectorsAnswer};
 use mistakes::{Rules, MISTAKES, RIGHT};
+use plane::Point;
 use random::Random;
 use std::io::{Read, Write};
 use std::process::exit;
 use std::time::{Duration, Instant};
+use summary::{far, FarAnswer, Summary};
 use tally::{Reach, Tally};
 
 const USAGE: &str = "usage: reference answer < scene    the line that explore writes
        reference list < scene      the overlap list, or its refusal
+       reference summary < object  the 20 bytes of its summary, or its refusal
        reference vectors < text    the lines that the program test_vectors writes
        reference draw < scene      the scene as bytes, words and a drawing
        reference scene SEED        writes the scene that a seed names
+       reference object SEED       writes an object that a seed names
        reference self              the scenes made by hand against their known answers
        reference compare             the fixed run: all must agree, and it must reach enough
            --scenes N, --seed N      another number of scenes, another seed
            --hubs                    scenes alone in which a line has a hub, of three to seven segments
+           --beside                  objects side by side alone, for what their summaries tell
            --seconds N               fresh seeds for so long instead
            --mistake NAME            with a mistake in the reference: must disagree
            --trace                   names each scene before it is asked about
        reference compare --mistakes  runs every mistake: each must be caught";
 
 /// The fixed run: its seed, its scenes, and the scenes in which a mistake must have been caught.
-const SEED: u64 = 1;
-const SCENES: u64 = 60_000;
+const SEED: u64 = 2;
+const SCENES: u64 = 100_000;
 const SCENES_PER_MISTAKE: u64 = 5_000;
 
 fn main() {
@@ -65,11 +71,16 @@ fn main() {
             println!("{}", list_line(&input(), scene::MOST));
             true
         }
+        ["summary"] => {
+            println!("{}", summary_line(&input()));
+            true
+        }
         ["vectors"] => answer_cases(&String::from_utf8_lossy(&input())),
         ["draw"] => {
             print!("{}", drawing::scene_text(&input()));
             true
         }
+        ["object", seed] => std::io::stdout().write_all(&Case::object_of_seed(number(seed))).is_ok(),
         ["scene", seed] => std::io::stdout().write_all(&Case::of_seed(number(seed)).bytes).is_ok(),
         ["self"] => self_test(),
         ["compare", "--mistakes"] => all_mistakes(),
@@ -102,6 +113,24 @@ fn list_line(bytes: &[u8], room: usize) -> String {
         return format!("no {} {}", answer.number, answer.place);
     }
     list[..answer.count].iter().map(u8::to_string).collect::<Vec<_>>().join(" ")
+}
+
+/// The bytes in hexadecimal, or `no`, number and place.
+fn summary_line(bytes: &[u8]) -> String {
+    let answer = summary::summary(bytes, &RIGHT);
+    match answer.number {
+        0 => answer.record.map(|byte| format!("{byte:02x}")).join(" "),
+        number => format!("no {number} {}", answer.place),
+    }
+}
+
+/// `look`, both vectors, or `no`, number and place.
+fn far_line(answer: &FarAnswer) -> String {
+    match answer.number {
+        0 if answer.look => "look".to_string(),
+        0 => format!("{} {}", answer.f, answer.g),
+        number => format!("no {number} {}", answer.place),
+    }
 }
 
 /// Both vectors, or `no`, number and place.
@@ -148,8 +177,41 @@ fn self_test() -> bool {
     for listed in byhand::listed() {
         check(listed.name, listed.line, list_line(&listed.bytes, listed.room));
     }
+    for known in byhand::summarised() {
+        check(known.name, known.line, summary_line(&known.bytes));
+    }
+    for told in byhand::told() {
+        check(told.name, told.line, far_line(&far(&told.first, &told.second, &RIGHT)));
+    }
+    let point = byhand::a_point();
+    for (name, record, is_good) in byhand::judged() {
+        let numbers = [far(&record, &point, &RIGHT), far(&point, &record, &RIGHT)].map(|answer| (answer.number, answer.place));
+        check(&name, if is_good { "good" } else { "bad" }, if numbers == [(0, 0), (0, 0)] { "good" } else { "bad" }.to_string());
+        check(&name, if is_good { "[(0, 0), (0, 0)]" } else { "[(18, 0), (18, 1)]" }, format!("{numbers:?}"));
+    }
+    for summary in small_summaries() {
+        check(
+            &format!("{summary:?}"),
+            if summary.is_good() { "made" } else { "not made" },
+            summary.some_object(&RIGHT).map_or("not made", |_| "made").to_string(),
+        );
+    }
     println!("self-test: {passed} passed, {failed} failed");
     failed == 0
+}
+
+/// Every summary with coordinates of -1 to 1: the good ones are those that some object has.
+fn small_summaries() -> Vec<Summary> {
+    let places: Vec<Point> = (-1..=1).flat_map(|x| (-1..=1).map(move |y| (x, y))).collect();
+    let mut all = Vec::new();
+    for kind in 1..=3 {
+        for (least, greatest) in places.iter().flat_map(|least| places.iter().map(move |greatest| (*least, *greatest))) {
+            for (empty, boundary) in [(false, false), (false, true), (true, false), (true, true)] {
+                all.push(Summary { kind, empty, least, greatest, boundary });
+            }
+        }
+    }
+    all
 }
 
 /// A comparison: the scenes made by hand, then those of a seed, a number of them or as many as there is time for.
@@ -168,6 +230,9 @@ impl Run {
         let by_hand = if self.by_hand { Case::all_by_hand() } else { Vec::new() };
         let mut seeds = Random::new(self.seed);
         let of_seed = (0..self.scenes).map(|_| (self.made)(seeds.next()));
+        if self.by_hand {
+            ask_by_hand(&self.rules, tally)?;
+        }
         for case in by_hand.into_iter().chain(of_seed) {
             if self.until.is_some_and(|end| Instant::now() >= end) {
                 break;
@@ -194,6 +259,9 @@ fn compare(arguments: &[&str]) -> bool {
             "--seed" => seed = Some(number(value())),
             "--hubs" => {
                 (run.by_hand, run.made, reach) = (false, Case::hub_of_seed, Reach::Hubs);
+            }
+            "--beside" => {
+                (run.by_hand, run.made, reach) = (false, Case::side_by_side_of_seed, Reach::Summaries);
             }
             "--seconds" => {
                 run.until = Some(start + Duration::from_secs(number(value())));

@@ -1,11 +1,12 @@
 //! Random valid scenes of every pair of types in either order. Both objects are chosen from one plan, by classes whose weights are often 0, so that rare
-//! relations come up: nothing shared, everything shared, one inside the other, closed lines, points on every boundary point. And scenes with a
-//! hub, at which many of a line's segments end.
+//! relations come up: nothing shared, everything shared, one inside the other, closed lines, points on every boundary point. Scenes with a
+//! hub, at which many of a line's segments end. And pairs of objects whose boxes are apart, touch or meet.
 
 use crate::plan::Plan;
 use crate::plane::{inside, turn, Fraction, Point, Segment, LIMIT};
 use crate::random::Random;
 use crate::scene::{Object, LINE, MOST, POINTS, REGION};
+use crate::summary::corners;
 
 /// The six pairs of types with the lower one first.
 pub const PAIRS: [(u8, u8); 6] = [(POINTS, POINTS), (POINTS, LINE), (POINTS, REGION), (LINE, LINE), (LINE, REGION), (REGION, REGION)];
@@ -79,6 +80,46 @@ fn ascending_with_hub(random: &mut Random) -> (Object, Object) {
         let segments = segments(random, &plan, chosen);
         return objects(random, &plan, kinds, segments);
     }
+}
+
+/// Two accepted objects, of one plan each, the second moved to where its box is apart from the first's by a step or more, touches it, or meets it. Where the boxes
+/// share a point, they need not form a scene. Now and then one of them is empty.
+pub fn side_by_side(random: &mut Random) -> (Object, Object) {
+    let kinds = some_pair(random);
+    let [mut f, mut g] = [small(random, kinds).0, small(random, kinds).1];
+    match random.below(20) {
+        0 => f = Object::of_segments(kinds.0, &[]),
+        1 => g = Object::of_segments(kinds.1, &[]),
+        _ => (),
+    }
+    let moved = if random.once_in(8) { None } else { beside(random, &f, &g) };
+    (f, moved.unwrap_or(g))
+}
+
+/// The second object, moved so that on one axis it begins right after the first, or some steps on or back; on the other axis anywhere near. None if it would leave
+/// the range, or if one of the two is empty.
+fn beside(random: &mut Random, f: &Object, g: &Object) -> Option<Object> {
+    let ends = |object: &Object, axis: fn(&Point) -> i64| {
+        let all: Vec<i64> = corners(object).iter().map(axis).collect();
+        Some((all.iter().copied().min()?, all.iter().copied().max()?))
+    };
+    let (x, y): (fn(&Point) -> i64, fn(&Point) -> i64) = (|p| p.0, |p| p.1);
+    let mut after = |axis: fn(&Point) -> i64| {
+        let ((low, high), (its_low, its_high)) = (ends(f, axis)?, ends(g, axis)?);
+        let gap = random.pick(&[-3, -1, 0, 0, 1, 1, 2, 50]);
+        Some(if random.once_in(2) { high + gap - its_low } else { low - gap - its_high })
+    };
+    let (right, up) = (after(x)?, after(y)?);
+    let near = random.between(-4, 4);
+    let level = |axis: fn(&Point) -> i64| Some(ends(f, axis)?.0 - ends(g, axis)?.0 + near);
+    let by = random.pick(&[(right, up), (right, level(y)?), (level(x)?, up)]);
+    let moved = |p: Point| (p.0 + by.0, p.1 + by.1);
+    if corners(g).into_iter().map(moved).any(|p| p.0.abs() > LIMIT || p.1.abs() > LIMIT) {
+        return None;
+    }
+    let points: Vec<Point> = g.points.iter().map(|p| moved(*p)).collect();
+    let segments: Vec<Segment> = g.segments().iter().map(|s| Segment { left: moved(s.left), right: moved(s.right) }).collect();
+    Some(if g.kind == POINTS { Object::of_points(&points) } else { Object::of_segments(g.kind, &segments) })
 }
 
 /// The edges of F and of G; a points object has none.

@@ -7,6 +7,7 @@ use crate::judge::{Judgement, Reading, TwoZeros};
 use crate::pieces::Extent;
 use crate::plane::{interior_above, Point, Segment};
 use crate::scene::{Half, Object, Refusal, LINE, POINTS, REGION};
+use crate::summary::{are_far, corners, has_boundary, FarAnswer, Summary};
 
 /// The order in which the two objects of a scene are taken up: the one given first, or the one of the lower type.
 #[derive(Clone, Copy, PartialEq, Eq, Default)]
@@ -26,7 +27,8 @@ impl Order {
     }
 }
 
-/// What a mistake may exchange. `faults`: whose fault goes first where a number is found in both; `crossings`: whose record 15 names first.
+/// What a mistake may exchange. `faults`: whose fault goes first where a number is found in both; `crossings`: whose record 15 names first; from `corners` on, what
+/// summaries are made of and tell.
 #[derive(Clone, Copy)]
 pub struct Rules {
     pub line_boundary: fn(&Object) -> Vec<Point>,
@@ -36,6 +38,11 @@ pub struct Rules {
     pub faults: Order,
     pub crossings: Order,
     pub spoil: fn(&mut Judgement),
+    pub corners: fn(&Object) -> Vec<Point>,
+    pub has_boundary: fn(&Object, &[Point]) -> bool,
+    pub is_good: fn(&Summary) -> bool,
+    pub are_far: fn(&Summary, &Summary) -> bool,
+    pub spoil_far: fn(&mut FarAnswer, &Summary, &Summary),
 }
 
 impl Rules {
@@ -58,6 +65,11 @@ pub const RIGHT: Rules = Rules {
     faults: Order::AsGiven,
     crossings: Order::AsGiven,
     spoil: |_| (),
+    corners,
+    has_boundary,
+    is_good: Summary::is_good,
+    are_far,
+    spoil_far: |_, _, _| (),
 };
 
 pub struct Mistake {
@@ -67,8 +79,8 @@ pub struct Mistake {
 }
 
 /// Every mistake, by the name that `--mistake` takes: the four, from "refuse-all" on the imitations, then those about two zero masks, those about scenes whose
-/// first type is above the second, those about hubs, those about what a cell extends to, and those about patterns.
-pub const MISTAKES: [Mistake; 40] = [
+/// first type is above the second, those about hubs, those about what a cell extends to, those about patterns, and those about summaries.
+pub const MISTAKES: [Mistake; 52] = [
     Mistake {
         name: "next-halfsegment",
         says: "a line's end is a boundary point if the next halfsegment starts elsewhere",
@@ -201,6 +213,71 @@ pub const MISTAKES: [Mistake; 40] = [
         says: "a digit in a pattern is refused with 23",
         rules: Rules { spoil: |j| j.reading = Reading::NoDigits, ..RIGHT },
     },
+    Mistake {
+        name: "zeros-as-box",
+        says: "the four zeros of an empty object are taken for a box",
+        rules: Rules { are_far: |f, g| !f.shares_a_point(g), ..RIGHT },
+    },
+    Mistake { name: "boxes-without-edges", says: "boxes that touch share no point", rules: Rules { are_far: apart_but_for_edges, ..RIGHT } },
+    Mistake {
+        name: "boxes-by-width",
+        says: "boxes whose widths have a value in common share a point",
+        rules: Rules { are_far: |f, g| f.empty || g.empty || f.greatest.0 < g.least.0 || g.greatest.0 < f.least.0, ..RIGHT },
+    },
+    Mistake {
+        name: "bound-as-filled",
+        says: "bound_poi_disjoint of a far line says that it is not empty",
+        rules: Rules { spoil_far: bound_as_filled, ..RIGHT },
+    },
+    Mistake {
+        name: "far-ascending",
+        says: "the vectors of far objects have the lower type first",
+        rules: Rules {
+            spoil_far: |answer, f, g| {
+                if f.kind > g.kind {
+                    (answer.f, answer.g) = (answer.g, answer.f)
+                }
+            },
+            ..RIGHT
+        },
+    },
+    Mistake {
+        name: "flat-line",
+        says: "a line whose box is flat may have no boundary",
+        rules: Rules { is_good: |s| s.is_good() || Summary { boundary: true, ..*s }.is_good() && s.kind == LINE, ..RIGHT },
+    },
+    Mistake {
+        name: "closed-line-bound",
+        says: "the boundary of a closed line has a point",
+        rules: Rules { has_boundary: |object, _| object.kind != POINTS && !object.is_empty(), ..RIGHT },
+    },
+    Mistake {
+        name: "boundary-of-lines",
+        says: "a region's boundary byte is 0",
+        rules: Rules { has_boundary: |_, of_line| !of_line.is_empty(), ..RIGHT },
+    },
+    Mistake { name: "box-of-left-ends", says: "the box is that of left ends alone", rules: Rules { corners: left_corners, ..RIGHT } },
+    Mistake {
+        name: "empty-rule",
+        says: "an empty summary may have a box",
+        rules: Rules { is_good: |s| s.is_good() || s.empty && Summary { kind: POINTS, empty: false, ..*s }.is_good(), ..RIGHT },
+    },
+    Mistake {
+        name: "one-point-line",
+        says: "a line's box may be one point",
+        rules: Rules {
+            is_good: |s| s.is_good() || s.kind == LINE && s.least == s.greatest && Summary { kind: POINTS, boundary: false, ..*s }.is_good(),
+            ..RIGHT
+        },
+    },
+    Mistake {
+        name: "flat-region",
+        says: "a region's box may be flat",
+        rules: Rules {
+            is_good: |s| s.is_good() || s.kind == REGION && s.boundary && Summary { kind: POINTS, boundary: false, ..*s }.is_good(),
+            ..RIGHT
+        },
+    },
 ];
 
 fn vectors_in_place(judgement: &mut Judgement) {
@@ -224,6 +301,25 @@ fn emptiness_in_place(judgement: &mut Judgement) {
             judgement.cells[1][2] = of(Extent::Stretch);
         }
     }
+}
+
+fn apart_but_for_edges(f: &Summary, g: &Summary) -> bool {
+    f.empty || g.empty || f.greatest.0 <= g.least.0 || g.greatest.0 <= f.least.0 || f.greatest.1 <= g.least.1 || g.greatest.1 <= f.least.1
+}
+
+fn bound_as_filled(answer: &mut FarAnswer, f: &Summary, g: &Summary) {
+    if answer.look {
+        return;
+    }
+    match (f.kind, g.kind) {
+        (POINTS, LINE) => answer.g = !g.empty as u16,
+        (LINE, POINTS) => answer.f = !f.empty as u16,
+        _ => (),
+    }
+}
+
+fn left_corners(object: &Object) -> Vec<Point> {
+    object.points.iter().copied().chain(object.halves.iter().map(|h| h.segment.left)).collect()
 }
 
 fn exterior_boundary_of_nothing(judgement: &mut Judgement) {

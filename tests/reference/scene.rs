@@ -130,8 +130,12 @@ pub fn half_record(kind: u8, h: &Half) -> Vec<u8> {
     record
 }
 
+pub fn object_bytes(object: &Object) -> Vec<u8> {
+    object.records().concat()
+}
+
 pub fn scene_bytes(f: &Object, g: &Object) -> Vec<u8> {
-    f.records().into_iter().chain(g.records()).flatten().collect()
+    [object_bytes(f), object_bytes(g)].concat()
 }
 
 /// The signed 32-bit number that begins at an offset, low byte first.
@@ -220,6 +224,15 @@ fn read_object(bytes: &[u8], start: usize) -> Result<(Object, usize), Refusal> {
         }
         at += 1 + length;
     }
+}
+
+/// Reads one object that has all the bytes, or refuses it with 1 to 7.
+pub fn read_one(bytes: &[u8]) -> Result<Object, Refusal> {
+    let (object, after) = read_object(bytes, 0)?;
+    if after < bytes.len() {
+        return refuse(7, after);
+    }
+    Ok(object)
 }
 
 /// Reads a scene, or refuses it with 1 to 7.

@@ -7,6 +7,7 @@ use crate::judge::Judgement;
 use crate::maker::{DESCENDING, PAIRS};
 use crate::plane::{Point, LIMIT};
 use crate::scene::{Object, LINE, MOST};
+use crate::summary::FarAnswer;
 use std::collections::{BTreeMap, BTreeSet};
 
 /// The refusals that can occur.
@@ -21,6 +22,9 @@ const MATRICES: [usize; 6] = [5, 14, 7, 98, 51, 33];
 
 /// The same with what each cell extends to. Where two outlines, two lines or a line and an outline have a point in common, it may be a stretch or not.
 const EXTENTS: [usize; 6] = [5, 14, 7, 130, 67, 41];
+
+/// The pairs of objects of which summaries tell something: points are empty or not, a line is empty, closed or has a boundary, a region is empty or not.
+const ROWS: usize = 7 * 7;
 
 /// The numbers of a line's segments that must have ended at one point: hubs.
 const HUBS: std::ops::RangeInclusive<usize> = 3..=7;
@@ -47,6 +51,12 @@ pub struct Tally {
     /// Scenes in which so many segments of a line end at one point.
     hubs: BTreeMap<usize, usize>,
     pairs: BTreeMap<(u8, u8), Pair>,
+    /// What two good summaries told: of boxes that share no point, of an empty object, and "look".
+    told: [usize; 3],
+    /// The pairs of objects that something was told of: by type, emptiness and boundary.
+    rows: BTreeSet<[(u8, u8, u8); 2]>,
+    /// Bad summaries, by the place that 18 names.
+    bad_summaries: [usize; 2],
 }
 
 /// What a run must have reached to be right.
@@ -54,6 +64,7 @@ pub struct Tally {
 pub enum Reach {
     Nothing,
     Hubs,
+    Summaries,
     Everything,
 }
 
@@ -95,6 +106,20 @@ impl Tally {
         }
     }
 
+    /// Counts what two good summaries told.
+    pub fn told(&mut self, answer: &FarAnswer, first: &[u8], second: &[u8]) {
+        let is_empty = first[2] == 1 || second[2] == 1;
+        self.told[if answer.look { 2 } else { is_empty as usize }] += 1;
+        if !answer.look {
+            self.rows.insert([first, second].map(|record| (record[1], record[2], record[19])));
+        }
+    }
+
+    /// Counts a refusal with 18.
+    pub fn bad_summary(&mut self, place: usize) {
+        self.bad_summaries[place.min(1)] += 1;
+    }
+
     /// Counts a refusal.
     pub fn refusal(&mut self, number: u32) {
         *self.refusals.entry(number).or_default() += 1;
@@ -121,8 +146,21 @@ impl Tally {
         let hubs = |size| *self.hubs.get(&size).unwrap_or(&0);
         println!("hubs, by segments: {}", HUBS.map(|size| format!("{size}: {}", hubs(size))).collect::<Vec<_>>().join("  "));
         for size in HUBS {
-            if reach != Reach::Nothing && hubs(size) < LEAST {
+            if matches!(reach, Reach::Hubs | Reach::Everything) && hubs(size) < LEAST {
                 wrong.push(format!("hubs of {size} segments came fewer than {LEAST} times"));
+            }
+        }
+        let ([apart, empty, look], [first, second]) = (self.told, self.bad_summaries);
+        println!(
+            "summaries: {apart} told apart, {empty} with an empty object, {look} look, {} rows of {ROWS}; 18 at 0: {first}, at 1: {second}",
+            self.rows.len()
+        );
+        if matches!(reach, Reach::Summaries | Reach::Everything) {
+            if [apart, empty, look, first, second].iter().any(|times| *times < LEAST) {
+                wrong.push(format!("summaries: something was told or refused fewer than {LEAST} times"));
+            }
+            if self.rows.len() != ROWS {
+                wrong.push(format!("summaries: {} rows instead of {ROWS}", self.rows.len()));
             }
         }
         let none = Pair::default();

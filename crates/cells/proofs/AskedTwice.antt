@@ -39,10 +39,10 @@ use Rattle.cells.proofs.Taken.{shape-as, scene-cells}
 -- ---- the flags of two objects in the caller's order
 
 module _ (A B : Elements) where
-  abbrev flagsInOrder : Bool → Vectors
+  abbrev pub flagsInOrder : Bool → Vectors
   flagsInOrder t = record { f = pack (cond t (flagsOfG B A) (flagsOfF A B)); g = pack (cond t (flagsOfF B A) (flagsOfG A B)) }
 
-  abbrev givenFlags : Vectors
+  abbrev pub givenFlags : Vectors
   givenFlags = flagsInOrder (descends (shapeOf A) (shapeOf B))
 
   -- a bit of a vector is the flag
@@ -81,12 +81,12 @@ flags-exchanged (region F) (region G) =
 
 -- ---- a scene
 
-shape-of : (s : List ℕ) (l : Layout) → shapeOf (elementsOf s l) ≡ l .shape
+pub shape-of : (s : List ℕ) (l : Layout) → shapeOf (elementsOf s l) ≡ l .shape
 shape-of s l = shape-as s l (l .shape)
 
 module _ (s : List ℕ) (sc : Scene) (is : IsScene s sc) where
   -- all flags wanted
-  all-vectors : vectorsIn s sc Wanted.All ≡ givenFlags (elementsOf s (givenFirst sc)) (elementsOf s (givenSecond sc))
+  pub all-vectors : vectorsIn s sc Wanted.All ≡ givenFlags (elementsOf s (givenFirst sc)) (elementsOf s (givenSecond sc))
   unfolding masksFor
   all-vectors = go (turned sc) (sym types)
     where
@@ -141,10 +141,10 @@ module _ (a b : List ℕ) (l m : Layout) (first : readAlone a ≡ CheckedObject.
   is-scene : IsScene (a ++ b) scene
   is-scene = beside-read a b l m first second
 
-  first-is : elementsOf (a ++ b) (givenFirst scene) ≡ elementsOf a l
+  pub first-is : elementsOf (a ++ b) (givenFirst scene) ≡ elementsOf a l
   first-is = ap (elementsOf (a ++ b)) (given .first) ∙ first-elements a b l (taken-alone a l first .read)
 
-  second-is : elementsOf (a ++ b) (givenSecond scene) ≡ elementsOf b m
+  pub second-is : elementsOf (a ++ b) (givenSecond scene) ≡ elementsOf b m
   second-is = ap (elementsOf (a ++ b)) (given .second) ∙ second-elements a b m (taken-alone b m second .read)
 
   first-object : object (a ++ b) (givenFirst scene) ≡ object a l

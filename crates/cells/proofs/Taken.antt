@@ -82,7 +82,7 @@ module _ (s : List ℕ) (l : Layout) (o : SoundObject s l) where
       reg : Regular (segments s l)
       reg = regular o region
 
-  good : (k : Shape) → l .shape ≡ k → Good (elementsAs s l k)
+  pub good : (k : Shape) → l .shape ≡ k → Good (elementsAs s l k)
   good Points e = tt
   good Line e = split o
   good Region e = sound-edges (ap C.isRegion e)
@@ -95,7 +95,7 @@ module _ (s : List ℕ) (l : Layout) (o : SoundObject s l) where
       go zero e = ap not (filled-none b (λ a m. let k = some a m in omega (arith, k, e)))
       go (suc n) e = ap not (true-is (filled b) (all (omega (arith, e)))) ∙ sym (eqb·suc-zero n)
 
-  empty-as : (k : Shape) → l .shape ≡ k → isEmpty (elementsAs s l k) ≡ E.isEmpty l
+  pub empty-as : (k : Shape) → l .shape ≡ k → isEmpty (elementsAs s l k) ≡ E.isEmpty l
   unfolding pointsOf
   empty-as Points e =
       empty-by (pointsOf s l) (λ p m. let w = map-in (pointOf s l) (elements l) m in let b = in-element l (w .0) (w .1) in omega (arith, b)) (λ h. filled-of (in-map (pointOf s l) (element-in l 0 h)))

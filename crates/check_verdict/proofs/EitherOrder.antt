@@ -97,7 +97,7 @@ module _ (a b : List ℕ) (l m : Layout) (first : readAlone a ≡ CheckedObject.
   segments-second = ap (segments (a ++ b)) (given .second) ∙ segments-stay (second-stands a b m (taken-alone b m second .read))
 
   -- 15 finds none exactly where no two segments share more than common ends
-  across-none : (touchingAcross (a ++ b) scene ≡ Nothing) ↔ OnlyEndsShared (segments a l) (segments b m)
+  pub across-none : (touchingAcross (a ++ b) scene ≡ Nothing) ↔ OnlyEndsShared (segments a l) (segments b m)
   across-none = subst₂ (λ (x y : List Segment). (touchingAcross (a ++ b) scene ≡ Nothing) ↔ OnlyEndsShared x y) segments-first segments-second exactly
     where
       exactly : (touchingAcross (a ++ b) scene ≡ Nothing) ↔ OnlyEndsAcross (a ++ b) scene
@@ -151,7 +151,7 @@ checkedNumber (CheckedScene.Taken sc) = 0
 checkedNumber (CheckedScene.Refused r) = r .number
 
 module _ (s : List ℕ) (sc : Scene) (is : IsScene s sc) where
-  checked : checkScene s ≡ settle CheckedScene.Refused (geometryVerdict s sc) (CheckedScene.Taken sc)
+  pub checked : checkScene s ≡ settle CheckedScene.Refused (geometryVerdict s sc) (CheckedScene.Taken sc)
   unfolding checkScene
   checked = check-read [] [] s sc is
 

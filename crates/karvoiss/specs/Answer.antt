@@ -1,4 +1,4 @@
--- What C gets for each answer: number 0 means taken; a refusal has its number and place, no flag, nine F, and no pattern that holds. And what the signs of the cells mean.
+-- What C gets for each answer: number 0 means taken; a refusal has its number and place, no flag, nine F, no pattern that holds, and a record of zeros. And what the signs of the cells mean.
 use Prim.Native.Nat.{ℕ}
 use mathlib.Core.Path.{_≡_}
 use mathlib.Core.List.{List, [], map}
@@ -20,6 +20,12 @@ use Rattle.overlap.specs.declared.Overlap.{Overlap}
 use Rattle.karvoiss.specs.declared.KarvoissOverlap.{KarvoissOverlap}
 use Rattle.karvoiss.specs.declared.KarvoissCells.{KarvoissCells}
 use Rattle.karvoiss.specs.declared.KarvoissRelate.{KarvoissRelate}
+use Rattle.summary.specs.declared.Answer.{Answer}
+use Rattle.summary.specs.Summary.{farValues}
+use Rattle.summary_making.specs.declared.SummaryAnswer.{SummaryAnswer}
+use Rattle.summary_making.specs.Making.{summaryValues}
+use Rattle.karvoiss.specs.declared.KarvoissSummary.{KarvoissSummary}
+use Rattle.karvoiss.specs.declared.KarvoissFar.{KarvoissFar}
 
 abbrev pub vectorsForC : VectorsAnswer → KarvoissVectors
 vectorsForC e =
@@ -45,6 +51,16 @@ relateForC e =
 
 abbrev pub overlapForC : Overlap → KarvoissOverlap
 overlapForC o = record { number = o .number; place = o .place; count = o .count }
+
+abbrev pub summaryForC : SummaryAnswer → KarvoissSummary
+summaryForC e =
+    let values = summaryValues e in
+    record { number = values .number; place = values .place; «record» = values .bytes }
+
+abbrev pub farForC : Answer → KarvoissFar
+farForC e =
+    let values = farValues e in
+    record { number = values .number; place = values .place; look = values .look; f = values .f; g = values .g }
 
 -- ---- what the signs mean
 

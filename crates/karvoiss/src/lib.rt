@@ -5,16 +5,22 @@ use flags_vectors::VectorsAnswer;
 use flags_vectors::question;
 use plane_dimensions::Dimension;
 use plane_dimensions::sign;
+use summary::Answer;
+use summary_making::SummaryAnswer;
+use summary_record::writing;
 ghost use mathlib.Core.Path.{_≡_};
-ghost use Rattle.check_verdict.specs.SharedPoints.{CheckedMeans};
+ghost use Rattle.check_verdict.specs.SharedPoints.{CheckedMeans, CheckedObjectMeans};
 ghost use Rattle.flags_vectors.specs.Vectors.{these, checkVectors, vectorsOf, NoFlagWrong};
-ghost use Rattle.scene.specs.Conditions.{checkScene};
+ghost use Rattle.scene.specs.Conditions.{checkScene, checkObject};
 ghost use Rattle.cells.specs.Explored.{cellsAnswerOf};
 ghost use lib.ListN.{length};
 ghost use Rattle.cells_pattern.specs.Related.{checkRelate, relateOf, NoPatternWrong};
 ghost use Rattle.overlap.specs.Rules.{checkList};
 ghost use Rattle.overlap.specs.Overlap.{overlapOf, bufferAfter};
-ghost use Rattle.karvoiss.specs.Answer.{vectorsForC, rowSigns, signs, cellsForC, NoSignWrong, relateForC, overlapForC};
+ghost use Rattle.summary.specs.Summary.{askedOf};
+ghost use Rattle.summary_objects.specs.Objects.{NeverBad, ToldInFull, LookExactlyIfNear};
+ghost use Rattle.summary_making.specs.Making.{summaryAnswerOf};
+ghost use Rattle.karvoiss.specs.Answer.{vectorsForC, rowSigns, signs, cellsForC, NoSignWrong, relateForC, overlapForC, summaryForC, farForC};
 
 #[repr(C)]
 pub struct KarvoissVectors {
@@ -142,5 +148,72 @@ pub extern "C" fn karvoiss_overlap(scene: &[u8], list: &mut [u8]) -> KarvoissOve
         number: answer.number as u32,
         place: answer.place,
         count: answer.count,
+    }
+}
+
+#[repr(C)]
+pub struct KarvoissSummary {
+    pub number: u32,
+    pub place: usize,
+    pub record: [u8; 20],
+}
+
+// The record of a summary by value, and twenty zeros beside a refusal.
+fn recorded(number: u32, place: usize, record: [u8; 20]) -> KarvoissSummary
+    ensures { λ r. ⌜ r ≡ record { number = number; place = place; «record» = «record» } ⌝ }
+{
+    KarvoissSummary {
+        number,
+        place,
+        record,
+    }
+}
+
+// The call on one object: for every byte string the whole answer, and what the verdict says in points.
+#[no_mangle]
+pub extern "C" fn karvoiss_summary(object: &[u8]) -> KarvoissSummary
+    ensures { λ r. ⌜ (r ≡ summaryForC (summaryAnswerOf (now (object .entry))))
+        × CheckedObjectMeans (now (object .entry)) (checkObject (now (object .entry))) ⌝ }
+{
+    match summary_making::summarize(object) {
+        SummaryAnswer::Made(m) => recorded(0, 0, writing::written(m)),
+        SummaryAnswer::Refused(r) => recorded(r.number as u32, r.place, [0u8; 20]),
+    }
+}
+
+#[repr(C)]
+pub struct KarvoissFar {
+    pub number: u32,
+    pub place: usize,
+    pub look: bool,
+    pub f: u16,
+    pub g: u16,
+}
+
+fn told(number: u32, place: usize, look: bool, f: u16, g: u16) -> KarvoissFar
+    ensures { λ r. ⌜ r ≡ record { number = number; place = place; look = look; f = f; g = g } ⌝ }
+{
+    KarvoissFar {
+        number,
+        place,
+        look,
+        f,
+        g,
+    }
+}
+
+// The far question over two summaries: for every two byte strings the whole answer; nothing made is refused; where vectors are told, every two accepted objects that have these summaries
+// form an accepted scene, and they are its vectors in full; "look" exactly where neither is empty and the boxes share a point.
+#[no_mangle]
+pub extern "C" fn karvoiss_far(first: &[u8], second: &[u8]) -> KarvoissFar
+    ensures { λ r. ⌜ (r ≡ farForC (askedOf (now (first .entry)) (now (second .entry))))
+        × NeverBad (now (first .entry)) × NeverBad (now (second .entry))
+        × ToldInFull (now (first .entry)) (now (second .entry)) (askedOf (now (first .entry)) (now (second .entry)))
+        × LookExactlyIfNear (now (first .entry)) (now (second .entry)) (askedOf (now (first .entry)) (now (second .entry))) ⌝ }
+{
+    match summary_far::far(first, second) {
+        Answer::Told(v) => told(0, 0, false, v.f, v.g),
+        Answer::Look => told(0, 0, true, 0, 0),
+        Answer::Refused(r) => told(r.number as u32, r.place, false, 0, 0),
     }
 }

@@ -1,0 +1,2 @@
+-- What the call on one object answers.
+pub mod Making
