@@ -91,7 +91,8 @@ extern "C" {
 /* The stack that each call needs at most, in bytes. No call recurses, and each
  * was measured on scenes of full size, of every pair of types in either order,
  * to need about 6,000 bytes, karvoiss_summary 25,520, since it copies its object,
- * and karvoiss_far 160; the numbers leave room for other compilers.
+ * karvoiss_far 160 and karvoiss_estimate 40; the numbers leave room for other
+ * compilers.
  */
 #define KARVOISS_VECTORS_STACK 11200
 #define KARVOISS_CELLS_STACK 11200
@@ -99,6 +100,7 @@ extern "C" {
 #define KARVOISS_OVERLAP_STACK 11200
 #define KARVOISS_SUMMARY_STACK 51200
 #define KARVOISS_FAR_STACK 400
+#define KARVOISS_ESTIMATE_STACK 256
 
 /* The topological feature vectors of F and G.
  *
@@ -364,6 +366,34 @@ typedef struct {
 
 karvoiss_far_t karvoiss_far(const uint8_t *first, size_t first_length,
                             const uint8_t *second, size_t second_length);
+
+/* The side of a point c against the segment from a to b, estimated in single
+ * floats (since 0.8.0). It takes no scene and refuses nothing.
+ *
+ * The side value is (bx - ax) (cy - ay) - (by - ay) (cx - ax): above zero where c
+ * is to the left of the ray from a through b. `estimate` is that value computed
+ * in 32-bit floats, each operation rounded once to the nearest, ties to the even
+ * one, and none fused with another: so a graphics core that does the same has
+ * the same bits. It is a whole number, and within 524,288 of the exact value.
+ *
+ *   side   1  estimate above 524,288: c is to the left
+ *         -1  estimate below -524,288: c is to the right
+ *          0  close: the estimate does not tell
+ *
+ * 1 and -1 are certain: the exact value has that sign. a and b may be in any
+ * order, and equal. An estimate of zero may be -0.0, as in a = b = (0,0),
+ * c = (0,-5).
+ *
+ * Every coordinate must lie in -1,000,000 to 1,000,000, whatever range scenes
+ * have; with one that does not, side is 0 and estimate is 0.0.
+ */
+typedef struct {
+    float estimate;
+    int32_t side;
+} karvoiss_estimate_t;
+
+karvoiss_estimate_t karvoiss_estimate(int32_t ax, int32_t ay, int32_t bx,
+                                      int32_t by, int32_t cx, int32_t cy);
 
 #ifdef __cplusplus
 }

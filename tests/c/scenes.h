@@ -22,7 +22,8 @@ struct masks {
     uint16_t f, g;
 };
 
-/* `nothing` is asked for under two zero masks; `first` and `second` are the summaries of the two objects, and `far` is what they tell. */
+/* `nothing` is asked for under two zero masks; `first` and `second` are the summaries of the two objects, and `far` is what they tell; `estimate` is asked for the numbers in the
+ * first 24 bytes. */
 struct answers {
     karvoiss_vectors_t vectors;
     karvoiss_vectors_t nothing;
@@ -31,6 +32,7 @@ struct answers {
     karvoiss_overlap_t overlap;
     karvoiss_summary_t first, second;
     karvoiss_far_t far;
+    karvoiss_estimate_t estimate;
     uint8_t list[LIST];
 };
 
@@ -120,6 +122,18 @@ static inline void own_pattern(const karvoiss_cells_t *cells, uint8_t *pattern)
         pattern[i] = i == 6 ? '*' : i == 2 && cells->cell[0][2] != 'F' ? 'T' : cells->cell[i / 3][i % 3];
 }
 
+/* The side estimate of the six numbers in the first 24 bytes, cut to a size that is in the range as often as not; 0 for those that are not there. */
+static inline karvoiss_estimate_t ask_numbers(const uint8_t *bytes, size_t length)
+{
+    int32_t n[6] = {0};
+
+    if (length > 0)
+        memcpy(n, bytes, length < sizeof n ? length : sizeof n);
+    for (int i = 0; i < 6; i++)
+        n[i] %= 1 << 20;
+    return karvoiss_estimate(n[0], n[1], n[2], n[3], n[4], n[5]);
+}
+
 /* The list is asked for into `list`, whose bytes are all 0xEE before. Two zero masks have the refusals that all flags have, and want nothing. */
 static inline void ask(const uint8_t *bytes, size_t length, uint8_t *list, size_t room, struct answers *answers)
 {
@@ -148,6 +162,7 @@ static inline void ask(const uint8_t *bytes, size_t length, uint8_t *list, size_
         fail("a pattern", "the scene's own does not hold");
     answers->overlap = karvoiss_overlap(bytes, length, list, room);
     ask_summaries(bytes, length, answers);
+    answers->estimate = ask_numbers(bytes, length);
 }
 
 static inline bool same_vectors(const karvoiss_vectors_t *a, const karvoiss_vectors_t *b)
@@ -180,11 +195,16 @@ static inline bool same_far(const karvoiss_far_t *a, const karvoiss_far_t *b)
     return a->number == b->number && a->place == b->place && a->look == b->look && a->f == b->f && a->g == b->g;
 }
 
+static inline bool same_estimate(const karvoiss_estimate_t *a, const karvoiss_estimate_t *b)
+{
+    return memcmp(&a->estimate, &b->estimate, sizeof a->estimate) == 0 && a->side == b->side;
+}
+
 static inline bool same_answers(const struct answers *a, const struct answers *b)
 {
     return same_vectors(&a->vectors, &b->vectors) && same_vectors(&a->nothing, &b->nothing) && same_cells(&a->cells, &b->cells)
         && same_relate(&a->relate, &b->relate) && same_overlap(&a->overlap, &b->overlap) && same_summary(&a->first, &b->first)
-        && same_summary(&a->second, &b->second) && same_far(&a->far, &b->far);
+        && same_summary(&a->second, &b->second) && same_far(&a->far, &b->far) && same_estimate(&a->estimate, &b->estimate);
 }
 
 #endif

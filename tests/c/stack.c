@@ -50,6 +50,11 @@ static void ask_far(void)
     answers.far = karvoiss_far(answers.first.record, 20, answers.second.record, 20);
 }
 
+static void ask_estimate(void)
+{
+    answers.estimate = karvoiss_estimate(-273771, -1000000, 905877, 999997, -1000000, 900003);
+}
+
 /* The few bytes of the asking function itself are counted in. */
 static size_t used_by(void (*asks)(void))
 {
@@ -84,6 +89,7 @@ int main(int argc, char **argv)
         {"karvoiss_summary, the first object", ask_summary, KARVOISS_SUMMARY_STACK, 0},
         {"karvoiss_summary, the second object", ask_other_summary, KARVOISS_SUMMARY_STACK, 0},
         {"karvoiss_far", ask_far, KARVOISS_FAR_STACK, 0},
+        {"karvoiss_estimate", ask_estimate, KARVOISS_ESTIMATE_STACK, 0},
     };
     const int count = sizeof calls / sizeof *calls;
     int bad = argc < 2;

@@ -3,6 +3,8 @@ use Prim.Native.Nat.{ℕ}
 use mathlib.Core.Path.{_≡_}
 use mathlib.Core.List.{List, [], map}
 use lib.ListN.{getD}
+use lib.IntN.{ℤ}
+use Rattle.plane.specs.declared.Point.{Point}
 use Rattle.plane_dimensions.specs.declared.Dimension.{Dimension}
 use Rattle.plane_dimensions.specs.Dimensions.{sign, Value}
 use Rattle.scene.specs.declared.Scene.{Scene}
@@ -26,6 +28,9 @@ use Rattle.summary_making.specs.declared.SummaryAnswer.{SummaryAnswer}
 use Rattle.summary_making.specs.Making.{summaryValues}
 use Rattle.karvoiss.specs.declared.KarvoissSummary.{KarvoissSummary}
 use Rattle.karvoiss.specs.declared.KarvoissFar.{KarvoissFar}
+use Rattle.estimate.specs.declared.Estimated.{Estimated}
+use Rattle.estimate.specs.Estimate.{sideNumber}
+use Rattle.karvoiss.specs.declared.KarvoissEstimate.{KarvoissEstimate}
 
 abbrev pub vectorsForC : VectorsAnswer → KarvoissVectors
 vectorsForC e =
@@ -61,6 +66,13 @@ abbrev pub farForC : Answer → KarvoissFar
 farForC e =
     let values = farValues e in
     record { number = values .number; place = values .place; look = values .look; f = values .f; g = values .g }
+
+-- a point by its two coordinates, as C passes it
+abbrev pub at : ℤ → ℤ → Point
+at x y = record { x = x; y = y }
+
+abbrev pub estimateForC : Estimated → KarvoissEstimate
+estimateForC e = record { estimate = e .estimate; side = sideNumber (e .side) }
 
 -- ---- what the signs mean
 

@@ -3,6 +3,7 @@ use cells::CellsAnswer;
 use cells_pattern::RelateAnswer;
 use flags_vectors::VectorsAnswer;
 use flags_vectors::question;
+use plane::Point;
 use plane_dimensions::Dimension;
 use plane_dimensions::sign;
 use summary::Answer;
@@ -20,7 +21,8 @@ ghost use Rattle.overlap.specs.Overlap.{overlapOf, bufferAfter};
 ghost use Rattle.summary.specs.Summary.{askedOf};
 ghost use Rattle.summary_objects.specs.Objects.{NeverBad, ToldInFull, LookExactlyIfNear};
 ghost use Rattle.summary_making.specs.Making.{summaryAnswerOf};
-ghost use Rattle.karvoiss.specs.Answer.{vectorsForC, rowSigns, signs, cellsForC, NoSignWrong, relateForC, overlapForC, summaryForC, farForC};
+ghost use Rattle.karvoiss.specs.Answer.{vectorsForC, rowSigns, signs, cellsForC, NoSignWrong, relateForC, overlapForC, summaryForC, farForC, at, estimateForC};
+ghost use Rattle.estimate.specs.Estimate.{estimated, EstimateHolds};
 
 #[repr(C)]
 pub struct KarvoissVectors {
@@ -215,5 +217,35 @@ pub extern "C" fn karvoiss_far(first: &[u8], second: &[u8]) -> KarvoissFar
         Answer::Told(v) => told(0, 0, false, v.f, v.g),
         Answer::Look => told(0, 0, true, 0, 0),
         Answer::Refused(r) => told(r.number as u32, r.place, false, 0, 0),
+    }
+}
+
+#[repr(C)]
+pub struct KarvoissEstimate {
+    pub estimate: f32,
+    pub side: i32,
+}
+
+// The side estimate of the point c against the segment from a to b: for every six numbers the whole answer, and what it says of the exact side value.
+#[no_mangle]
+pub extern "C" fn karvoiss_estimate(
+    ax: i32,
+    ay: i32,
+    bx: i32,
+    by: i32,
+    cx: i32,
+    cy: i32,
+) -> KarvoissEstimate
+    ensures { λ r. ⌜ (r ≡ estimateForC (estimated (at ax ay) (at bx by) (at cx cy)))
+        × EstimateHolds (at ax ay) (at bx by) (at cx cy) (r .estimate) (r .side) ⌝ }
+{
+    let a = Point { x: ax, y: ay };
+    let b = Point { x: bx, y: by };
+    let c = Point { x: cx, y: cy };
+    let answer = estimate::estimate(a, b, c);
+    let side = answer.side;
+    KarvoissEstimate {
+        estimate: answer.estimate,
+        side: estimate::side_number(side),
     }
 }

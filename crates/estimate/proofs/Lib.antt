@@ -1,0 +1,2 @@
+-- How far the estimate lies from the side value.
+pub mod Bound

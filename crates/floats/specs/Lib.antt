@@ -1,0 +1,2 @@
+-- What the value of a float is.
+pub mod Value
