@@ -57,9 +57,11 @@ pictures: $(patsubst scenes/%.wkt,docs/scenes/%.svg,$(wildcard scenes/*.wkt))
 docs/scenes/%.svg: scenes/%.wkt target/tools/scene target/bin/explore
 	@target/tools/scene make --beyond $< | target/tools/scene draw -o $@
 
-# Times beside GEOS, after bench/setup: the measured part of docs/BENCH.md, and docs/bench.svg
+# Times beside GEOS, after bench/setup: the measured part of docs/BENCH.md, and docs/bench.svg. Then the two calls for map viewers
 bench: archive
 	@bench/run
+	@bench/sides
+	@bench/window
 
 fmt:
 	@rt fmt

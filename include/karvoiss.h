@@ -11,6 +11,9 @@
  *
  * `scene` points to `length` bytes; it may be null where `length` is 0.
  *
+ * Two calls for map viewers take no scene: karvoiss_estimate and
+ * karvoiss_in_window.
+ *
  * Scene bytes
  * -----------
  * A record is one byte of kind and a body. Coordinates are signed 32-bit, low
@@ -62,14 +65,18 @@
  *  15  unequal segments of F and G share a point that is not an end of both
  *  16  a type is not 3: the first such type record (karvoiss_overlap only)
  *  17  the buffer is shorter than the count (place 0; karvoiss_overlap only)
- *  18  a bad summary (place 0: the first, 1: the second; karvoiss_far only)
+ *  18  a bad summary (place is its index, from 0; karvoiss_far and
+ *      karvoiss_in_window only)
  *  22  the pattern has not nine characters (place 0; karvoiss_relate only)
  *  23  a character is none of T, F, *, 0, 1, 2: the position of the first
  *      such, from 0 (karvoiss_relate only)
+ *  27  not a window (place 0; karvoiss_in_window only)
+ *  28  more than 64 summaries (place 0; karvoiss_in_window only)
  *
  * 1 to 7 are found record by record; then 9 to 23 in this order, each over the
  * whole scene. karvoiss_summary has 1 to 7 and 10 to 14 over one object's bytes, 7
- * being bytes after its end; karvoiss_far has 18 alone. A number that is not in the
+ * being bytes after its end; karvoiss_far has 18 alone, and
+ * karvoiss_in_window 27, 28 and 18, in this order. A number that is not in the
  * table never occurs.
  *
  * Since 0.3.0 either type may come first. Before, a scene whose first type was
@@ -91,8 +98,8 @@ extern "C" {
 /* The stack that each call needs at most, in bytes. No call recurses, and each
  * was measured on scenes of full size, of every pair of types in either order,
  * to need about 6,000 bytes, karvoiss_summary 25,520, since it copies its object,
- * karvoiss_far 160 and karvoiss_estimate 40; the numbers leave room for other
- * compilers.
+ * karvoiss_far 160, karvoiss_estimate 40 and karvoiss_in_window 216; the numbers
+ * leave room for other compilers.
  */
 #define KARVOISS_VECTORS_STACK 11200
 #define KARVOISS_CELLS_STACK 11200
@@ -101,6 +108,7 @@ extern "C" {
 #define KARVOISS_SUMMARY_STACK 51200
 #define KARVOISS_FAR_STACK 400
 #define KARVOISS_ESTIMATE_STACK 256
+#define KARVOISS_IN_WINDOW_STACK 512
 
 /* The topological feature vectors of F and G.
  *
@@ -394,6 +402,41 @@ typedef struct {
 
 karvoiss_estimate_t karvoiss_estimate(int32_t ax, int32_t ay, int32_t bx,
                                       int32_t by, int32_t cx, int32_t cy);
+
+/* Which of these are in the window (since 0.9.0): the summaries, 20 bytes each
+ * and one after the other, whose box shares a point with the window.
+ *
+ * `summaries` points to `length` bytes; it may be null where `length` is 0.
+ * Bit k of `word` is set exactly if summary k was sent, is not empty, and some
+ * point lies in its box and in the window, edges included. `hits` is the number
+ * of such summaries, and of the set bits. Each float stands for its exact value:
+ * a window that begins at the next float above 1.0 misses a box that ends at 1.
+ * 0.0 and -0.0 are one number.
+ *
+ * Refusals, in this order; word and hits are then 0:
+ *
+ *  27  a number of the window is a NaN or an infinity, or a least is above its
+ *      greatest; place 0
+ *  28  more than 64 summaries, a cut one counting: `length` is above 1,280;
+ *      place 0
+ *  18  a bad summary, and one that is cut is bad; place is the index of the first
+ */
+typedef struct {
+    float least_x;
+    float least_y;
+    float greatest_x;
+    float greatest_y;
+} karvoiss_window_t;
+
+typedef struct {
+    uint32_t number;
+    size_t place;
+    uint64_t word;
+    uint32_t hits;
+} karvoiss_in_window_t;
+
+karvoiss_in_window_t karvoiss_in_window(karvoiss_window_t window,
+                                        const uint8_t *summaries, size_t length);
 
 #ifdef __cplusplus
 }

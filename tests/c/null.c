@@ -59,9 +59,13 @@ int main(int argc, char **argv)
     is_overlap("overlap of null into null", karvoiss_overlap(NULL, 0, NULL, 0), 1, 0);
     is_overlap("overlap of two empty regions into null", karvoiss_overlap(empty_regions, sizeof empty_regions, NULL, 0), 0, 0);
     is_overlap("overlap of two regions into null", karvoiss_overlap(scene.bytes, scene.length, NULL, 0), 17, 0);
+    karvoiss_in_window_t none = karvoiss_in_window((karvoiss_window_t){0.0F, 0.0F, 1.0F, 1.0F}, NULL, 0);
+
+    if (none.number != 0 || none.place != 0 || none.word != 0 || none.hits != 0)
+        fail("no summaries", "another answer");
     if (list[0] != 0xEE)
         fail("overlap of null into a buffer", "the buffer was changed");
     summaries_of_null(&scene);
-    puts("null: 13 calls");
+    puts("null: 14 calls");
     return 0;
 }

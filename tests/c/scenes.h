@@ -23,7 +23,7 @@ struct masks {
 };
 
 /* `nothing` is asked for under two zero masks; `first` and `second` are the summaries of the two objects, and `far` is what they tell; `estimate` is asked for the numbers in the
- * first 24 bytes. */
+ * first 24 bytes, `in_window` for the bytes as summaries. */
 struct answers {
     karvoiss_vectors_t vectors;
     karvoiss_vectors_t nothing;
@@ -33,6 +33,7 @@ struct answers {
     karvoiss_summary_t first, second;
     karvoiss_far_t far;
     karvoiss_estimate_t estimate;
+    karvoiss_in_window_t in_window;
     uint8_t list[LIST];
 };
 
@@ -163,6 +164,7 @@ static inline void ask(const uint8_t *bytes, size_t length, uint8_t *list, size_
     answers->overlap = karvoiss_overlap(bytes, length, list, room);
     ask_summaries(bytes, length, answers);
     answers->estimate = ask_numbers(bytes, length);
+    answers->in_window = karvoiss_in_window((karvoiss_window_t){-1.0F, -1.0F, 1.0F, 1.0F}, bytes, length);
 }
 
 static inline bool same_vectors(const karvoiss_vectors_t *a, const karvoiss_vectors_t *b)
@@ -200,11 +202,17 @@ static inline bool same_estimate(const karvoiss_estimate_t *a, const karvoiss_es
     return memcmp(&a->estimate, &b->estimate, sizeof a->estimate) == 0 && a->side == b->side;
 }
 
+static inline bool same_in_window(const karvoiss_in_window_t *a, const karvoiss_in_window_t *b)
+{
+    return a->number == b->number && a->place == b->place && a->word == b->word && a->hits == b->hits;
+}
+
 static inline bool same_answers(const struct answers *a, const struct answers *b)
 {
     return same_vectors(&a->vectors, &b->vectors) && same_vectors(&a->nothing, &b->nothing) && same_cells(&a->cells, &b->cells)
         && same_relate(&a->relate, &b->relate) && same_overlap(&a->overlap, &b->overlap) && same_summary(&a->first, &b->first)
-        && same_summary(&a->second, &b->second) && same_far(&a->far, &b->far) && same_estimate(&a->estimate, &b->estimate);
+        && same_summary(&a->second, &b->second) && same_far(&a->far, &b->far) && same_estimate(&a->estimate, &b->estimate)
+        && same_in_window(&a->in_window, &b->in_window);
 }
 
 #endif

@@ -55,6 +55,18 @@ static void ask_estimate(void)
     answers.estimate = karvoiss_estimate(-273771, -1000000, 905877, 999997, -1000000, 900003);
 }
 
+/* 64 summaries of a square, all of them hits. */
+static void ask_window(void)
+{
+    static uint8_t summaries[64 * 20];
+    const karvoiss_window_t window = {0.0F, 0.0F, 1.0F, 1.0F};
+
+    for (int k = 0; k < 64; k++)
+        memcpy(summaries + 20 * k, (const uint8_t[20]){83, 3, 0, [11] = 1, [15] = 1, [19] = 1}, 20);
+    if (karvoiss_in_window(window, summaries, sizeof summaries).hits != 64)
+        fail("stack", "not 64 hits");
+}
+
 /* The few bytes of the asking function itself are counted in. */
 static size_t used_by(void (*asks)(void))
 {
@@ -90,6 +102,7 @@ int main(int argc, char **argv)
         {"karvoiss_summary, the second object", ask_other_summary, KARVOISS_SUMMARY_STACK, 0},
         {"karvoiss_far", ask_far, KARVOISS_FAR_STACK, 0},
         {"karvoiss_estimate", ask_estimate, KARVOISS_ESTIMATE_STACK, 0},
+        {"karvoiss_in_window", ask_window, KARVOISS_IN_WINDOW_STACK, 0},
     };
     const int count = sizeof calls / sizeof *calls;
     int bad = argc < 2;

@@ -2,7 +2,7 @@
 use Prim.Native.Nat.{ℕ, _+_, _*_, _^_, _≤_}
 use mathlib.Core.Path.{_≡_}
 use mathlib.Core.Bool.{Bool, true, false}
-use lib.Dec.{leb, lit≤}
+use lib.Dec.{T, leb, lit≤}
 use lib.IntN.{ℤ, pos, negℤ, natAbs, _-ℤ_, _*ℤ_}
 use lib.Signed.{leZ}
 use lib.Ieee.{Float, nan, inf, fin, Format, prec, up, down}
@@ -46,3 +46,7 @@ over-one z = record { over = z; under = 1; above-zero = lit≤ tt }
 -- p is at most q
 abbrev pub atMost : Fraction → Fraction → Bool
 atMost p q = leZ (p .over *ℤ pos (q .under)) (q .over *ℤ pos (p .under))
+
+-- q lies in the stretch from p to r, ends included
+abbrev pub InStretch : Fraction → Fraction → Fraction → Type 0
+InStretch p r q = T (atMost p q) × T (atMost q r)

@@ -31,6 +31,8 @@ use Rattle.karvoiss.specs.declared.KarvoissFar.{KarvoissFar}
 use Rattle.estimate.specs.declared.Estimated.{Estimated}
 use Rattle.estimate.specs.Estimate.{sideNumber}
 use Rattle.karvoiss.specs.declared.KarvoissEstimate.{KarvoissEstimate}
+use Rattle.summary_window.specs.declared.InWindow.{InWindow}
+use Rattle.karvoiss.specs.declared.KarvoissInWindow.{KarvoissInWindow}
 
 abbrev pub vectorsForC : VectorsAnswer → KarvoissVectors
 vectorsForC e =
@@ -73,6 +75,13 @@ at x y = record { x = x; y = y }
 
 abbrev pub estimateForC : Estimated → KarvoissEstimate
 estimateForC e = record { estimate = e .estimate; side = sideNumber (e .side) }
+
+-- the window's answer, field by field, and back
+abbrev pub inWindowForC : InWindow → KarvoissInWindow
+inWindowForC a = record { number = a .number; place = a .place; word = a .word; hits = a .hits }
+
+abbrev pub fromC : KarvoissInWindow → InWindow
+fromC r = record { number = r .number; place = r .place; word = r .word; hits = r .hits }
 
 -- ---- what the signs mean
 

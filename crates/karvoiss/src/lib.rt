@@ -9,6 +9,7 @@ use plane_dimensions::sign;
 use summary::Answer;
 use summary_making::SummaryAnswer;
 use summary_record::writing;
+use summary_window::Window;
 ghost use mathlib.Core.Path.{_≡_};
 ghost use Rattle.check_verdict.specs.SharedPoints.{CheckedMeans, CheckedObjectMeans};
 ghost use Rattle.flags_vectors.specs.Vectors.{these, checkVectors, vectorsOf, NoFlagWrong};
@@ -21,8 +22,9 @@ ghost use Rattle.overlap.specs.Overlap.{overlapOf, bufferAfter};
 ghost use Rattle.summary.specs.Summary.{askedOf};
 ghost use Rattle.summary_objects.specs.Objects.{NeverBad, ToldInFull, LookExactlyIfNear};
 ghost use Rattle.summary_making.specs.Making.{summaryAnswerOf};
-ghost use Rattle.karvoiss.specs.Answer.{vectorsForC, rowSigns, signs, cellsForC, NoSignWrong, relateForC, overlapForC, summaryForC, farForC, at, estimateForC};
+ghost use Rattle.karvoiss.specs.Answer.{vectorsForC, rowSigns, signs, cellsForC, NoSignWrong, relateForC, overlapForC, summaryForC, farForC, at, estimateForC, inWindowForC, fromC};
 ghost use Rattle.estimate.specs.Estimate.{estimated, EstimateHolds};
+ghost use Rattle.summary_window.specs.Window.{answerOf, BadRight, HitsRight};
 
 #[repr(C)]
 pub struct KarvoissVectors {
@@ -247,5 +249,29 @@ pub extern "C" fn karvoiss_estimate(
     KarvoissEstimate {
         estimate: answer.estimate,
         side: estimate::side_number(side),
+    }
+}
+
+#[repr(C)]
+pub struct KarvoissInWindow {
+    pub number: u32,
+    pub place: usize,
+    pub word: u64,
+    pub hits: u32,
+}
+
+// Which of these are in the window: for every window and every byte string the whole answer, the first bad summary, and the hits in points.
+#[no_mangle]
+pub extern "C" fn karvoiss_in_window(window: Window, summaries: &[u8]) -> KarvoissInWindow
+    ensures { λ r. ⌜ (r ≡ inWindowForC (answerOf window (now (summaries .entry))))
+        × BadRight (now (summaries .entry)) (fromC r)
+        × HitsRight window (now (summaries .entry)) (fromC r) ⌝ }
+{
+    let answer = summary_window::in_window(window, summaries);
+    KarvoissInWindow {
+        number: answer.number,
+        place: answer.place,
+        word: answer.word,
+        hits: answer.hits,
     }
 }
