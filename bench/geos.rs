@@ -1,5 +1,5 @@
 //! GEOS, through its C interface: a scene's objects built from the scene's bytes, tested for validity, and related under its own boundary rule, the
-//! OGC's of odd counts, which is document 02's boundary of a line if each segment is a part of its own.
+//! OGC's of odd counts, which is document 02's boundary of a line if each segment is a part of its own. And the areas of two regions, by overlay.
 
 use crate::cells::{of_signs, Matrix};
 use crate::plane::{Point, Segment};
@@ -32,8 +32,13 @@ extern "C" {
     fn GEOSisValid_r(handle: Handle, geometry: *const c_void) -> c_char;
     fn GEOSRelate_r(handle: Handle, f: *const c_void, g: *const c_void) -> *mut c_char;
     fn GEOSRelatePattern_r(handle: Handle, f: *const c_void, g: *const c_void, pattern: *const c_char) -> c_char;
+    fn GEOSIntersection_r(handle: Handle, f: *const c_void, g: *const c_void) -> Geometry;
+    fn GEOSDifference_r(handle: Handle, f: *const c_void, g: *const c_void) -> Geometry;
+    fn GEOSArea_r(handle: Handle, geometry: *const c_void, area: *mut c_double) -> c_int;
     fn GEOSFree_r(handle: Handle, what: *mut c_void);
 }
+
+type Overlay = unsafe extern "C" fn(Handle, *const c_void, *const c_void) -> Geometry;
 
 /// A path through a scene's bytes: the offset of each point's coordinates.
 type Path = Vec<usize>;
@@ -166,6 +171,28 @@ impl Pair<'_> {
             _ => None,
         }
     }
+
+    /// Twice the area of an overlay, or none if GEOS raised an exception.
+    fn overlaid(&self, overlay: Overlay, of: Geometry, with: Geometry) -> Option<f64> {
+        let part = unsafe { overlay(self.geos.0, of, with) };
+        if part.is_null() {
+            return None;
+        }
+        let mut area = 0.0;
+        let measured = unsafe { GEOSArea_r(self.geos.0, part, &mut area) };
+        unsafe { GEOSGeom_destroy_r(self.geos.0, part) };
+        (measured == 1).then_some(2.0 * area)
+    }
+
+    /// Twice the area in both.
+    pub fn shared_area(&self) -> Option<f64> {
+        self.overlaid(GEOSIntersection_r, self.f, self.g)
+    }
+
+    /// Twice the areas in both, in F only and in G only.
+    pub fn areas(&self) -> Option<[f64; 3]> {
+        Some([self.shared_area()?, self.overlaid(GEOSDifference_r, self.f, self.g)?, self.overlaid(GEOSDifference_r, self.g, self.f)?])
+    }
 }
 
 impl Drop for Pair<'_> {
@@ -194,6 +221,16 @@ pub fn pattern_from_bytes(geos: &Geos, bytes: &[u8], parts: &[Parts; 2], pattern
     let pair = Pair::build(geos, bytes, parts);
     if pair.is_valid() {
         pair.holds(pattern)
+    } else {
+        None
+    }
+}
+
+/// The whole way to one of the three areas: build, validity, intersection, area.
+pub fn shared_area_from_bytes(geos: &Geos, bytes: &[u8], parts: &[Parts; 2]) -> Option<f64> {
+    let pair = Pair::build(geos, bytes, parts);
+    if pair.is_valid() {
+        pair.shared_area()
     } else {
         None
     }

@@ -7,6 +7,7 @@ mod clock;
 mod compare;
 mod faults;
 mod geos;
+mod ground;
 mod picture;
 mod report;
 mod results;
@@ -14,6 +15,9 @@ mod rows;
 mod shapes;
 
 // the reference's modules, as they stand
+#[allow(dead_code)]
+#[path = "../tests/reference/areas.rs"]
+mod areas;
 #[allow(dead_code)]
 #[path = "../tests/reference/cells.rs"]
 mod cells;
@@ -77,6 +81,7 @@ const USAGE: &str = "usage: bench compare           GEOS's cells against ours; f
        bench ours               our times alone, for bench/against
        bench turns              times of many different scenes asked one after another, ours and GEOS's
        bench summaries          times of summaries and of what two of them tell, beside the full answer and GEOS's relate
+       bench areas              GEOS's areas of two regions against ours within its rounding, and times of both
        bench slowest            our times for scenes with a fault, and the slowest of many random scenes
        bench make DIR           writes the scenes of full size, a file each
        bench count ours FILE..  asks for the cells of each scene once, for callgrind
@@ -104,6 +109,10 @@ fn main() {
         ["ours"] => ours(),
         ["turns"] => turns(),
         ["summaries"] => summaries(),
+        ["areas"] => {
+            println!("version {}", Geos::version());
+            ground::run(&Geos::new())
+        }
         ["slowest"] => slowest(),
         ["make", directory] => make(directory),
         ["count", who, ref files @ ..] => count(who, files),

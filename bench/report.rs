@@ -1,7 +1,7 @@
 //! The measured part of docs/BENCH.md, everything after its marker, written from the runs' outputs.
 
 use crate::picture;
-use crate::results::{read, Compared, Other, Results, Summaries, Times, Turns};
+use crate::results::{read, Compared, Ground, GroundCompared, Other, Results, Summaries, Times, Turns};
 use crate::rows::{kind_name, name, EITHER_ORDER, FULL, RANDOM, SIZES};
 use crate::shapes::{Family, FAMILIES};
 use std::fmt::Write as _;
@@ -45,6 +45,7 @@ fn measured(results: &Results) -> String {
         table(results),
         in_turn(results),
         summaries(results),
+        ground(results),
         faults(results),
         comparison(results),
     ]
@@ -139,6 +140,28 @@ fn patterns(results: &Results) -> String {
         line("(w)/(a)", size, &|times| Some(times.within / times.cells));
         line("(w)/GEOS", size, &|times| times.new.right.then_some(times.within / times.new.pattern));
     }
+    text
+}
+
+fn ground(results: &Results) -> String {
+    let mut text = String::from("### Areas of two regions\n\n| our areas against | rows | median | least | most |\n|---|---|---|---|---|\n");
+    let mut line = |what: &str, ratio: fn(&Ground) -> f64| {
+        let all: Vec<(String, f64)> = results.ground.iter().map(|row| (row.name.clone(), ratio(row))).collect();
+        let ratios: Vec<f64> = all.iter().map(|(_, ratio)| *ratio).collect();
+        let (least_name, least) = all.iter().min_by(|a, b| a.1.total_cmp(&b.1)).expect("there are rows");
+        let (most_name, most) = worst(&all);
+        let _ = writeln!(text, "| {what} | {} | {:.3} | {least:.3}, {least_name} | {most:.3}, {most_name} |", all.len(), median(&ratios));
+    };
+    let new = &results.versions[0];
+    line("our overlap list", |row| row.areas / row.list);
+    line(&format!("GEOS {new}: build, validity, intersection, area"), |row| row.areas / row.whole);
+    line(&format!("GEOS {new}: intersection and area alone"), |row| row.areas / row.alone);
+    let GroundCompared { agree, none, off, most } = results.ground_compared;
+    let _ = write!(
+        text,
+        "\nBy the overlays of GEOS {new} the three areas of {agree} random pairs are ours within a billionth of the two regions' areas, the largest difference {most:.1e} of them; \
+         {none} pairs raised an exception, {off} differ.\n"
+    );
     text
 }
 

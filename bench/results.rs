@@ -1,4 +1,4 @@
-//! What the runs wrote, read back: times by row and version, counts of instructions, the comparison, scenes in turn, the faults.
+//! What the runs wrote, read back: times by row and version, counts of instructions, the comparison, scenes in turn, the faults, the areas.
 
 use std::collections::HashMap;
 use std::path::Path;
@@ -71,6 +71,24 @@ pub struct Compared {
     pub unexplained: usize,
 }
 
+/// A row of two regions: our areas, our overlap list, GEOS's intersection and area from the same bytes, and alone.
+pub struct Ground {
+    pub name: String,
+    pub areas: f64,
+    pub list: f64,
+    pub whole: f64,
+    pub alone: f64,
+}
+
+/// Pairs of regions: those to which GEOS gives our areas within its rounding, those that it raises an exception for, others; and its largest
+/// difference, as a share of the two regions' areas.
+pub struct GroundCompared {
+    pub agree: usize,
+    pub none: usize,
+    pub off: usize,
+    pub most: f64,
+}
+
 pub struct Results {
     pub processor: String,
     pub versions: [String; 2],
@@ -81,6 +99,8 @@ pub struct Results {
     pub summaries: Vec<Summaries>,
     pub faults: Vec<Other>,
     pub random: Vec<Other>,
+    pub ground: Vec<Ground>,
+    pub ground_compared: GroundCompared,
 }
 
 /// The lines of a file that begin with a word, as the words after it.
@@ -147,6 +167,19 @@ fn summaries(directory: &Path) -> Vec<Summaries> {
     all.iter().map(one).collect()
 }
 
+fn ground(directory: &Path) -> Vec<Ground> {
+    let one = |words: &Vec<String>| {
+        let [areas, list, whole, alone] = [1, 2, 3, 4].map(|column| number(&words[column]));
+        Ground { name: words[0].clone(), areas, list, whole, alone }
+    };
+    lines(directory, "areas", "areas").iter().map(one).collect()
+}
+
+fn ground_compared(directory: &Path) -> GroundCompared {
+    let words = &lines(directory, "areas", "areas-compared")[0];
+    GroundCompared { agree: number(&words[0]), none: number(&words[1]), off: number(&words[2]), most: number(&words[3]) }
+}
+
 pub fn read(directory: &Path) -> Results {
     let version = |file: &str| lines(directory, file, "version")[0][0].split('-').next().unwrap_or_default().to_string();
     Results {
@@ -159,5 +192,7 @@ pub fn read(directory: &Path) -> Results {
         summaries: summaries(directory),
         faults: others(directory, "fault"),
         random: others(directory, "any"),
+        ground: ground(directory),
+        ground_compared: ground_compared(directory),
     }
 }

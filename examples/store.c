@@ -3,6 +3,7 @@
  * register of the answers, one pair to a line. It asks the two summaries first, and
  * loads the outlines only where these say "look"; at the end it says how often that
  * was. Then it asks the other way round, and checks that both answers say the same.
+ * Last it prints the ground that two regions share, and what each has alone.
  *
  *     store          fills a store in a temporary file
  *     store FILE     fills and keeps it in FILE
@@ -172,6 +173,14 @@ static bool load(FILE *file, const struct entry *e, struct object *o)
     return fseek(file, e->start, SEEK_SET) == 0 && fread(o->bytes, 1, o->length, file) == o->length;
 }
 
+static void load_both(FILE *file, const struct entry *f, const struct entry *g, struct object *first, struct object *second)
+{
+    if (!load(file, f, first) || !load(file, g, second)) {
+        perror("store");
+        exit(1);
+    }
+}
+
 static bool fill(FILE *file)
 {
     static const int32_t wells[][2] = {{2, 2}, {4, 2}, {9, 9}};
@@ -296,16 +305,22 @@ static karvoiss_cells_t cells_apart(const struct entry *f, const struct entry *g
     return m;
 }
 
+/* Two objects as one scene, and its length. */
+static size_t make_scene(const struct object *f, const struct object *g, uint8_t *scene)
+{
+    memcpy(scene, f->bytes, f->length);
+    memcpy(scene + f->length, g->bytes, g->length);
+    return f->length + g->length;
+}
+
 /* The full answer, from the outlines. Either type may come first: the answer is in
  * the order of the two objects. */
 static struct answer ask_outlines(const struct object *f, const struct object *g)
 {
     static uint8_t scene[2 * OBJECT_BYTES];
-    size_t length = f->length + g->length;
+    size_t length = make_scene(f, g, scene);
     struct both all = all_flags(f, g);
 
-    memcpy(scene, f->bytes, f->length);
-    memcpy(scene + f->length, g->bytes, g->length);
     return (struct answer){karvoiss_vectors(scene, length, all.f, all.g), karvoiss_cells(scene, length),
                            touches(scene, length, 'T'), touches(scene, length, '1'), true};
 }
@@ -320,10 +335,7 @@ static struct answer ask(FILE *file, const struct entry *f, const struct entry *
 
     if (far.number == 0 && !far.look)
         return (struct answer){.v = {.f = far.f, .g = far.g}, .m = cells_apart(f, g)};
-    if (!load(file, f, &first) || !load(file, g, &second)) {
-        perror("store");
-        exit(1);
-    }
+    load_both(file, f, g, &first, &second);
     return ask_outlines(&first, &second);
 }
 
@@ -379,6 +391,28 @@ static bool agree(const struct entry *f, const struct entry *g, const struct ans
     return same;
 }
 
+/* ---- Shared and separate ground ------------------------------------------ */
+
+/* Of two regions that their summaries do not tell apart: those that these do share no
+ * ground. The areas come doubled, so that they are whole numbers. */
+static void print_ground(FILE *file, const struct entry *f, const struct entry *g)
+{
+    static struct object first, second;
+    static uint8_t scene[2 * OBJECT_BYTES];
+    bool regions = f->summary[1] == REGION && g->summary[1] == REGION;
+
+    if (!regions || !karvoiss_far(f->summary, SUMMARY, g->summary, SUMMARY).look)
+        return;
+    load_both(file, f, g, &first, &second);
+
+    size_t length = make_scene(&first, &second, scene);
+    karvoiss_areas_t a = karvoiss_areas(scene, length);
+
+    if (a.number == 0)
+        printf("ground in both %.1f, in %s only %.1f, in %s only %.1f\n", (double)a.both / 2, f->name,
+               (double)a.f_only / 2, g->name, (double)a.g_only / 2);
+}
+
 int main(int argc, char **argv)
 {
     static struct entry entries[OBJECTS];
@@ -404,8 +438,11 @@ int main(int argc, char **argv)
             looked += one.looked;
             agreed += agree(f, g, &one, &other);
         }
-    fclose(file);
     printf("outlines were loaded for %d pairs of %d\n", looked, pairs);
     printf("the other way round, the same is said of %d pairs of %d\n", agreed, pairs);
+    for (int i = 0; i < count; i++)
+        for (int k = i + 1; k < count; k++)
+            print_ground(file, &entries[i], &entries[k]);
+    fclose(file);
     return agreed == pairs ? 0 : 1;
 }

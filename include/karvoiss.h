@@ -63,7 +63,8 @@
  *  13  a region's end belongs to an odd number of its segments
  *  14  wrong ia
  *  15  unequal segments of F and G share a point that is not an end of both
- *  16  a type is not 3: the first such type record (karvoiss_overlap only)
+ *  16  a type is not 3: the first such type record (karvoiss_overlap and
+ *      karvoiss_areas only)
  *  17  the buffer is shorter than the count (place 0; karvoiss_overlap only)
  *  18  a bad summary (place is its index, from 0; karvoiss_far and
  *      karvoiss_in_window only)
@@ -105,6 +106,7 @@ extern "C" {
 #define KARVOISS_CELLS_STACK 11200
 #define KARVOISS_RELATE_STACK 11200
 #define KARVOISS_OVERLAP_STACK 11200
+#define KARVOISS_AREAS_STACK 11200
 #define KARVOISS_SUMMARY_STACK 51200
 #define KARVOISS_FAR_STACK 400
 #define KARVOISS_ESTIMATE_STACK 256
@@ -274,6 +276,24 @@ typedef struct {
 
 karvoiss_overlap_t karvoiss_overlap(const uint8_t *scene, size_t length,
                                     uint8_t *list, size_t room);
+
+/* Shared and separate ground of two regions, in whole numbers: twice the area in
+ * both, in F only, and in G only. They are exact. `both` and `f_only` sum to
+ * twice F's own area, `both` and `g_only` to twice G's. With F and G exchanged,
+ * `f_only` is what `g_only` was.
+ *
+ * Refused, with 16 last (at the first type record that is not 3): all three are
+ * 0. Since 0.10.0.
+ */
+typedef struct {
+    uint32_t number;
+    size_t place;
+    int64_t both;
+    int64_t f_only;
+    int64_t g_only;
+} karvoiss_areas_t;
+
+karvoiss_areas_t karvoiss_areas(const uint8_t *scene, size_t length);
 
 /* The summary of one object, to be kept beside it: most pairs lie far apart, and two
  * summaries tell that without the outlines (karvoiss_far). Since 0.7.0.

@@ -17,6 +17,7 @@ struct reference {
     karvoiss_cells_t cells;
     karvoiss_relate_t relate;
     karvoiss_overlap_t overlap;
+    karvoiss_areas_t areas;
     karvoiss_summary_t summary;
     karvoiss_far_t far;
 };
@@ -91,6 +92,7 @@ int LLVMFuzzerTestOneInput(const uint8_t *data, size_t size)
     karvoiss_cells_t cells = karvoiss_cells(scene, length);
     karvoiss_relate_t relate = karvoiss_relate(scene, length, pattern, pattern_length);
     karvoiss_overlap_t overlap = karvoiss_overlap(scene, length, list, room);
+    karvoiss_areas_t areas = karvoiss_areas(scene, length);
     karvoiss_summary_t summary = karvoiss_summary(scene, length);
     karvoiss_far_t far = karvoiss_far(scene, split, scene + split, length - split);
 
@@ -100,6 +102,7 @@ int LLVMFuzzerTestOneInput(const uint8_t *data, size_t size)
     require(same_cells(&reference.cells, &cells), "cells");
     require(same_relate(&reference.relate, &relate), "pattern");
     require(same_overlap(&reference.overlap, &overlap), "overlap list");
+    require(same_areas(&reference.areas, &areas), "areas");
     require(same_summary(&reference.summary, &summary), "summary");
     require(same_far(&reference.far, &far), "what two summaries tell");
     require(memcmp(expected, list - GUARD, GUARD + room) == 0, "the lent buffer, its list or what is around it");

@@ -45,8 +45,10 @@ int main(int argc, char **argv)
     uint8_t list[1] = {0xEE};
     karvoiss_vectors_t v = karvoiss_vectors(NULL, 0, 0, 0);
     karvoiss_cells_t c = karvoiss_cells(NULL, 0);
+    karvoiss_areas_t a = karvoiss_areas(NULL, 0);
     static const karvoiss_vectors_t no_vectors = {.number = 1};
     static const karvoiss_cells_t no_cells = {.number = 1, .cell = {{'F', 'F', 'F'}, {'F', 'F', 'F'}, {'F', 'F', 'F'}}};
+    static const karvoiss_areas_t no_areas = {.number = 1};
 
     if (!same_vectors(&v, &no_vectors))
         fail("vectors of null", "another answer");
@@ -59,6 +61,8 @@ int main(int argc, char **argv)
     is_overlap("overlap of null into null", karvoiss_overlap(NULL, 0, NULL, 0), 1, 0);
     is_overlap("overlap of two empty regions into null", karvoiss_overlap(empty_regions, sizeof empty_regions, NULL, 0), 0, 0);
     is_overlap("overlap of two regions into null", karvoiss_overlap(scene.bytes, scene.length, NULL, 0), 17, 0);
+    if (!same_areas(&a, &no_areas))
+        fail("areas of null", "another answer");
     karvoiss_in_window_t none = karvoiss_in_window((karvoiss_window_t){0.0F, 0.0F, 1.0F, 1.0F}, NULL, 0);
 
     if (none.number != 0 || none.place != 0 || none.word != 0 || none.hits != 0)
@@ -66,6 +70,6 @@ int main(int argc, char **argv)
     if (list[0] != 0xEE)
         fail("overlap of null into a buffer", "the buffer was changed");
     summaries_of_null(&scene);
-    puts("null: 14 calls");
+    puts("null: 15 calls");
     return 0;
 }

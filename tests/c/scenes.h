@@ -30,6 +30,7 @@ struct answers {
     karvoiss_cells_t cells;
     karvoiss_relate_t relate;
     karvoiss_overlap_t overlap;
+    karvoiss_areas_t areas;
     karvoiss_summary_t first, second;
     karvoiss_far_t far;
     karvoiss_estimate_t estimate;
@@ -162,6 +163,7 @@ static inline void ask(const uint8_t *bytes, size_t length, uint8_t *list, size_
     if (answers->relate.holds != (answers->cells.number == 0))
         fail("a pattern", "the scene's own does not hold");
     answers->overlap = karvoiss_overlap(bytes, length, list, room);
+    answers->areas = karvoiss_areas(bytes, length);
     ask_summaries(bytes, length, answers);
     answers->estimate = ask_numbers(bytes, length);
     answers->in_window = karvoiss_in_window((karvoiss_window_t){-1.0F, -1.0F, 1.0F, 1.0F}, bytes, length);
@@ -185,6 +187,11 @@ static inline bool same_relate(const karvoiss_relate_t *a, const karvoiss_relate
 static inline bool same_overlap(const karvoiss_overlap_t *a, const karvoiss_overlap_t *b)
 {
     return a->number == b->number && a->place == b->place && a->count == b->count;
+}
+
+static inline bool same_areas(const karvoiss_areas_t *a, const karvoiss_areas_t *b)
+{
+    return a->number == b->number && a->place == b->place && a->both == b->both && a->f_only == b->f_only && a->g_only == b->g_only;
 }
 
 static inline bool same_summary(const karvoiss_summary_t *a, const karvoiss_summary_t *b)
@@ -212,7 +219,7 @@ static inline bool same_answers(const struct answers *a, const struct answers *b
     return same_vectors(&a->vectors, &b->vectors) && same_vectors(&a->nothing, &b->nothing) && same_cells(&a->cells, &b->cells)
         && same_relate(&a->relate, &b->relate) && same_overlap(&a->overlap, &b->overlap) && same_summary(&a->first, &b->first)
         && same_summary(&a->second, &b->second) && same_far(&a->far, &b->far) && same_estimate(&a->estimate, &b->estimate)
-        && same_in_window(&a->in_window, &b->in_window);
+        && same_in_window(&a->in_window, &b->in_window) && same_areas(&a->areas, &b->areas);
 }
 
 #endif

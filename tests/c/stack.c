@@ -35,6 +35,11 @@ static void ask_overlap(void)
     answers.overlap = karvoiss_overlap(scene.bytes, scene.length, list, LIST);
 }
 
+static void ask_areas(void)
+{
+    answers.areas = karvoiss_areas(scene.bytes, scene.length);
+}
+
 static void ask_summary(void)
 {
     answers.first = karvoiss_summary(scene.bytes, second);
@@ -98,6 +103,7 @@ int main(int argc, char **argv)
         {"karvoiss_cells", ask_cells, KARVOISS_CELLS_STACK, 0},
         {"karvoiss_relate", ask_relate, KARVOISS_RELATE_STACK, 0},
         {"karvoiss_overlap", ask_overlap, KARVOISS_OVERLAP_STACK, 0},
+        {"karvoiss_areas", ask_areas, KARVOISS_AREAS_STACK, 0},
         {"karvoiss_summary, the first object", ask_summary, KARVOISS_SUMMARY_STACK, 0},
         {"karvoiss_summary, the second object", ask_other_summary, KARVOISS_SUMMARY_STACK, 0},
         {"karvoiss_far", ask_far, KARVOISS_FAR_STACK, 0},

@@ -3,7 +3,7 @@
 
 use crate::mistakes::RIGHT;
 use crate::picture;
-use crate::plane::{Point, Segment};
+use crate::plane::{Point, Segment, LIMIT};
 use crate::scene::{half_record, object_bytes, point_record, scene_bytes, Half, Object, LINE, POINTS, REGION};
 use crate::summary::{Summary, SUMMARY};
 
@@ -391,6 +391,47 @@ pub fn listed() -> Vec<Listed> {
         ask("16: a square, no line", square(0, 4), empty(LINE), 9, "no 16 155"),
         ask("16: no line, a square", empty(LINE), square(0, 4), 9, "no 16 0"),
         ask("10 before 16", square(0, 4), twice(1, 1), 9, "no 10 166"),
+    ]
+}
+
+/// A question for the areas, and what it must answer.
+pub struct Measured {
+    pub name: &'static str,
+    pub bytes: Vec<u8>,
+    pub line: String,
+}
+
+/// Areas that a hand can count, and 16 at the first type record that is not 3.
+pub fn measured() -> Vec<Measured> {
+    let ask = |name, f: &Object, g: &Object, line: &str| Measured { name, bytes: scene_bytes(f, g), line: line.to_string() };
+    let of_twelve = |name, letter: &str, line: &str| {
+        let known = twelve().into_iter().find(|known| known.name == letter).expect("it is one of the twelve");
+        Measured { name, bytes: known.bytes, line: line.to_string() }
+    };
+    let empty = |kind| as_given(kind, &[]);
+    let holed = region(&[&rectangle(0, 0, 6, 6), &rectangle(2, 2, 4, 4)]);
+    let all = square(-LIMIT, LIMIT);
+    // split where they cross
+    let lower = region(&[&[(0, 0), (4, 0), (4, 2), (4, 4), (2, 4), (0, 4), (0, 0)]]);
+    let upper = region(&[&[(2, 2), (4, 2), (6, 2), (6, 6), (2, 6), (2, 4), (2, 2)]]);
+    vec![
+        of_twelve("areas of c", "c", "8 24 0"),
+        of_twelve("areas of d", "d", "0 8 8"),
+        of_twelve("areas of e", "e", "0 8 8"),
+        of_twelve("areas of f", "f", "32 0 0"),
+        of_twelve("areas of a", "a", "no 16 0"),
+        of_twelve("areas of h", "h", "no 16 0"),
+        of_twelve("areas of l", "l", "no 4 2"),
+        ask("two squares that overlap", &lower, &upper, "8 24 24"),
+        ask("a hole and its filling", &holed, &square(2, 4), "0 64 8"),
+        ask("a square with a hole, and the whole square", &holed, &square(0, 6), "64 0 8"),
+        ask("two triangles with one side", &region(&[&[(0, 0), (4, 0), (0, 4), (0, 0)]]), &region(&[&[(4, 0), (4, 4), (0, 4), (4, 0)]]), "0 16 16"),
+        ask("the whole range twice", &all, &all, &format!("{} 0 0", 8 * LIMIT * LIMIT)),
+        ask("the whole range and nothing", &all, &empty(REGION), &format!("0 {} 0", 8 * LIMIT * LIMIT)),
+        ask("two empty regions", &empty(REGION), &empty(REGION), "0 0 0"),
+        ask("16: a square, then points", &square(0, 4), &points(&[(1, 1)]), "no 16 155"),
+        ask("16: a line, then a square", &empty(LINE), &square(0, 4), "no 16 0"),
+        ask("10 before 16, of areas", &square(0, 4), &twice(1, 1), "no 10 166"),
     ]
 }
 

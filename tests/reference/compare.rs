@@ -1,17 +1,18 @@
-//! The comparison: every scene is put to the engine under test and to the reference, as vectors under several masks, as cells, against patterns and as an
-//! overlap list, and its objects for their summaries and for what these tell; every bit of the answers and of the memory around them must agree.
+//! The comparison: every scene is put to the engine under test and to the reference, as vectors under several masks, as cells, against patterns, as an
+//! overlap list and as areas, and its objects for their summaries and for what these tell; every bit of the answers and of the memory around them must agree.
 
+use crate::areas::areas;
 use crate::byhand;
 use crate::damage::{damaged, noise, spoilt_summary};
 use crate::drawing::scene_text;
 use crate::exchange::{self, Answers};
-use crate::judge::{judge, Judgement};
+use crate::judge::{judge, AreasAnswer, Judgement};
 use crate::library;
 use crate::maker::{full, side_by_side, small, some_pair, with_hub};
 use crate::mistakes::{Rules, RIGHT};
 use crate::pieces::Extent;
 use crate::random::Random;
-use crate::scene::{object_bytes, scene_bytes};
+use crate::scene::{object_bytes, read_scene, scene_bytes, REGION};
 use crate::summary::{are_far, far, summary, FarAnswer, Summary};
 use crate::tally::Tally;
 use std::fmt::Debug;
@@ -70,6 +71,13 @@ impl Case {
         object_bytes(&side_by_side(&mut Random::new(seed)).0)
     }
 
+    /// The scene of two regions that a seed names, a few of full size.
+    pub fn regions_of_seed(seed: u64) -> Case {
+        let mut random = Random::new(seed);
+        let (f, g) = if random.once_in(400) { full(&mut random, (REGION, REGION)) } else { small(&mut random, (REGION, REGION)) };
+        Case { from: format!("seed {seed}, of two regions"), bytes: scene_bytes(&f, &g), must_be_taken: true, seed, every_pattern: false }
+    }
+
     fn by_hand(name: &str, bytes: Vec<u8>) -> Case {
         Case { from: format!("the scene made by hand: {name}"), bytes, must_be_taken: false, seed: 0, every_pattern: true }
     }
@@ -77,6 +85,7 @@ impl Case {
     /// All scenes made by hand.
     pub fn all_by_hand() -> Vec<Case> {
         let mut cases: Vec<Case> = byhand::known().into_iter().map(|known| Case::by_hand(known.name, known.bytes)).collect();
+        cases.extend(byhand::measured().into_iter().map(|measured| Case::by_hand(measured.name, measured.bytes)));
         cases.extend(byhand::drawn_matrices().iter().map(|drawn| Case::by_hand(drawn.matrix, drawn.bytes())));
         cases
     }
@@ -106,6 +115,22 @@ pub fn ask(case: &Case, rules: &Rules, tally: &mut Tally) -> Result<(), String> 
         }
         tally.both_ways += 1;
     }
+    Ok(())
+}
+
+/// Asks for the areas alone, of two regions and of the same exchanged, so that there is time for many more scenes.
+pub fn ask_areas(case: &Case, _: &Rules, tally: &mut Tally) -> Result<(), String> {
+    let (f, g) = read_scene(&case.bytes).map_err(|refusal| failure(case, &case.bytes, &format!("the maker's scene cannot be read: {refusal:?}")))?;
+    let [both, f_only, g_only] = areas(&f, &g);
+    let exchanged = exchange::bytes(&case.bytes, g.start);
+    for (bytes, areas) in [(&case.bytes, [both, f_only, g_only]), (&exchanged, [both, g_only, f_only])] {
+        let expected = AreasAnswer { number: 0, place: 0, areas };
+        agree("areas", &expected, &library::areas(bytes)).map_err(|what| failure(case, bytes, &what))?;
+        tally.scenes += 1;
+        tally.questions += 1;
+        tally.areas(areas);
+    }
+    tally.both_ways += 1;
     Ok(())
 }
 
@@ -152,8 +177,15 @@ fn ask_one(bytes: &[u8], judgement: &Judgement, random: &mut Random, tally: &mut
             tally.refusal(expected.number);
         }
     }
+
+    let areas = library::areas(scene.inside());
+    agree("areas", &judgement.areas(), &areas)?;
+    scene.is_unchanged("the scene, after the areas")?;
+    tally.questions += 1;
+
     let (vectors, (number, list)) = (with_all_flags.unwrap_or_default(), with_room.unwrap_or_default());
-    Ok(Answers { numbers: [vectors.number, cells.number, number], vectors: (vectors.f, vectors.g), cells: cells.cell, list })
+    let numbers = [vectors.number, cells.number, number, areas.number];
+    Ok(Answers { numbers, vectors: (vectors.f, vectors.g), cells: cells.cell, list, areas: areas.areas })
 }
 
 fn ask_patterns(scene: &Lent, judgement: &Judgement, patterns: Vec<Vec<u8>>, tally: &mut Tally) -> Result<(), String> {

@@ -1,23 +1,27 @@
 //! A scene with its two objects exchanged, and what its answers must be, from those to the scene as it was: the same number, the vectors exchanged, the
-//! cells turned about the diagonal, the same overlap list. Two objects of one type share flags: those change places, and what is said of both stays.
+//! cells turned about the diagonal, the same overlap list, the areas in one region only exchanged. Two objects of one type share flags: those change places, and
+//! what is said of both stays.
 
+use crate::areas::Areas;
 use crate::cells::{turned, Matrix};
 use crate::scene::{LINE, POINTS};
 
 /// The answers to all questions about one byte string, all flags wanted and room for the list. Without the places, which are those of the bytes as given.
 #[derive(Clone, PartialEq, Eq, Debug)]
 pub struct Answers {
-    pub numbers: [u32; 3],
+    pub numbers: [u32; 4],
     pub vectors: (u16, u16),
     pub cells: Matrix,
     pub list: Vec<u8>,
+    pub areas: Areas,
 }
 
 impl Answers {
     /// The answers to the exchanged scene, the types of this one being f and g.
     pub fn exchanged(&self, f: u8, g: u8) -> Answers {
         let vectors = if f == g { shared_exchanged(f, self.vectors) } else { (self.vectors.1, self.vectors.0) };
-        Answers { vectors, cells: turned(&self.cells), ..self.clone() }
+        let [both, f_only, g_only] = self.areas;
+        Answers { vectors, cells: turned(&self.cells), areas: [both, g_only, f_only], ..self.clone() }
     }
 }
 

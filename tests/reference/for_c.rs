@@ -4,6 +4,7 @@
 // the scenes that the comparison makes, and its mistakes, have no use here
 #![allow(dead_code)]
 
+mod areas;
 mod cells;
 mod check;
 mod flags;
@@ -49,6 +50,13 @@ pub struct Overlap {
 }
 
 #[repr(C)]
+pub struct Areas {
+    number: u32,
+    place: usize,
+    areas: [i64; 3],
+}
+
+#[repr(C)]
 pub struct Summary {
     number: u32,
     place: usize,
@@ -74,6 +82,7 @@ pub struct Answers {
     cells: Cells,
     relate: Relate,
     overlap: Overlap,
+    areas: Areas,
     summary: Summary,
     far: Far,
 }
@@ -82,7 +91,7 @@ fn vectors(answer: VectorsAnswer) -> Vectors {
     Vectors { number: answer.number, place: answer.place, f: answer.f, g: answer.g }
 }
 
-/// The masks of all flags, and under them the vectors; the vectors under the wanted masks and under two zeros, the cells, the pattern, and the overlap list into `list`.
+/// The masks of all flags, and under them the vectors; the vectors under the wanted masks and under two zeros, the cells, the pattern, the overlap list into `list`, and the areas.
 /// The summary of the same bytes as one object; and what the first `split` of them and the rest tell as two summaries.
 ///
 /// # Safety
@@ -102,7 +111,7 @@ pub unsafe extern "C" fn reference_answers(
     let (scene, list) = unsafe { (std::slice::from_raw_parts(scene, length), std::slice::from_raw_parts_mut(list, room)) };
     let pattern = unsafe { std::slice::from_raw_parts(pattern, pattern_length) };
     let judgement = judge(scene, &RIGHT);
-    let (cells, overlap) = (judgement.cells(), judgement.overlap(list));
+    let (cells, overlap, areas) = (judgement.cells(), judgement.overlap(list), judgement.areas());
     let relate = judgement.relate(pattern);
     let (all_f, all_g) = judgement.all_flags();
     let summary = summary::summary(scene, &RIGHT);
@@ -116,6 +125,7 @@ pub unsafe extern "C" fn reference_answers(
         cells: Cells { number: cells.number, place: cells.place, cell: cells.cell.map(|row| row.map(Extent::sign)) },
         relate: Relate { number: relate.number, place: relate.place, holds: relate.holds },
         overlap: Overlap { number: overlap.number, place: overlap.place, count: overlap.count },
+        areas: Areas { number: areas.number, place: areas.place, areas: areas.areas },
         summary: Summary { number: summary.number, place: summary.place, record: summary.record },
         far: Far { number: far.number, place: far.place, look: far.look, f: far.f, g: far.g },
     }

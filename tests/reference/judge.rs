@@ -1,6 +1,7 @@
-//! The reference's answer to each question about one byte string, in the caller's order: the refusals as document 01 orders them, then vectors, cells
-//! or list.
+//! The reference's answer to each question about one byte string, in the caller's order: the refusals as document 01 orders them, then vectors, cells,
+//! list or areas.
 
+use crate::areas::{areas, Areas};
 use crate::cells::{matrix, overlap, signs, Matrix};
 use crate::check;
 use crate::flags::{all_flags, vectors};
@@ -28,6 +29,14 @@ pub struct OverlapAnswer {
     pub number: u32,
     pub place: usize,
     pub count: usize,
+}
+
+/// Doubled areas: in both, in F only, in G only.
+#[derive(Clone, Copy, PartialEq, Eq, Debug, Default)]
+pub struct AreasAnswer {
+    pub number: u32,
+    pub place: usize,
+    pub areas: Areas,
 }
 
 /// What two zero masks want: nothing, under document 02's Paper 5. The others are mistakes.
@@ -87,6 +96,7 @@ pub struct Judgement {
     pub no_region: Option<usize>,
     pub segments: Vec<Segment>,
     pub list: Vec<u8>,
+    pub areas: Areas,
     /// The segments of F and of G, those of both taken twice.
     pub apart: usize,
     /// The count given back, the room it needs and whether it is written; they differ from what `list` says in a mistaken reference only.
@@ -109,6 +119,7 @@ pub fn judge(bytes: &[u8], rules: &Rules) -> Judgement {
                     let list = overlap(&f, &g);
                     judgement.segments = list.iter().map(|entry| entry.0).collect();
                     judgement.list = list.iter().map(|(_, m, n)| 3 * m + n).collect();
+                    judgement.areas = areas(&f, &g);
                     judgement.apart = f.segments().len() + g.segments().len();
                 }
                 judgement.count = judgement.list.len();
@@ -201,6 +212,14 @@ impl Judgement {
             lent[..self.list.len()].copy_from_slice(&self.list);
         }
         OverlapAnswer { number: 0, place: 0, count: self.count }
+    }
+
+    pub fn areas(&self) -> AreasAnswer {
+        let own_refusal = self.no_region.map(|place| Refusal { number: 16, place });
+        match self.early.or(self.late).or(own_refusal) {
+            Some(refusal) => AreasAnswer { number: refusal.number, place: refusal.place, ..AreasAnswer::default() },
+            None => AreasAnswer { number: 0, place: 0, areas: self.areas },
+        }
     }
 
     /// The line that `explore` writes, without its line feed: document 01's, with the four signs of document 02's Paper 8.

@@ -9,7 +9,7 @@ pub use stand_in::*;
 #[cfg(library)]
 mod linked {
     use crate::cells::of_signs;
-    use crate::judge::{CellsAnswer, OverlapAnswer, RelateAnswer, VectorsAnswer};
+    use crate::judge::{AreasAnswer, CellsAnswer, OverlapAnswer, RelateAnswer, VectorsAnswer};
     use crate::summary::{FarAnswer, SummaryAnswer, LENGTH};
 
     pub const NAME: &str = "the linked archive";
@@ -45,6 +45,15 @@ mod linked {
     }
 
     #[repr(C)]
+    struct Areas {
+        number: u32,
+        place: usize,
+        both: i64,
+        f_only: i64,
+        g_only: i64,
+    }
+
+    #[repr(C)]
     struct Summary {
         number: u32,
         place: usize,
@@ -66,6 +75,7 @@ mod linked {
         fn karvoiss_cells(scene: *const u8, length: usize) -> Cells;
         fn karvoiss_relate(scene: *const u8, length: usize, pattern: *const u8, pattern_length: usize) -> Relate;
         fn karvoiss_overlap(scene: *const u8, length: usize, list: *mut u8, room: usize) -> Overlap;
+        fn karvoiss_areas(scene: *const u8, length: usize) -> Areas;
         fn karvoiss_summary(object: *const u8, length: usize) -> Summary;
         fn karvoiss_far(first: *const u8, first_length: usize, second: *const u8, second_length: usize) -> Far;
     }
@@ -119,11 +129,16 @@ mod linked {
         let answer = unsafe { karvoiss_overlap(start(scene), scene.len(), list.as_mut_ptr(), list.len()) };
         OverlapAnswer { number: answer.number, place: answer.place, count: answer.count }
     }
+
+    pub fn areas(scene: &[u8]) -> AreasAnswer {
+        let answer = unsafe { karvoiss_areas(start(scene), scene.len()) };
+        AreasAnswer { number: answer.number, place: answer.place, areas: [answer.both, answer.f_only, answer.g_only] }
+    }
 }
 
 #[cfg(not(library))]
 mod stand_in {
-    use crate::judge::{judge, CellsAnswer, OverlapAnswer, RelateAnswer, VectorsAnswer};
+    use crate::judge::{judge, AreasAnswer, CellsAnswer, OverlapAnswer, RelateAnswer, VectorsAnswer};
     use crate::mistakes::RIGHT;
     use crate::summary::{self, FarAnswer, SummaryAnswer};
 
@@ -143,6 +158,10 @@ mod stand_in {
 
     pub fn overlap(scene: &[u8], list: &mut [u8]) -> OverlapAnswer {
         judge(scene, &RIGHT).overlap(list)
+    }
+
+    pub fn areas(scene: &[u8]) -> AreasAnswer {
+        judge(scene, &RIGHT).areas()
     }
 
     pub fn summary(object: &[u8]) -> SummaryAnswer {

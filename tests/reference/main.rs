@@ -4,6 +4,7 @@
 //! Alone:            rustc -O --edition 2021 -o target/reference/reference tests/reference/main.rs
 //! With the archive: the same with --cfg library -L native=DIR -l static=karvoiss, DIR being where libkarvoiss.a is.
 
+mod areas;
 mod byhand;
 mod cells;
 mod check;
@@ -26,7 +27,7 @@ mod scene;
 mod summary;
 mod tally;
 
-use compare::{ask, ask_by_hand, Case};
+use compare::{ask, ask_areas, ask_by_hand, Case};
 use judge::{judge, VectorsAnswer};
 use mistakes::{Rules, MISTAKES, RIGHT};
 use plane::Point;
@@ -39,6 +40,7 @@ use tally::{Reach, Tally};
 
 const USAGE: &str = "usage: reference answer < scene    the line that explore writes
        reference list < scene      the overlap list, or its refusal
+       reference areas < scene     the areas, or their refusal
        reference summary < object  the 20 bytes of its summary, or its refusal
        reference vectors < text    the lines that the program test_vectors writes
        reference draw < scene      the scene as bytes, words and a drawing
@@ -48,6 +50,7 @@ const USAGE: &str = "usage: reference answer < scene    the line that explore wr
        reference compare             the fixed run: all must agree, and it must reach enough
            --scenes N, --seed N      another number of scenes, another seed
            --hubs                    scenes alone in which a line has a hub, of three to seven segments
+           --regions                 scenes of two regions, and of these the areas alone
            --beside                  objects side by side alone, for what their summaries tell
            --seconds N               fresh seeds for so long instead
            --mistake NAME            with a mistake in the reference: must disagree
@@ -69,6 +72,10 @@ fn main() {
         }
         ["list"] => {
             println!("{}", list_line(&input(), scene::MOST));
+            true
+        }
+        ["areas"] => {
+            println!("{}", areas_line(&input()));
             true
         }
         ["summary"] => {
@@ -113,6 +120,15 @@ fn list_line(bytes: &[u8], room: usize) -> String {
         return format!("no {} {}", answer.number, answer.place);
     }
     list[..answer.count].iter().map(u8::to_string).collect::<Vec<_>>().join(" ")
+}
+
+/// The areas in both, in F only and in G only, or `no`, number and place.
+fn areas_line(bytes: &[u8]) -> String {
+    let answer = judge(bytes, &RIGHT).areas();
+    match (answer.number, answer.areas) {
+        (0, [both, f_only, g_only]) => format!("{both} {f_only} {g_only}"),
+        (number, _) => format!("no {number} {}", answer.place),
+    }
 }
 
 /// The bytes in hexadecimal, or `no`, number and place.
@@ -177,6 +193,9 @@ fn self_test() -> bool {
     for listed in byhand::listed() {
         check(listed.name, listed.line, list_line(&listed.bytes, listed.room));
     }
+    for measured in byhand::measured() {
+        check(measured.name, &measured.line, areas_line(&measured.bytes));
+    }
     for known in byhand::summarised() {
         check(known.name, known.line, summary_line(&known.bytes));
     }
@@ -219,6 +238,7 @@ struct Run {
     rules: Rules,
     by_hand: bool,
     made: fn(u64) -> Case,
+    asks: fn(&Case, &Rules, &mut Tally) -> Result<(), String>,
     seed: u64,
     scenes: u64,
     until: Option<Instant>,
@@ -240,7 +260,7 @@ impl Run {
             if self.trace {
                 eprintln!("{}", case.from);
             }
-            ask(&case, &self.rules, tally)?;
+            (self.asks)(&case, &self.rules, tally)?;
         }
         Ok(())
     }
@@ -248,7 +268,7 @@ impl Run {
 
 fn compare(arguments: &[&str]) -> bool {
     let start = Instant::now();
-    let mut run = Run { rules: RIGHT, by_hand: true, made: Case::of_seed, seed: SEED, scenes: SCENES, until: None, trace: false };
+    let mut run = Run { rules: RIGHT, by_hand: true, made: Case::of_seed, asks: ask, seed: SEED, scenes: SCENES, until: None, trace: false };
     let mut reach = Reach::Everything;
     let mut seed = None;
     let mut arguments = arguments.iter();
@@ -259,6 +279,9 @@ fn compare(arguments: &[&str]) -> bool {
             "--seed" => seed = Some(number(value())),
             "--hubs" => {
                 (run.by_hand, run.made, reach) = (false, Case::hub_of_seed, Reach::Hubs);
+            }
+            "--regions" => {
+                (run.by_hand, run.made, run.asks, reach) = (false, Case::regions_of_seed, ask_areas, Reach::Regions);
             }
             "--beside" => {
                 (run.by_hand, run.made, reach) = (false, Case::side_by_side_of_seed, Reach::Summaries);
@@ -298,8 +321,16 @@ fn all_mistakes() -> bool {
     let mut caught_all = true;
     for mistake in &MISTAKES {
         let mut tally = Tally::default();
-        let run =
-            Run { rules: mistake.rules, by_hand: false, made: Case::of_seed, seed: SEED, scenes: SCENES_PER_MISTAKE, until: None, trace: false };
+        let run = Run {
+            rules: mistake.rules,
+            by_hand: false,
+            made: Case::of_seed,
+            asks: ask,
+            seed: SEED,
+            scenes: SCENES_PER_MISTAKE,
+            until: None,
+            trace: false,
+        };
         let caught = run.go(&mut tally).is_err();
         let verdict = format!("{} {} scenes", if caught { "caught after" } else { "NOT CAUGHT in" }, tally.scenes);
         caught_all &= caught;

@@ -5,7 +5,7 @@ use crate::cells::turned;
 use crate::flags::{common_dominating_point, ends_where, line_boundary};
 use crate::judge::{Judgement, Reading, TwoZeros};
 use crate::pieces::Extent;
-use crate::plane::{interior_above, Point, Segment};
+use crate::plane::{inside, interior_above, Point, Segment};
 use crate::scene::{Half, Object, Refusal, LINE, POINTS, REGION};
 use crate::summary::{are_far, corners, has_boundary, FarAnswer, Summary};
 
@@ -79,8 +79,8 @@ pub struct Mistake {
 }
 
 /// Every mistake, by the name that `--mistake` takes: the four, from "refuse-all" on the imitations, then those about two zero masks, those about scenes whose
-/// first type is above the second, those about hubs, those about what a cell extends to, those about patterns, and those about summaries.
-pub const MISTAKES: [Mistake; 52] = [
+/// first type is above the second, those about hubs, those about what a cell extends to, those about patterns, those about summaries, and those about areas.
+pub const MISTAKES: [Mistake; 56] = [
     Mistake {
         name: "next-halfsegment",
         says: "a line's end is a boundary point if the next halfsegment starts elsewhere",
@@ -278,7 +278,46 @@ pub const MISTAKES: [Mistake; 52] = [
             ..RIGHT
         },
     },
+    Mistake {
+        name: "areas-vertical",
+        says: "a vertical segment has its interiors the wrong way round in the shoelace sums",
+        rules: Rules { spoil: |j| sum_again(j, |s| if s.segment.is_vertical() { s.terms.map(|term| -2 * term) } else { [0; 3] }), ..RIGHT },
+    },
+    Mistake {
+        name: "areas-twice",
+        says: "a segment of both regions is summed twice",
+        rules: Rules { spoil: |j| sum_again(j, |s| if s.of_both { s.terms } else { [0; 3] }), ..RIGHT },
+    },
+    Mistake {
+        name: "areas-no-owner",
+        says: "(1/1) of both regions bounds no part, since it does not say whose interior is above",
+        rules: Rules { spoil: |j| sum_again(j, |s| if s.of_both && s.terms[0] == 0 { s.terms.map(|term| -term) } else { [0; 3] }), ..RIGHT },
+    },
+    Mistake { name: "areas-exchanged", says: "in F only and in G only are exchanged", rules: Rules { spoil: |j| j.areas.swap(1, 2), ..RIGHT } },
 ];
+
+/// A segment of two regions, with its terms in the three shoelace sums.
+struct Summed {
+    segment: Segment,
+    of_both: bool,
+    terms: [i64; 3],
+}
+
+/// The areas with something added for each different segment of the two regions.
+fn sum_again(judgement: &mut Judgement, more: fn(&Summed) -> [i64; 3]) {
+    let parts: [fn(bool, bool) -> bool; 3] = [|f, g| f && g, |f, g| f && !g, |f, g| !f && g];
+    for s in judgement.segments.clone() {
+        let regions = [&judgement.f, &judgement.g];
+        let owned = regions.map(|region| region.halves.iter().find(|h| h.segment == s));
+        // whether F and G adjoin it below, and above: by ia where they have the segment, else by the midpoint
+        let [below, above] =
+            [false, true].map(|above| [0, 1].map(|i| owned[i].map_or_else(|| inside(&regions[i].segments(), &s.midpoint()), |h| h.ia == above)));
+        let value = s.left.0 * s.right.1 - s.right.0 * s.left.1;
+        let terms = parts.map(|belongs| (belongs(above[0], above[1]) as i64 - belongs(below[0], below[1]) as i64) * value);
+        let added = more(&Summed { segment: s, of_both: owned.iter().all(Option::is_some), terms });
+        judgement.areas.iter_mut().zip(added).for_each(|(area, term)| *area += term);
+    }
+}
 
 fn vectors_in_place(judgement: &mut Judgement) {
     if judgement.descends() {

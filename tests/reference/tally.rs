@@ -1,6 +1,7 @@
 //! What a comparison has reached: refusals by number, flags set and clear, matrices of non-empty objects. A run that reaches too little
 //! fails, however well everything agreed.
 
+use crate::areas::Areas;
 use crate::cells::Matrix;
 use crate::flags::flag_counts;
 use crate::judge::Judgement;
@@ -50,6 +51,8 @@ pub struct Tally {
     refusals: BTreeMap<u32, usize>,
     /// Scenes in which so many segments of a line end at one point.
     hubs: BTreeMap<usize, usize>,
+    /// Scenes of two regions, by which of the three parts have an area: in both, in F only, in G only.
+    parts: BTreeMap<[bool; 3], usize>,
     pairs: BTreeMap<(u8, u8), Pair>,
     /// What two good summaries told: of boxes that share no point, of an empty object, and "look".
     told: [usize; 3],
@@ -64,6 +67,7 @@ pub struct Tally {
 pub enum Reach {
     Nothing,
     Hubs,
+    Regions,
     Summaries,
     Everything,
 }
@@ -92,6 +96,9 @@ impl Tally {
         self.at_limit += (reaches_limit(f) || reaches_limit(g)) as usize;
         let sizes: BTreeSet<usize> = [f, g].into_iter().filter(|object| object.kind == LINE).flat_map(end_counts).collect();
         sizes.into_iter().for_each(|size| *self.hubs.entry(size).or_default() += 1);
+        if judgement.no_region.is_none() {
+            self.areas(judgement.areas);
+        }
         let (of_f, of_g) = flag_counts(f.kind, g.kind);
         let pair = self.pairs.entry((f.kind, g.kind)).or_default();
         pair.taken += 1;
@@ -104,6 +111,11 @@ impl Tally {
             pair.matrices.insert(judgement.cells.map(|row| row.map(|cell| !cell.is_empty())));
             pair.extents.insert(judgement.cells);
         }
+    }
+
+    /// Counts two regions by which of their parts have an area.
+    pub fn areas(&mut self, areas: Areas) {
+        *self.parts.entry(areas.map(|area| area != 0)).or_default() += 1;
     }
 
     /// Counts what two good summaries told.
@@ -148,6 +160,16 @@ impl Tally {
         for size in HUBS {
             if matches!(reach, Reach::Hubs | Reach::Everything) && hubs(size) < LEAST {
                 wrong.push(format!("hubs of {size} segments came fewer than {LEAST} times"));
+            }
+        }
+        let parts = |number: u32| [4, 2, 1].map(|bit| number & bit != 0);
+        let name = |which: [bool; 3]| which.map(|there| if there { '1' } else { '0' }).iter().collect::<String>();
+        let times = |which| *self.parts.get(&which).unwrap_or(&0);
+        let shown: Vec<String> = (0..8).map(parts).map(|which| format!("{}: {}", name(which), times(which))).collect();
+        println!("areas of two regions, by those that are not 0 (both, F only, G only): {}", shown.join("  "));
+        for which in (0..8).map(parts).filter(|which| times(*which) < LEAST) {
+            if matches!(reach, Reach::Regions | Reach::Everything) {
+                wrong.push(format!("areas with {} came fewer than {LEAST} times", name(which)));
             }
         }
         let ([apart, empty, look], [first, second]) = (self.told, self.bad_summaries);

@@ -1,4 +1,4 @@
--- What C gets for each answer: number 0 means taken; a refusal has its number and place, no flag, nine F, no pattern that holds, and a record of zeros. And what the signs of the cells mean.
+-- What C gets for each answer: number 0 means taken; a refusal has its number and place, no flag, nine F, no pattern that holds, no area, and a record of zeros. And what the signs of the cells mean.
 use Prim.Native.Nat.{ℕ}
 use mathlib.Core.Path.{_≡_}
 use mathlib.Core.List.{List, [], map}
@@ -22,6 +22,8 @@ use Rattle.overlap.specs.declared.Overlap.{Overlap}
 use Rattle.karvoiss.specs.declared.KarvoissOverlap.{KarvoissOverlap}
 use Rattle.karvoiss.specs.declared.KarvoissCells.{KarvoissCells}
 use Rattle.karvoiss.specs.declared.KarvoissRelate.{KarvoissRelate}
+use Rattle.areas.specs.declared.Areas.{Areas}
+use Rattle.karvoiss.specs.declared.KarvoissAreas.{KarvoissAreas}
 use Rattle.summary.specs.declared.Answer.{Answer}
 use Rattle.summary.specs.Summary.{farValues}
 use Rattle.summary_making.specs.declared.SummaryAnswer.{SummaryAnswer}
@@ -58,6 +60,9 @@ relateForC e =
 
 abbrev pub overlapForC : Overlap → KarvoissOverlap
 overlapForC o = record { number = o .number; place = o .place; count = o .count }
+
+abbrev pub areasForC : Areas → KarvoissAreas
+areasForC a = record { number = a .number; place = a .place; both = a .both; «f_only» = a .«f_only»; «g_only» = a .«g_only» }
 
 abbrev pub summaryForC : SummaryAnswer → KarvoissSummary
 summaryForC e =

@@ -17,12 +17,13 @@ ghost use Rattle.scene.specs.Conditions.{checkScene, checkObject};
 ghost use Rattle.cells.specs.Explored.{cellsAnswerOf};
 ghost use lib.ListN.{length};
 ghost use Rattle.cells_pattern.specs.Related.{checkRelate, relateOf, NoPatternWrong};
-ghost use Rattle.overlap.specs.Rules.{checkList};
+ghost use Rattle.overlap.specs.Rules.{checkList, checkRegions};
 ghost use Rattle.overlap.specs.Overlap.{overlapOf, bufferAfter};
+ghost use Rattle.areas.specs.Areas.{areasOf, PartsMakeWhole};
 ghost use Rattle.summary.specs.Summary.{askedOf};
 ghost use Rattle.summary_objects.specs.Objects.{NeverBad, ToldInFull, LookExactlyIfNear};
 ghost use Rattle.summary_making.specs.Making.{summaryAnswerOf};
-ghost use Rattle.karvoiss.specs.Answer.{vectorsForC, rowSigns, signs, cellsForC, NoSignWrong, relateForC, overlapForC, summaryForC, farForC, at, estimateForC, inWindowForC, fromC};
+ghost use Rattle.karvoiss.specs.Answer.{vectorsForC, rowSigns, signs, cellsForC, NoSignWrong, relateForC, overlapForC, areasForC, summaryForC, farForC, at, estimateForC, inWindowForC, fromC};
 ghost use Rattle.estimate.specs.Estimate.{estimated, EstimateHolds};
 ghost use Rattle.summary_window.specs.Window.{answerOf, BadRight, HitsRight};
 
@@ -152,6 +153,32 @@ pub extern "C" fn karvoiss_overlap(scene: &[u8], list: &mut [u8]) -> KarvoissOve
         number: answer.number as u32,
         place: answer.place,
         count: answer.count,
+    }
+}
+
+#[repr(C)]
+pub struct KarvoissAreas {
+    pub number: u32,
+    pub place: usize,
+    pub both: i64,
+    pub f_only: i64,
+    pub g_only: i64,
+}
+
+// The areas question: for every byte string the whole answer; two of the areas make up each region; and what the verdict says in points.
+#[no_mangle]
+pub extern "C" fn karvoiss_areas(scene: &[u8]) -> KarvoissAreas
+    ensures { λ r. ⌜ (r ≡ areasForC (areasOf (now (scene .entry))))
+        × PartsMakeWhole (now (scene .entry)) (r .both) (r .«f_only») (r .«g_only»)
+        × CheckedMeans (now (scene .entry)) (checkRegions (now (scene .entry))) ⌝ }
+{
+    let answer = areas::areas_of(scene);
+    KarvoissAreas {
+        number: answer.number as u32,
+        place: answer.place,
+        both: answer.both,
+        f_only: answer.f_only,
+        g_only: answer.g_only,
     }
 }
 

@@ -6,10 +6,8 @@ use Rattle.whole.specs.Count.{bit}
 use Rattle.plane.specs.declared.Segment.{Segment}
 use Rattle.flags.specs.Flags.{Edge}
 use Rattle.overlap.specs.declared.adjoining.Sides.{Sides}
-use Rattle.overlap.specs.Bytes.{adjoinsBelow, adjoinsAbove, byteOf}
-
-abbrev pub SidesAre : Sides → List Edge → Segment → Type 0
-SidesAre x R t = (x .below ≡ adjoinsBelow R t) × (x .above ≡ adjoinsAbove R t)
+use Rattle.overlap.specs.Bytes.{byteOf}
+use Rattle.overlap.specs.Walked.{SidesAre}
 
 abbrev pub coded : Sides → Sides → ℕ
 coded x y = 3 * (bit (x .below) + bit (y .below)) + (bit (x .above) + bit (y .above))

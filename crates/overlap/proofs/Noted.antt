@@ -1,18 +1,20 @@
--- The byte of the segment that the walk comes to, by ia where it is a region's own, and by the sweep's note where it is none of the region's.
+-- The sides of the segment that the walk comes to, by ia where it is a region's own, and by the sweep's note where it is none of the region's.
 use Prim.Native.Nat.{ℕ, _+_, _<_}
-use mathlib.Core.Path.{_≡_, refl, sym, ap, subst, _∙_}
+use mathlib.Core.Path.{_≡_, refl, sym, ap, _∙_}
 use mathlib.Core.Bool.{Bool, true, false, not, _&&_}
 use mathlib.Core.List.{List}
-use lib.Dec.{eqb}
+use lib.Dec.{T, eqb}
 use lib.ListN.{getD}
 use Rattle.whole.proofs.Logic.{true-is}
+use Rattle.plane.specs.declared.Segment.{Segment}
+use Rattle.plane.specs.Plane.{segmentInRange}
 use Rattle.plane.proofs.Accepted.{Across}
 use Rattle.scene.specs.declared.Layout.{Layout}
 use Rattle.scene.specs.declared.Scene.{Scene}
 use Rattle.scene.specs.Conditions.{hasSegments, isRegion, half, ia, isLeft, segments}
 use Rattle.scene_segments.proofs.Elements.{region-segments}
 use Rattle.sweep_laws.specs.Noted.{Noted}
-use Rattle.check_verdict.proofs.Laws.{SoundObject, left-in, segments-in-range, across}
+use Rattle.check_verdict.proofs.Laws.{SoundObject, across}
 use Rattle.flags.specs.Flags.{hasSegment}
 use Rattle.flags.specs.Elements.{edges, sameIa}
 use Rattle.flags.proofs.Elements.{outline-edges}
@@ -24,8 +26,7 @@ use Rattle.flags_table.proofs.Noting.{Knows, knows-f, knows-g, middle-inside}
 use Rattle.overlap.specs.declared.adjoining.Sides.{Sides}
 use Rattle.overlap.specs.Bytes.{adjoins}
 use Rattle.overlap.proofs.Adjoins.{adjoins-own, adjoins-other}
-use Rattle.overlap.proofs.BySides.{SidesAre, coded, coded-byte}
-use Rattle.overlap.specs.Walked.{TwoRegions, NextByte}
+use Rattle.overlap.specs.Walked.{TwoRegions, SidesAre, NextSides}
 use Rattle.overlap.proofs.Merging.{list-f, list-g, list-both}
 
 -- ---- the sides of one region
@@ -70,14 +71,12 @@ module _ {s : List ℕ} {sc : Scene} (two : TwoRegions s sc) where
   is-g : isRegion (g .shape) ≡ true
   is-g = true-is (isRegion (g .shape)) (two .2)
 
-  module _ {notes : List ℕ} (noted : Noted s sc notes) {i j a b : ℕ} (w : Standing s f g i j) {x y : Sides} {r : ℕ} (code : r ≡ coded x y) where
-    pub noted-f : NextOfF s f g i j a b → OwnSides x (ia s f a) → NoteSides y (getD notes a 0) → NextByte s f g i j r (a + 1) b
-    noted-f n p q = record {
-      segment = half s f a .segment;
-      next = list-f s f g (segments-in-range (two .0 .f-sound) (left-in (two .0 .f-sound) a (n .there) left)) n refl;
-      byte =
-          coded-byte (edges s f) (edges s g) (half s f a .segment) code (own-sides (two .0 .f-sound) (n .there) left p)
-          (note-sides (two .0 .f-sound) (two .0 .g-sound) has is-g (across (two .0)) (knows-f noted has) a (n .there) (alone-f (two .0) w n) q);
+  module _ {notes : List ℕ} (noted : Noted s sc notes) {i j a b : ℕ} (w : Standing s f g i j) {t : Segment} {x y : Sides} (r : T (segmentInRange t)) where
+    pub noted-f : NextOfF s f g i j a b → t ≡ half s f a .segment → OwnSides x (ia s f a) → NoteSides y (getD notes a 0) → NextSides s f g i j t x y (a + 1) b
+    noted-f n e p q = record {
+      next = list-f s f g r n e;
+      of-f = rw e (own-sides (two .0 .f-sound) (n .there) left p);
+      of-g = rw e (note-sides (two .0 .f-sound) (two .0 .g-sound) has is-g (across (two .0)) (knows-f noted has) a (n .there) (alone-f (two .0) w n) q);
       stands = standing-f (two .0) w n;
     }
       where
@@ -87,14 +86,11 @@ module _ {s : List ℕ} {sc : Scene} (two : TwoRegions s sc) where
         has : hasSegments (f .shape) ≡ true
         has = region-segments (f .shape) is-f
 
-    pub noted-g : NextOfG s f g i j a b → NoteSides x (getD notes (1024 + b) 0) → OwnSides y (ia s g b) → NextByte s f g i j r a (b + 1)
-    noted-g n p q = record {
-      segment = half s g b .segment;
-      next = list-g s f g (segments-in-range (two .0 .g-sound) (left-in (two .0 .g-sound) b (n .there) left)) n refl;
-      byte =
-          coded-byte (edges s f) (edges s g) (half s g b .segment) code
-          (note-sides (two .0 .g-sound) (two .0 .f-sound) has is-f (across-swap (across (two .0))) (knows-g noted has) b (n .there) (alone-g (two .0) w n) p)
-          (own-sides (two .0 .g-sound) (n .there) left q);
+    pub noted-g : NextOfG s f g i j a b → t ≡ half s g b .segment → NoteSides x (getD notes (1024 + b) 0) → OwnSides y (ia s g b) → NextSides s f g i j t x y a (b + 1)
+    noted-g n e p q = record {
+      next = list-g s f g r n e;
+      of-f = rw e (note-sides (two .0 .g-sound) (two .0 .f-sound) has is-f (across-swap (across (two .0))) (knows-g noted has) b (n .there) (alone-g (two .0) w n) p);
+      of-g = rw e (own-sides (two .0 .g-sound) (n .there) left q);
       stands = standing-g (two .0) w n;
     }
       where
@@ -104,15 +100,10 @@ module _ {s : List ℕ} {sc : Scene} (two : TwoRegions s sc) where
         has : hasSegments (g .shape) ≡ true
         has = region-segments (g .shape) is-g
 
-    pub noted-both : NextOfBoth s f g i j a b → OwnSides x (ia s f a) → OwnSides y (ia s g b) → NextByte s f g i j r (a + 1) (b + 1)
-    noted-both n p q = record {
-      segment = half s f a .segment;
-      next = list-both s f g (segments-in-range (two .0 .f-sound) (left-in (two .0 .f-sound) a (n .there-f) left-f)) n refl;
-      byte =
-          coded-byte (edges s f) (edges s g) (half s f a .segment) code (own-sides (two .0 .f-sound) (n .there-f) left-f p)
-          (subst (SidesAre y (edges s g)) (sym (one-segment n)) (own-sides (two .0 .g-sound) (n .there-g) (n .nexts .of-g .there (n .there-g)) q));
+    pub noted-both : NextOfBoth s f g i j a b → t ≡ half s f a .segment → OwnSides x (ia s f a) → OwnSides y (ia s g b) → NextSides s f g i j t x y (a + 1) (b + 1)
+    noted-both n e p q = record {
+      next = list-both s f g r n e;
+      of-f = rw e (own-sides (two .0 .f-sound) (n .there-f) (n .nexts .of-f .there (n .there-f)) p);
+      of-g = rw (e, one-segment n) (own-sides (two .0 .g-sound) (n .there-g) (n .nexts .of-g .there (n .there-g)) q);
       stands = standing-both (two .0) w n;
     }
-      where
-        left-f : isLeft s f a ≡ true
-        left-f = n .nexts .of-f .there (n .there-f)

@@ -16,6 +16,7 @@ use Rattle.plane.proofs.Order.{LeftBefore, comes-trans, halfOf}
 use Rattle.scene.specs.declared.Scene.{Scene}
 use Rattle.scene.specs.Conditions.{segments}
 use Rattle.check_verdict.proofs.Laws.{SoundScene, all-ordered, segments-sorted, across}
+use Rattle.cells_matrix.proofs.Common.{across-swap}
 use Rattle.flags_classes.specs.Walked.{leftBefore}
 use Rattle.flags_classes.proofs.Comparable.{Compare, compare-across}
 use Rattle.overlap.specs.Bytes.{mergeFrom, merge}
@@ -61,3 +62,9 @@ pub segments-merged-sorted : {s : List ℕ} {sc : Scene} → SoundScene s sc →
 segments-merged-sorted {s} {sc} o =
     merge-sorted (segments s (sc .f)) (segments s (sc .g)) (all-ordered (o .f-sound)) (all-ordered (o .g-sound)) (segments-sorted (o .f-sound)) (segments-sorted (o .g-sound))
     (compare-across (all-ordered (o .f-sound)) (all-ordered (o .g-sound)) (across o))
+
+-- and with the two objects the other way round
+pub segments-turned-sorted : {s : List ℕ} {sc : Scene} → SoundScene s sc → Sorted LeftBefore (merge (segments s (sc .g)) (segments s (sc .f)))
+segments-turned-sorted {s} {sc} o =
+    merge-sorted (segments s (sc .g)) (segments s (sc .f)) (all-ordered (o .g-sound)) (all-ordered (o .f-sound)) (segments-sorted (o .g-sound)) (segments-sorted (o .f-sound))
+    (compare-across (all-ordered (o .g-sound)) (all-ordered (o .f-sound)) (across-swap (across o)))

@@ -1,4 +1,5 @@
--- What the overlap list question turns away after all others, 16 and 17, and what the check of a scene promises of the sweep's notes.
+-- What a question about two regions turns away after all others, 16, and the overlap list question after that, 17; and what the check of a scene promises
+-- of the sweep's notes.
 use Prim.Native.Nat.{ℕ}
 use mathlib.Core.Path.{_≡_}
 use mathlib.Core.List.{List, [], _∷_}
@@ -21,16 +22,23 @@ abbrev pub notRegions : List ℕ → Scene → Fault
 notRegions s sc =
     orElse (unless (isRegion (givenFirst sc .shape)) (givenFirst sc .start)) (unless (isRegion (givenSecond sc .shape)) (givenSecond sc .start))
 
+abbrev pub regionRules : List (Rule Scene)
+regionRules = rule 16 notRegions ∷ []
+
+-- of a scene that passes all others
+abbrev pub judged : List ℕ → Scene → CheckedScene
+judged s sc = judge CheckedScene.Refused (CheckedScene.Taken sc) (conditions regionRules s sc)
+
+-- two regions: the scene's own refusals, then 16
+unfoldable pub checkRegions : List ℕ → CheckedScene
+checkRegions s = checkSceneBy (sceneRules [] regionRules) s
+
 -- 17: "overlap list, buffer shorter than the count"; "For 9 and 17 it is 0"
 abbrev pub shorter : ℕ → List ℕ → Scene → Fault
 shorter room s sc = unless (leb (length (listOf s sc)) room) 0
 
 abbrev pub listRules : ℕ → List (Rule Scene)
 listRules room = rule 16 notRegions ∷ rule 17 (shorter room) ∷ []
-
--- the two, of a scene that passes all others
-abbrev pub judged : List ℕ → Scene → ℕ → CheckedScene
-judged s sc room = judge CheckedScene.Refused (CheckedScene.Taken sc) (conditions (listRules room) s sc)
 
 unfoldable pub checkList : List ℕ → ℕ → CheckedScene
 checkList s room = checkSceneBy (sceneRules [] (listRules room)) s

@@ -1,4 +1,5 @@
--- What the walk over the different segments of two regions promises: the segments from an element on, and the next of both objects, with its byte.
+-- What the walk over the different segments of two regions promises: the segments from an element on, and the next of both objects, with its sides and
+-- with its byte.
 use Prim.Native.Nat.{ℕ, _+_, _-_, _<_, _≤_}
 use mathlib.Core.Path.{_≡_}
 use mathlib.Core.List.{List, [], _∷_, map}
@@ -9,11 +10,14 @@ use Rattle.scene.specs.declared.Layout.{Layout}
 use Rattle.scene.specs.declared.Scene.{Scene}
 use Rattle.scene.specs.Conditions.{indices, keep, isRegion, half, isLeft}
 use Rattle.check_verdict.proofs.Laws.{SoundScene}
+use Rattle.flags.specs.Flags.{Edge}
 use Rattle.flags.specs.Elements.{edges}
 use Rattle.flags_classes.proofs.Standing.{Standing}
-use Rattle.overlap.specs.Bytes.{merge, byteOf}
+use Rattle.overlap.specs.declared.adjoining.Sides.{Sides}
+use Rattle.overlap.specs.Bytes.{merge, adjoinsBelow, adjoinsAbove, byteOf}
 use Rattle.overlap.specs.declared.walk.Step.{Step}
 use Rattle.overlap.specs.declared.walk.Step.the-variants.{Next, End}
+use Rattle.overlap.specs.declared.walk.SidesStep.{SidesStep}
 use Rattle.overlap.specs.declared.walk.ByteStep.{ByteStep}
 
 -- the segments of the elements from i on
@@ -36,13 +40,27 @@ module _ (s : List ℕ) (f g : Layout) where
   Stepped i j (Next t k m) = NextIs i j t k m
   Stepped i j End = mergedFrom i j ≡ []
 
--- ---- with the byte, by the sweep's notes
+-- ---- with its sides and its byte, by the sweep's notes
 
 abbrev pub TwoRegions : List ℕ → Scene → Type 0
 TwoRegions s sc = SoundScene s sc × T (isRegion (sc .f .shape)) × T (isRegion (sc .g .shape))
 
+-- the sides where a region's interior adjoins the segment
+abbrev pub SidesAre : Sides → List Edge → Segment → Type 0
+SidesAre x R t = (x .below ≡ adjoinsBelow R t) × (x .above ≡ adjoinsAbove R t)
+
+-- what is passed of either region comes before all that is left of the other (`stands`)
 module _ (s : List ℕ) (f g : Layout) where
-  -- what is passed of either region comes before all that is left of the other
+  pub record NextSides (i j : ℕ) (t : Segment) (x y : Sides) (k m : ℕ) : Type 0 where
+    pub next : NextIs s f g i j t k m
+    pub of-f : SidesAre x (edges s f) t
+    pub of-g : SidesAre y (edges s g) t
+    pub stands : Standing s f g k m
+
+  abbrev pub SidesStepped : ℕ → ℕ → SidesStep → Type 0
+  SidesStepped i j (SidesStep.Next t x y k m) = NextSides i j t x y k m
+  SidesStepped i j SidesStep.End = mergedFrom s f g i j ≡ []
+
   pub record NextByte (i j b k m : ℕ) : Type 0 where
     pub segment : Segment
     pub next : NextIs s f g i j segment k m

@@ -1,4 +1,4 @@
-// Whether a scene has an overlap list that fits a buffer: the scene's bytes checked whole, with 16 and 17 last.
+// Whether a scene has two regions, and whether their overlap list fits a buffer: the scene's bytes checked whole, with 16 last, and 17 after it.
 use crate::walk;
 use check_verdict::Verdict;
 use scene::CheckedScene;
@@ -10,8 +10,7 @@ ghost use mathlib.Core.Path.{_≡_};
 ghost use mathlib.Core.List.{List};
 ghost use Prim.Native.Nat.{ℕ, _≤_};
 ghost use lib.ListN.{length};
-ghost use Rattle.scene.specs.Read.{IsObject};
-ghost use Rattle.overlap.specs.Rules.{notRegions, judged, checkList, NotedWhere};
+ghost use Rattle.overlap.specs.Rules.{notRegions, judged, checkRegions, checkList, NotedWhere};
 
 // 16: the first type record that is not 3.
 fn regions_fault(scene: Scene) -> Fault
@@ -31,14 +30,38 @@ fn regions_fault(scene: Scene) -> Fault
     }
 }
 
-// 16, and 17 for a buffer of so many bytes.
-fn judge(s: &[u8], scene: Scene, room: usize) -> CheckedScene
-    requires { ⌜ IsObject (now s) (scene .f) × IsObject (now s) (scene .g) ⌝ }
-    ensures { λ r. ⌜ r ≡ judged (now (s .entry)) scene room ⌝ }
+// 16, of a scene that passes all before it.
+fn judge(scene: Scene) -> CheckedScene
+    ensures { λ r. ⌜ ((s : List ℕ) → r ≡ judged s scene) ⌝ }
 {
     match regions_fault(scene) {
         Fault::At(place) => CheckedScene::Refused(Refusal { number: 16, place }),
-        Fault::Nothing => {
+        Fault::Nothing => CheckedScene::Taken(scene),
+    }
+}
+
+// A scene's bytes, checked whole, with 16 last.
+pub fn check_regions(s: &[u8], notes: &mut [u8]) -> CheckedScene
+    requires { ⌜ 2048 ≤ length (now notes) ⌝ }
+    ensures { λ r. ⌜ (length (now (notes .exit)) ≡ length (now (notes .entry))) × (r ≡ checkRegions (now (s .entry))) × NotedWhere (now (s .entry)) r (now (notes .exit)) ⌝ }
+{
+    match scene_reading::read_scene(s) {
+        CheckedScene::Refused(r) => CheckedScene::Refused(r),
+        CheckedScene::Taken(scene) => match check_verdict::noted_verdict(s, scene, notes) {
+            Verdict::Sound => judge(scene),
+            Verdict::Refused(r) => CheckedScene::Refused(r),
+        },
+    }
+}
+
+// And with 17 after 16, for a buffer of so many bytes.
+pub fn check_list(s: &[u8], room: usize, notes: &mut [u8]) -> CheckedScene
+    requires { ⌜ 2048 ≤ length (now notes) ⌝ }
+    ensures { λ r. ⌜ (length (now (notes .exit)) ≡ length (now (notes .entry))) × (r ≡ checkList (now (s .entry)) room) × NotedWhere (now (s .entry)) r (now (notes .exit)) ⌝ }
+{
+    match check_regions(s, notes) {
+        CheckedScene::Refused(r) => CheckedScene::Refused(r),
+        CheckedScene::Taken(scene) => {
             let f = scene.f;
             let g = scene.g;
             if room < walk::count(s, f, g) {
@@ -49,19 +72,5 @@ fn judge(s: &[u8], scene: Scene, room: usize) -> CheckedScene
             }
             CheckedScene::Taken(scene)
         }
-    }
-}
-
-// A scene's bytes, checked whole, with 16 and 17 last.
-pub fn check_list(s: &[u8], room: usize, notes: &mut [u8]) -> CheckedScene
-    requires { ⌜ 2048 ≤ length (now notes) ⌝ }
-    ensures { λ r. ⌜ (length (now (notes .exit)) ≡ length (now (notes .entry))) × (r ≡ checkList (now (s .entry)) room) × NotedWhere (now (s .entry)) r (now (notes .exit)) ⌝ }
-{
-    match scene_reading::read_scene(s) {
-        CheckedScene::Refused(r) => CheckedScene::Refused(r),
-        CheckedScene::Taken(scene) => match check_verdict::noted_verdict(s, scene, notes) {
-            Verdict::Sound => judge(s, scene, room),
-            Verdict::Refused(r) => CheckedScene::Refused(r),
-        },
     }
 }

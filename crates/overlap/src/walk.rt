@@ -1,6 +1,7 @@
 // The different segments of two regions one after the other, in the order of left halfsegments, by a place in each of the two objects; how many they
-// are, and the byte of each, by what the sweep noted.
+// are, and the sides and the byte of each, by what the sweep noted.
 use crate::adjoining;
+use crate::adjoining::Sides;
 use flags_classes::merged;
 use plane::Segment;
 use scene::Layout;
@@ -15,7 +16,7 @@ ghost use Rattle.sweep_laws.specs.Noted.{Noted};
 ghost use Rattle.flags.specs.Elements.{edges};
 ghost use Rattle.flags_classes.proofs.Standing.{Standing};
 ghost use Rattle.overlap.specs.Bytes.{overlapBytes};
-ghost use Rattle.overlap.specs.Walked.{Stepped, TwoRegions, ByteStepped};
+ghost use Rattle.overlap.specs.Walked.{Stepped, TwoRegions, SidesStepped, ByteStepped};
 
 // What comes next from a place in each object: a segment, with the places after it.
 pub enum Step {
@@ -78,6 +79,53 @@ pub fn count(s: &[u8], f: Layout, g: Layout) -> usize
     }
 }
 
+// ---- with its sides
+
+// What comes next from a place in each region: a segment, the sides where either region adjoins it, and the places after it.
+pub enum SidesStep {
+    Next {
+        segment: Segment,
+        of_f: Sides,
+        of_g: Sides,
+        i: usize,
+        j: usize,
+    },
+    End,
+}
+
+// By the notes: a segment of one region alone lies inside the other where its note is not 0.
+pub fn next_sides(s: &[u8], scene: Scene, notes: &[u8], i: usize, j: usize) -> SidesStep
+    requires { ⌜ TwoRegions (now s) scene × (i ≤ scene .f .count) × (j ≤ scene .g .count) × (2048 ≤ length (now notes)) × Noted (now s) scene (now notes) × Standing (now s) (scene .f) (scene .g) i j ⌝ }
+    ensures { λ r. ⌜ SidesStepped (now (s .entry)) (scene .f) (scene .g) i j r ⌝ }
+{
+    let f = scene.f;
+    let g = scene.g;
+    match merged::next_step(s, f, g, i, j) {
+        merged::Step::OfF { i: a, j: b } => SidesStep::Next {
+            segment: merged::segment_of(s, f, a),
+            of_f: adjoining::own_sides(s, f, a),
+            of_g: adjoining::noted_sides(notes[a]),
+            i: a + 1,
+            j: b,
+        },
+        merged::Step::OfG { i: a, j: b } => SidesStep::Next {
+            segment: merged::segment_of(s, g, b),
+            of_f: adjoining::noted_sides(notes[1024 + b]),
+            of_g: adjoining::own_sides(s, g, b),
+            i: a,
+            j: b + 1,
+        },
+        merged::Step::OfBoth { i: a, j: b } => SidesStep::Next {
+            segment: merged::segment_of(s, f, a),
+            of_f: adjoining::own_sides(s, f, a),
+            of_g: adjoining::own_sides(s, g, b),
+            i: a + 1,
+            j: b + 1,
+        },
+        merged::Step::End => SidesStep::End,
+    }
+}
+
 // ---- with its byte
 
 // What comes next from a place in each region: its byte, with the places after it.
@@ -86,35 +134,22 @@ pub enum ByteStep {
     End,
 }
 
-// By the notes: a segment of one region alone lies inside the other where its note is not 0.
 pub fn next_byte(s: &[u8], scene: Scene, notes: &[u8], i: usize, j: usize) -> ByteStep
     requires { ⌜ TwoRegions (now s) scene × (i ≤ scene .f .count) × (j ≤ scene .g .count) × (2048 ≤ length (now notes)) × Noted (now s) scene (now notes) × Standing (now s) (scene .f) (scene .g) i j ⌝ }
     ensures { λ r. ⌜ ByteStepped (now (s .entry)) (scene .f) (scene .g) i j r ⌝ }
 {
-    let f = scene.f;
-    let g = scene.g;
-    match merged::next_step(s, f, g, i, j) {
-        merged::Step::OfF { i: a, j: b } => ByteStep::Next {
-            byte: adjoining::coded(
-                adjoining::own_sides(s, f, a),
-                adjoining::noted_sides(notes[a]),
-            ),
-            i: a + 1,
-            j: b,
+    match next_sides(s, scene, notes, i, j) {
+        SidesStep::Next {
+            segment: _,
+            of_f: x,
+            of_g: y,
+            i: k,
+            j: m,
+        } => ByteStep::Next {
+            byte: adjoining::coded(x, y),
+            i: k,
+            j: m,
         },
-        merged::Step::OfG { i: a, j: b } => ByteStep::Next {
-            byte: adjoining::coded(
-                adjoining::noted_sides(notes[1024 + b]),
-                adjoining::own_sides(s, g, b),
-            ),
-            i: a,
-            j: b + 1,
-        },
-        merged::Step::OfBoth { i: a, j: b } => ByteStep::Next {
-            byte: adjoining::coded(adjoining::own_sides(s, f, a), adjoining::own_sides(s, g, b)),
-            i: a + 1,
-            j: b + 1,
-        },
-        merged::Step::End => ByteStep::End,
+        SidesStep::End => ByteStep::End,
     }
 }

@@ -4,6 +4,7 @@ pub mod Solver
 pub mod Balance
 pub mod Sign
 pub mod Logic
+pub mod Sorted
 pub mod Deciding
 pub mod Counted
 pub mod Parity

@@ -1,180 +1,43 @@
--- `overlap::walk::next_byte` meets its contract: what comes next in the walk over the left halfsegments, with its byte by ia and by its note.
-use Prim.Native.Nat.{ℕ, _≤_}
-use native.Mathlib.Omega.{arith}
+-- `overlap::walk::next_byte` meets its contract: the byte is that of the sides.
 use mathlib.Core.Path.{_≡_, subst}
-use mathlib.Core.List.{List}
 use borrow.Author.Needs.{needs}
-use Rattle.scene.specs.declared.Layout.{Layout}
-use Rattle.scene.specs.Read.{IsObject}
-use Rattle.scene.proofs.Taken.{taken-object}
-use Rattle.flags_classes.specs.declared.merged.Step.{Step}
-use Rattle.flags_classes.specs.Walked.{NextOfF, NextOfG, NextOfBoth, Stepped}
-use Rattle.overlap.proofs.Merging.{list-end}
-use Rattle.overlap.proofs.Noted.{noted-f, noted-g, noted-both}
+use Rattle.flags.specs.Elements.{edges}
+use Rattle.overlap.specs.declared.walk.SidesStep.{SidesStep}
+use Rattle.overlap.specs.Walked.{SidesStepped, NextSides}
+use Rattle.overlap.proofs.BySides.{coded-byte}
 use Rattle.overlap.proofs.walk.next_byte.Statement.{statement}
 use Rattle.overlap.proofs.walk.next_byte.Tie as tie
 
-few : (s : List ℕ) (l : Layout) → IsObject s l → l .count ≤ 1024
-few s l is = taken-object s (l .start) l is .few
-
-module _ (d : tie.After-next-step) where
+module _ (d : tie.After-next-sides) where
   abbrev z : tie.Start
-  z = d .before .before .before .before .before
+  z = d .before .before .before
 
-  f-few : z .args .scene .f .count ≤ 1024
-  f-few = few (z .args .s .now) (z .args .scene .f) (z .pre .0 .0 .f-sound .read)
+  stepped : {r : SidesStep} → d .next-sides .result ≡ r → SidesStepped (z .args .s .now) (z .args .scene .f) (z .args .scene .g) (z .args .i) (z .args .j) r
+  stepped e = subst (λ (r : SidesStep). SidesStepped (z .args .s .now) (z .args .scene .f) (z .args .scene .g) (z .args .i) (z .args .j) r) e (d .next-sides .ensures)
 
-  g-few : z .args .scene .g .count ≤ 1024
-  g-few = few (z .args .s .now) (z .args .scene .g) (z .pre .0 .0 .g-sound .read)
+next-sides-requires : tie.Need-next-sides-requires
+next-sides-requires c κs = search needs
 
-  stepped : {r : Step} → d .next-step .result ≡ r → Stepped (z .args .s .now) (z .args .scene .f) (z .args .scene .g) (z .args .i) (z .args .j) r
-  stepped e = subst (λ (r : Step). Stepped (z .args .s .now) (z .args .scene .f) (z .args .scene .g) (z .args .i) (z .args .j) r) e (d .next-step .ensures)
-
--- F's
-module _ (c : tie.After-a) where
-  abbrev d1 : tie.After-next-step
-  d1 = c .before .before
-
-  next1 :
-      let a = z d1 .args in
-      NextOfF (a .s .now) (a .scene .f) (a .scene .g) (a .i) (a .j) (c .a .given .0 .0) (c .a .given .0 .1 .0)
-  next1 = stepped d1 (c .a .given .1)
-
--- G's
-module _ (c : tie.After-a2) where
-  abbrev d2 : tie.After-next-step
-  d2 = c .before .before
-
-  next2 :
-      let a = z d2 .args in
-      NextOfG (a .s .now) (a .scene .f) (a .scene .g) (a .i) (a .j) (c .a2 .given .0 .0) (c .a2 .given .0 .1 .0)
-  next2 = stepped d2 (c .a2 .given .1)
-
--- both
-module _ (c : tie.After-a3) where
-  abbrev d3 : tie.After-next-step
-  d3 = c .before .before
-
-  next3 :
-      let a = z d3 .args in
-      NextOfBoth (a .s .now) (a .scene .f) (a .scene .g) (a .i) (a .j) (c .a3 .given .0 .0) (c .a3 .given .0 .1 .0)
-  next3 = stepped d3 (c .a3 .given .1)
-
-next-step-requires : tie.Need-next-step-requires
-next-step-requires c κs = let p = c .before .before .before .before .pre in (p .0 .0 .f-sound .read, p .0 .0 .g-sound .read, p .1, p .2)
-
-enum-known-a : tie.Need-enum-known-a
-enum-known-a c = search needs
-
-own-sides-requires : tie.Need-own-sides-requires
-own-sides-requires c κs = let e = c .before in (z (d1 e) .pre .0 .0 .f-sound .read, next1 e .there)
-
-shared-slice-read-noted-sides : tie.Need-shared-slice-read-noted-sides
-shared-slice-read-noted-sides c = let e = c .before .before .before in omega (arith, next1 e .there, f-few (d1 e), z (d1 e) .pre .3)
-
-noted-sides-requires : tie.Need-noted-sides-requires
-noted-sides-requires c κs = search needs
+enum-known-x : tie.Need-enum-known-x
+enum-known-x c = search needs
 
 coded-requires : tie.Need-coded-requires
 coded-requires c κs = search needs
-
-add-t21 : tie.Need-add-t21
-add-t21 c = let e = c .before .before .before .before .before in omega (arith, next1 e .there, f-few (d1 e))
-
-enum-known-a-2 : tie.Need-enum-known-a-2
-enum-known-a-2 c = search needs
-
-add-noted-sides : tie.Need-add-noted-sides
-add-noted-sides c = let e = c .before in omega (arith, next2 e .there, g-few (d2 e))
-
-shared-slice-read-noted-sides-2 : tie.Need-shared-slice-read-noted-sides-2
-shared-slice-read-noted-sides-2 c = let e = c .before .before in omega (arith, next2 e .there, g-few (d2 e), z (d2 e) .pre .3)
-
-noted-sides-requires-2 : tie.Need-noted-sides-requires-2
-noted-sides-requires-2 c κs = search needs
-
-own-sides-requires-2 : tie.Need-own-sides-requires-2
-own-sides-requires-2 c κs = let e = c .before .before .before in (z (d2 e) .pre .0 .0 .g-sound .read, next2 e .there)
-
-coded-requires-2 : tie.Need-coded-requires-2
-coded-requires-2 c κs = search needs
-
-add-t28 : tie.Need-add-t28
-add-t28 c = let e = c .before .before .before .before .before in omega (arith, next2 e .there, g-few (d2 e))
-
-enum-known-a-3 : tie.Need-enum-known-a-3
-enum-known-a-3 c = search needs
-
-own-sides-requires-3 : tie.Need-own-sides-requires-3
-own-sides-requires-3 c κs = let e = c .before in (z (d3 e) .pre .0 .0 .f-sound .read, next3 e .there-f)
-
-own-sides-requires-4 : tie.Need-own-sides-requires-4
-own-sides-requires-4 c κs = let e = c .before .before in (z (d3 e) .pre .0 .0 .g-sound .read, next3 e .there-g)
-
-coded-requires-3 : tie.Need-coded-requires-3
-coded-requires-3 c κs = search needs
-
-add-t32 : tie.Need-add-t32
-add-t32 c = let e = c .before .before .before .before in omega (arith, next3 e .there-f, f-few (d3 e))
-
-add-t33 : tie.Need-add-t33
-add-t33 c = let e = c .before .before .before .before in omega (arith, next3 e .there-g, g-few (d3 e))
 
 enum-told : tie.Need-enum-told
 enum-told c = search needs
 
 returns : tie.Need-returns
 returns c =
-    let n = c .before in
-    let e = n .before .before .before .before in
-    let p = z (d1 e) .pre in
-    noted-f (p .0) (p .4) (p .5) (c .coded .ensures) (next1 e) (n .before .before .own-sides .ensures) (n .noted-sides .ensures)
+    let k = c .before .before in
+    let d = k .before .before in
+    let a = z d .args in
+    let v = k .x .given .0 in
+    let n : NextSides (a .s .now) (a .scene .f) (a .scene .g) (a .i) (a .j) (v .0) (v .1 .0) (v .1 .1 .0) (v .1 .1 .1 .0) (v .1 .1 .1 .1 .0) = stepped d (k .x .given .1) in
+    record { segment = v .0; next = n .next; byte = coded-byte (edges (a .s .now) (a .scene .f)) (edges (a .s .now) (a .scene .g)) (v .0) (c .coded .ensures) (n .of-f) (n .of-g); stands = n .stands }
 
 returns-2 : tie.Need-returns-2
-returns-2 c =
-    let o = c .before in
-    let e = o .before .before .before .before in
-    let p = z (d2 e) .pre in
-    noted-g (p .0) (p .4) (p .5) (c .coded2 .ensures) (next2 e) (o .before .noted-sides2 .ensures) (o .own-sides2 .ensures)
-
-returns-3 : tie.Need-returns-3
-returns-3 c =
-    let o = c .before in
-    let e = o .before .before .before in
-    let p = z (d3 e) .pre in
-    noted-both (p .0) (p .4) (p .5) (c .coded3 .ensures) (next3 e) (o .before .own-sides3 .ensures) (o .own-sides4 .ensures)
-
-returns-4 : tie.Need-returns-4
-returns-4 c =
-    let d = c .before .before in
-    list-end (z d .args .s .now) (z d .args .scene .f) (z d .args .scene .g) (stepped d (c .enum-told .given .1))
+returns-2 c = stepped (c .before .before) (c .enum-told .given .1)
 
 pub next-byte-spec : {M : Type 1} → statement M
-next-byte-spec =
-    tie.close
-    (tie.spec
-    next-step-requires
-    enum-known-a
-    own-sides-requires
-    shared-slice-read-noted-sides
-    noted-sides-requires
-    coded-requires
-    add-t21
-    enum-known-a-2
-    add-noted-sides
-    shared-slice-read-noted-sides-2
-    noted-sides-requires-2
-    own-sides-requires-2
-    coded-requires-2
-    add-t28
-    enum-known-a-3
-    own-sides-requires-3
-    own-sides-requires-4
-    coded-requires-3
-    add-t32
-    add-t33
-    enum-told
-    returns
-    returns-2
-    returns-3
-    returns-4)
+next-byte-spec = tie.close (tie.spec next-sides-requires enum-known-x coded-requires enum-told returns returns-2)
