@@ -184,7 +184,7 @@ static void load_both(FILE *file, const struct entry *f, const struct entry *g, 
 static bool fill(FILE *file)
 {
     static const int32_t wells[][2] = {{2, 2}, {4, 2}, {9, 9}};
-    static const int32_t far_away[][2] = {{1000001, 0}};
+    static const int32_t far_away[][2] = {{10000001, 0}};
     static const struct segment road[] = {{2, 2, 4, 2, 0}, {4, 2, 8, 2, 0}};
     static const struct segment ditch[] = {{6, 0, 6, 5, 0}};
     static const struct segment field[] = {{0, 0, 4, 0, 1}, {0, 0, 0, 4, 0}, {0, 4, 4, 4, 0}, {4, 0, 4, 2, 1}, {4, 2, 4, 4, 1}};

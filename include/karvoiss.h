@@ -17,7 +17,7 @@
  * Scene bytes
  * -----------
  * A record is one byte of kind and a body. Coordinates are signed 32-bit, low
- * byte first, from -1,000,000 to 1,000,000.
+ * byte first, from -10,000,000 to 10,000,000.
  *
  *   kind  body
  *   84    type: 1 byte: 1 points, 2 line, 3 region
@@ -84,6 +84,11 @@
  * above its second was refused with 8, and a caller had to exchange the objects
  * and to turn the answer. Scenes that were taken before have the answers that
  * they had.
+ *
+ * Since 0.11.0 coordinates run to 10,000,000 on either side of 0, in scenes and
+ * in summaries; before, to 1,000,000, and what lies between was refused with 4,
+ * in a summary with 18. What was taken before has the answer that it had.
+ * karvoiss_estimate keeps 1,000,000.
  */
 #ifndef KARVOISS_H
 #define KARVOISS_H
@@ -343,7 +348,7 @@ karvoiss_summary_t karvoiss_summary(const uint8_t *object, size_t length);
  *
  *   its length is not 20, or byte 0 is not 83
  *   the type is not 1 to 3; byte 2 or byte 19 is not 0 or 1
- *   a coordinate is below -1,000,000 or above 1,000,000
+ *   a coordinate is below -10,000,000 or above 10,000,000
  *   a least coordinate is above its greatest
  *   empty:   a coordinate that is not 0, or byte 19 is 1
  *   points, not empty:  byte 19 is 1

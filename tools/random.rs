@@ -95,8 +95,8 @@ fn turn(a: Point, b: Point, c: Point) -> i64 {
 
 /// Some points anywhere in a window, joined by edges in random order as long as none touches another but at a common end.
 fn scattered(dice: &mut Dice) -> Net {
-    let size = dice.one_of(&[2, 4, 9, 1000, 2_000_000]);
-    let corner = if size > 1000 { (-1_000_000, -1_000_000) } else { (dice.below(2000) as i64 - 1000, dice.below(2000) as i64 - 1000) };
+    let size = dice.one_of(&[2, 4, 9, 1000, 20_000_000]);
+    let corner = if size > 1000 { (-10_000_000, -10_000_000) } else { (dice.below(2000) as i64 - 1000, dice.below(2000) as i64 - 1000) };
     let count = 3 + dice.below(8);
     let place = |dice: &mut Dice| (corner.0 + dice.below(size + 1) as i64, corner.1 + dice.below(size + 1) as i64);
     let points: Vec<Point> = (0..count).map(|_| place(dice)).collect::<BTreeSet<_>>().into_iter().collect();

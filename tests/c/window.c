@@ -10,7 +10,7 @@
 #include <stdlib.h>
 #include <string.h>
 
-enum { LIMIT = 1000000, SIZE = 20, MOST = 64, ROOM = 70 * SIZE };
+enum { LIMIT = 10000000, SIZE = 20, MOST = 64, ROOM = 70 * SIZE };
 
 /* What is asked: the bits of least x, least y, greatest x, greatest y, and the summaries' bytes. */
 struct asked {
@@ -413,7 +413,7 @@ static void expect(const char *what, const struct asked *a, struct told told)
 
 static void known_cases(void)
 {
-    const uint32_t one = 0x3F800000, ten = 0x41200000, nan = 0x7FC00000, infinite = 0x7F800000, minus = 0x80000000;
+    const uint32_t one = 0x3F800000, ten = 0x41200000, nan = 0x7FC00000, infinite = 0x7F800000, minus = 0x80000000, at_limit = 0x4B189680;
     struct asked a = {.bits = {one, one, ten, ten}, .length = SIZE};
 
     for (size_t k = 0; k < 70; k++)
@@ -440,6 +440,14 @@ static void known_cases(void)
         expect("an infinity", &b, refusal(27, 0));
     }
     a.length = SIZE;
+    put_square(a.bytes, LIMIT - 1, LIMIT);
+    a.bits[0] = a.bits[1] = a.bits[2] = a.bits[3] = at_limit;
+    expect("the last corner of the range", &a, (struct told){.word = 1, .hits = 1});
+    a.bits[0] = ++a.bits[2];
+    expect("a step past it", &a, (struct told){0});
+    put(a.bytes + 11, LIMIT + 1);
+    expect("a box that ends a step past it", &a, refusal(18, 0));
+    put_square(a.bytes, 0, 1);
     a.bits[0] = a.bits[1] = 0;
     a.bits[2] = a.bits[3] = minus;
     expect("from 0.0 to -0.0", &a, (struct told){.word = 1, .hits = 1});

@@ -1,5 +1,5 @@
 //! Scenes made by hand: document 01's twelve with their lines, its refusal table, traps of its wording, scenes with the higher type first, scenes that yes and
-//! no do not tell apart, and pictures of rare matrices. And objects with their summaries, pairs of summaries with what they tell, good summaries and bad ones.
+//! no do not tell apart, scenes at the corners of the range, and pictures of rare matrices. And objects with their summaries, pairs of summaries with what they tell, good summaries and bad ones.
 
 use crate::mistakes::RIGHT;
 use crate::picture;
@@ -64,8 +64,8 @@ pub fn twelve() -> Vec<Known> {
         known("i", line(&[&[(0, 2), (2, 2), (4, 2)]]), line(&[&[(2, 0), (2, 2), (2, 4)]]), "ok 2 2 38 5 0F1FF0102"),
         known("j", line(&[&[(2, 2), (4, 2), (6, 2)]]), region(&[&split_square]), "ok 2 3 93 1 1010F0212"),
         known("k", none(), line(&[&triangle]), "ok 1 2 0 0 FFFFFF1F2"),
-        known("l", points(&[(1_000_001, 0)]), none(), "no 4 2"),
-        known("l with 1000000", points(&[(1_000_000, 0)]), none(), "ok 1 1 1 0 FF0FFFFF2"),
+        known("l", points(&[(10_000_001, 0)]), none(), "no 4 2"),
+        known("l with 10000000", points(&[(10_000_000, 0)]), none(), "ok 1 1 1 0 FF0FFFFF2"),
         known("1,024 points", points(&many), none(), "ok 1 1 1 0 FF0FFFFF2"),
     ]
 }
@@ -106,7 +106,7 @@ pub fn refusal_table() -> Vec<Known> {
         known("1", vec![84, 1], "no 1 2"),
         known("2", vec![84, 1, 76], "no 2 2"),
         known("3", vec![84, 4], "no 3 0"),
-        known("4", joined(&[&[84, 1], &point_record((1_000_001, 0))]), "no 4 2"),
+        known("4", joined(&[&[84, 1], &point_record((10_000_001, 0))]), "no 4 2"),
         known("5", joined(&[&[84, 2], &half_record(LINE, &half((3, 0), (3, 0), true, false))]), "no 5 2"),
         known("6", joined(&[&[84, 1], &many]), "no 6 9218"),
         known("7", vec![84, 1, 69, 84, 1, 69, 0], "no 7 6"),
@@ -126,7 +126,7 @@ pub fn reading_traps() -> Vec<Known> {
     let empty = |kind| as_given(kind, &[]);
     let many: Vec<u8> = (0..1024).flat_map(|i| point_record((i / 32, i % 32))).collect();
     let long_line = half_record(LINE, &half((0, 0), (4, 0), true, false));
-    let wrong_d = joined(&[&half_record(LINE, &half((1_000_001, 0), (0, 0), true, false))[..17], &[2]]);
+    let wrong_d = joined(&[&half_record(LINE, &half((10_000_001, 0), (0, 0), true, false))[..17], &[2]]);
     let right_only = half((0, 0), (4, 0), false, false);
     vec![
         known("no byte", &[], "no 1 0"),
@@ -141,8 +141,8 @@ pub fn reading_traps() -> Vec<Known> {
         known("an end at once", &[&[69]], "no 2 0"),
         known("a type of 0", &[&[84, 0]], "no 3 0"),
         known("wrong d, wrong coordinate, wrong ends", &[&[84, 2], &wrong_d], "no 3 2"),
-        known("wrong coordinate, wrong ends", &[&[84, 2], &half_record(LINE, &half((1_000_001, 0), (0, 0), true, false))], "no 4 2"),
-        known("below the range", &[&[84, 1], &point_record((0, -1_000_001))], "no 4 2"),
+        known("wrong coordinate, wrong ends", &[&[84, 2], &half_record(LINE, &half((10_000_001, 0), (0, 0), true, false))], "no 4 2"),
+        known("below the range", &[&[84, 1], &point_record((0, -10_000_001))], "no 4 2"),
         known("the smallest number", &[&[84, 1], &point_record((i32::MIN as i64, 0))], "no 4 2"),
         known("vertical, upside down", &[&[84, 2], &half_record(LINE, &half((0, 4), (0, 0), true, false))], "no 5 2"),
         known("a third object", &[&[84, 1, 69, 84, 1, 69, 84, 1, 69]], "no 7 6"),
@@ -289,7 +289,7 @@ pub fn answer_traps() -> Vec<Known> {
             region(&[&rectangle(0, 0, 8, 8), &rectangle(1, 1, 7, 7), &rectangle(3, 3, 5, 5)]),
             "ok 1 3 1 0 0FFFFF212",
         ),
-        scene("limit to limit", square(-1_000_000, 1_000_000), region(&[&rectangle(-999_999, -999_999, 999_999, 999_999)]), "ok 3 3 3 12 212FF1FF2"),
+        scene("limit to limit", square(-FAR, FAR), square(1 - FAR, FAR - 1), "ok 3 3 3 12 212FF1FF2"),
     ]
 }
 
@@ -327,6 +327,65 @@ pub fn extents() -> Vec<Known> {
             "ok 2 2 14 3 0010FF1F2",
         ),
     ]
+}
+
+/// The largest coordinate.
+const FAR: i64 = 10_000_000;
+
+/// One more than that, or less, in each coordinate of each kind of record.
+fn out_of_range() -> Vec<Known> {
+    let mut all = Vec::new();
+    for beyond in [FAR + 1, -FAR - 1] {
+        for k in 0..4 {
+            let mut values = [0, 0, 4, 0];
+            values[k] = beyond;
+            let h = half((values[0], values[1]), (values[2], values[3]), true, false);
+            all.push(Known { name: "a line out of range", bytes: joined(&[&[84, 2], &half_record(LINE, &h)]), line: "no 4 2" });
+            all.push(Known { name: "a region out of range", bytes: joined(&[&[84, 3], &half_record(REGION, &h)]), line: "no 4 2" });
+        }
+        for p in [(beyond, 0), (0, beyond)] {
+            all.push(Known { name: "a point out of range", bytes: joined(&[&[84, 1], &point_record(p)]), line: "no 4 2" });
+        }
+    }
+    all
+}
+
+/// Scenes at the four corners of the range, and of points that one number for both coordinates, made with too little room for y, takes for one.
+pub fn wide_ground() -> Vec<Known> {
+    let scene = |name, f: Object, g: Object, line| Known { name, bytes: scene_bytes(&f, &g), line };
+    let corners: [Point; 4] = [(-FAR, -FAR), (FAR, -FAR), (FAR, FAR), (-FAR, FAR)];
+    // three of the corners, one left out: its longest side is slanting, the others are vertical and level
+    let half_square = |out: usize| region(&[&[corners[(out + 1) % 4], corners[(out + 2) % 4], corners[(out + 3) % 4], corners[(out + 1) % 4]]]);
+    let about = || points(&[&corners[..], &[(0, 0), (1, 0), (0, 1), (-1, 0), (0, -1)]].concat());
+    let diagonals = [[corners[0], corners[2]], [corners[1], corners[3]]];
+    let at_the_middle = diagonals.map(|[p, q]| [p, (0, 0), q]);
+    let sliver: [Point; 4] = [(-FAR, -FAR), (FAR, -FAR), (FAR, FAR - 1), (-FAR, -FAR)];
+    let split: [Point; 9] = [(-FAR, -FAR), (0, -FAR), (FAR, -FAR), (FAR, 0), (FAR, FAR), (0, FAR), (-FAR, FAR), (-FAR, 0), (-FAR, -FAR)];
+    let diamond: [Point; 5] = [(0, -FAR), (FAR, 0), (0, FAR), (-FAR, 0), (0, -FAR)];
+    let upright = |x: i64| line(&[&[(x, -FAR), (x, FAR)]]);
+    let mut all = out_of_range();
+    all.extend((0..4).map(|out| scene("about a half of the range", about(), half_square(out), "ok 1 3 7 0 000FFF212")));
+    all.extend([
+        scene("document 01's bytes of l", points(&[(1_000_001, 0)]), points(&[]), "ok 1 1 1 0 FF0FFFFF2"),
+        scene("21 bits for y", points(&[(0, 2_097_152)]), points(&[(1, 0)]), "ok 1 1 1 1 FF0FFF0F2"),
+        scene("24 bits for y", points(&[(0, 6_777_216)]), points(&[(1, -FAR)]), "ok 1 1 1 1 FF0FFF0F2"),
+        scene("from 42 bits on", points(&[(-7_902_848, 0)]), points(&[(-7_902_848, 0)]), "ok 1 1 2 0 0FFFFFFF2"),
+        scene("the corners twice", points(&corners), points(&corners), "ok 1 1 2 0 0FFFFFFF2"),
+        scene("inside a half, beside its slanting side", points(&[(1, 0)]), half_square(3), "ok 1 3 1 0 0FFFFF212"),
+        scene("outside a half, beside its slanting side", points(&[(0, 1)]), half_square(3), "ok 1 3 4 0 FF0FFF212"),
+        scene("just below a slanting side", points(&[(FAR - 1, FAR - 2)]), region(&[&sliver]), "ok 1 3 1 0 0FFFFF212"),
+        scene("just above a slanting side", points(&[(FAR - 1, FAR - 1)]), region(&[&sliver]), "ok 1 3 4 0 FF0FFF212"),
+        scene("the diagonals", line(&[&diagonals[0]]), line(&[&diagonals[1]]), "no 15 2"),
+        scene("the diagonals, split", line(&[&at_the_middle[0]]), line(&[&at_the_middle[1]]), "ok 2 2 38 5 0F1FF0102"),
+        scene("to the middle of a vertical side", upright(FAR), line(&[&[(-FAR, -FAR), (FAR, 0)]]), "no 15 2"),
+        scene("almost to the middle of a vertical side", upright(FAR), line(&[&[(-FAR, -FAR), (FAR - 1, 0)]]), "ok 2 2 36 5 FF1FF0102"),
+        scene("a diagonal of the range", line(&[&diagonals[1]]), square(-FAR, FAR), "ok 2 3 33 1 1FFF0F212"),
+        scene("a side of the range", upright(-FAR), square(-FAR, FAR), "ok 2 3 34 1 F1FF0F212"),
+        scene("a vertical side beside a half", upright(FAR), half_square(2), "ok 2 3 100 1 FF1F00212"),
+        scene("a diamond in the range", region(&[&split]), region(&[&diamond]), "ok 3 3 131 12 212F01FF2"),
+        scene("two halves of the range", half_square(0), half_square(2), "ok 3 3 195 3 FF2F11212"),
+    ]);
+    all
 }
 
 /// A question for the vectors under two masks, and both vectors or the refusal.
@@ -454,12 +513,12 @@ pub fn summarised() -> Vec<Known> {
         object("a closed line", line(&[&[(0, 0), (4, 0), (0, 3), (0, 0)]]), "53 02 00 00 00 00 00 00 00 00 00 04 00 00 00 03 00 00 00 00"),
         object("two closed rings joined by a bridge", line(&bridged), "53 02 00 00 00 00 00 00 00 00 00 06 00 00 00 06 00 00 00 01"),
         object("a square", square(0, 4), "53 03 00 00 00 00 00 00 00 00 00 04 00 00 00 04 00 00 00 01"),
-        object("limit to limit", square(-1_000_000, 1_000_000), "53 03 00 c0 bd f0 ff c0 bd f0 ff 40 42 0f 00 40 42 0f 00 01"),
+        object("limit to limit", square(-FAR, FAR), "53 03 00 80 69 67 ff 80 69 67 ff 80 96 98 00 80 96 98 00 01"),
         known("no byte", vec![], "no 1 0"),
         known("a type alone", vec![84, 1], "no 1 2"),
         known("another kind", vec![84, 1, 76], "no 2 2"),
         known("type 4", vec![84, 4], "no 3 0"),
-        object("out of range", points(&[(1_000_001, 0)]), "no 4 2"),
+        object("out of range", points(&[(FAR + 1, 0)]), "no 4 2"),
         known("ends the wrong way round", joined(&[&[84, 2], &half_record(LINE, &half((3, 0), (2, 0), true, false))]), "no 5 2"),
         known("1,025 points", joined(&[&[84, 1], &many]), "no 6 9218"),
         known("a byte after the end", vec![84, 1, 69, 0], "no 7 3"),
@@ -523,7 +582,7 @@ pub fn told() -> Vec<Told> {
 
 /// The summary of a point that is far from what `judged` has.
 pub fn a_point() -> Vec<u8> {
-    summary_of(&points(&[(999_999, -999_999)]))
+    summary_of(&points(&[(FAR - 1, 1 - FAR)]))
 }
 
 /// Good summaries and bad ones: for each way of being bad, the nearest that are bad and the nearest that are not.
@@ -531,7 +590,7 @@ pub fn judged() -> Vec<(String, Vec<u8>, bool)> {
     const GOOD: bool = true;
     const BAD: bool = false;
     let summary = |kind, empty, least: Point, greatest: Point, boundary| Summary { kind, empty, least, greatest, boundary };
-    let (origin, limit) = ((0, 0), 1_000_000);
+    let (origin, limit) = ((0, 0), FAR);
     let region = summary(REGION, false, (-1, -2), (3, 4), true).bytes().to_vec();
     let mut all = Vec::new();
 
@@ -587,7 +646,7 @@ pub fn judged() -> Vec<(String, Vec<u8>, bool)> {
 
 /// Every scene made by hand that has a known line, but for the pictures.
 pub fn known() -> Vec<Known> {
-    [twelve(), refusal_table(), reading_traps(), answer_traps(), either_order(), extents()].into_iter().flatten().collect()
+    [twelve(), refusal_table(), reading_traps(), answer_traps(), either_order(), extents(), wide_ground()].into_iter().flatten().collect()
 }
 
 /// A cell picture's matrix, for pictures of faces alone: one letter each, lines from above parted by a slash.

@@ -12,7 +12,8 @@ use crate::maker::{full, side_by_side, small, some_pair, with_hub};
 use crate::mistakes::{Rules, RIGHT};
 use crate::pieces::Extent;
 use crate::random::Random;
-use crate::scene::{object_bytes, read_scene, scene_bytes, REGION};
+use crate::scaled;
+use crate::scene::{object_bytes, read_scene, scene_bytes, MOST, REGION};
 use crate::summary::{are_far, far, summary, FarAnswer, Summary};
 use crate::tally::Tally;
 use std::fmt::Debug;
@@ -91,7 +92,8 @@ impl Case {
     }
 }
 
-/// Asks everything about a case, and if it has two objects everything again with these exchanged. An error says what disagreed.
+/// Asks everything about a case, if it has two objects everything again with these exchanged, and the engine once more with every coordinate times ten. An error
+/// says what disagreed.
 pub fn ask(case: &Case, rules: &Rules, tally: &mut Tally) -> Result<(), String> {
     let judgement = judge(&case.bytes, rules);
     if case.must_be_taken && !judgement.is_taken() && !judge(&case.bytes, &RIGHT).is_taken() {
@@ -115,6 +117,10 @@ pub fn ask(case: &Case, rules: &Rules, tally: &mut Tally) -> Result<(), String> 
         }
         tally.both_ways += 1;
     }
+    if let Some(tenfold) = scaled::bytes(&case.bytes) {
+        same_scaled(&case.bytes, &tenfold, judgement.all_flags()).map_err(|what| failure(case, &tenfold, &what))?;
+        tally.tenfold += judgement.is_taken() as usize;
+    }
     Ok(())
 }
 
@@ -132,6 +138,19 @@ pub fn ask_areas(case: &Case, _: &Rules, tally: &mut Tally) -> Result<(), String
     }
     tally.both_ways += 1;
     Ok(())
+}
+
+/// The engine's answers to two byte strings, one of them the other scaled, places and lists too.
+fn same_scaled(bytes: &[u8], scaled: &[u8], (all_f, all_g): (u16, u16)) -> Result<(), String> {
+    let answers = [bytes, scaled].map(|scene| {
+        let mut list = vec![0; MOST];
+        let overlap = library::overlap(scene, &mut list);
+        (library::vectors(scene, all_f, all_g), library::cells(scene), overlap, list)
+    });
+    if answers[0] == answers[1] {
+        return Ok(());
+    }
+    Err(format!("every coordinate times ten\n  before: {:?}\n  after:  {:?}", answers[0], answers[1]))
 }
 
 fn failure(case: &Case, bytes: &[u8], what: &str) -> String {

@@ -23,6 +23,7 @@ mod pieces;
 mod plan;
 mod plane;
 mod random;
+mod scaled;
 mod scene;
 mod summary;
 mod tally;

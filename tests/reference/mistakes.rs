@@ -79,8 +79,8 @@ pub struct Mistake {
 }
 
 /// Every mistake, by the name that `--mistake` takes: the four, from "refuse-all" on the imitations, then those about two zero masks, those about scenes whose
-/// first type is above the second, those about hubs, those about what a cell extends to, those about patterns, those about summaries, and those about areas.
-pub const MISTAKES: [Mistake; 56] = [
+/// first type is above the second, those about hubs, those about what a cell extends to, those about patterns, those about summaries, those about areas, and one about the range.
+pub const MISTAKES: [Mistake; 57] = [
     Mistake {
         name: "next-halfsegment",
         says: "a line's end is a boundary point if the next halfsegment starts elsewhere",
@@ -294,6 +294,7 @@ pub const MISTAKES: [Mistake; 56] = [
         rules: Rules { spoil: |j| sum_again(j, |s| if s.of_both && s.terms[0] == 0 { s.terms.map(|term| -term) } else { [0; 3] }), ..RIGHT },
     },
     Mistake { name: "areas-exchanged", says: "in F only and in G only are exchanged", rules: Rules { spoil: |j| j.areas.swap(1, 2), ..RIGHT } },
+    Mistake { name: "narrow-ground", says: "4 beyond 1,000,000, as document 01 has it", rules: Rules { spoil: narrow_ground, ..RIGHT } },
 ];
 
 /// A segment of two regions, with its terms in the three shoelace sums.
@@ -391,6 +392,16 @@ fn empty_as_points(judgement: &mut Judgement) {
     if judgement.is_taken() {
         judgement.cells.iter_mut().flatten().filter(|cell| cell.is_empty()).for_each(|cell| *cell = Extent::Points);
     }
+}
+
+fn narrow_ground(judgement: &mut Judgement) {
+    let beyond = |p: &Point| p.0.abs().max(p.1.abs()) > 1_000_000;
+    let first = |object: &Object| {
+        let ends = object.halves.iter().map(|h| beyond(&h.segment.left) || beyond(&h.segment.right));
+        object.points.iter().map(beyond).chain(ends).position(|is| is).map(|i| object.places[i])
+    };
+    let place = first(&judgement.f).or_else(|| first(&judgement.g));
+    judgement.early = judgement.early.or(place.map(|place| Refusal { number: 4, place }));
 }
 
 fn ends_before_a_change(line: &Object) -> Vec<Point> {

@@ -7,7 +7,7 @@ use std::cmp::Ordering;
 pub type Point = (i64, i64);
 
 /// The largest coordinate taken; its negative is the smallest.
-pub const LIMIT: i64 = 1_000_000;
+pub const LIMIT: i64 = 10_000_000;
 
 #[derive(Clone, Copy, PartialEq, Eq, PartialOrd, Ord, Debug)]
 pub struct Segment {

@@ -45,6 +45,8 @@ pub struct Tally {
     pub questions: usize,
     /// Pairs of objects that were asked about in both orders, with answers that agree.
     pub both_ways: usize,
+    /// Scenes that were taken and asked about with every coordinate times ten too, with the same answers.
+    pub tenfold: usize,
     taken: usize,
     full_size: usize,
     at_limit: usize,
@@ -142,8 +144,8 @@ impl Tally {
         let complete = reach == Reach::Everything;
         let mut wrong = Vec::new();
         println!(
-            "{} scenes, {} pairs both ways, {} taken ({} with 1,024 elements, {} at the limits), {} questions",
-            self.scenes, self.both_ways, self.taken, self.full_size, self.at_limit, self.questions
+            "{} scenes, {} pairs both ways, {} taken ({} with 1,024 elements, {} at the limits), {} questions, {} taken scenes times ten",
+            self.scenes, self.both_ways, self.taken, self.full_size, self.at_limit, self.questions, self.tenfold
         );
         let times = |number| *self.refusals.get(&number).unwrap_or(&0);
         println!("refusals: {}", NUMBERS.iter().map(|number| format!("{}: {}", number, times(*number))).collect::<Vec<_>>().join("  "));
@@ -205,8 +207,8 @@ impl Tally {
                 }
             }
         }
-        if complete && (self.full_size < LEAST || self.at_limit < LEAST) {
-            wrong.push("too few scenes of full size or at the limits".to_string());
+        if complete && (self.full_size < LEAST || self.at_limit < LEAST || self.tenfold < LEAST) {
+            wrong.push("too few scenes of full size, at the limits or times ten".to_string());
         }
         wrong
     }

@@ -61,14 +61,14 @@ mod tests {
 
     #[test]
     fn whole_numbers() {
-        let words = ["0", "-0", "+7", "-12", "3.000", "3.", "1e3", "12.5E1", "1200e-2", "0e99999999999", "007", "1000001"];
-        let values = [0, 0, 7, -12, 3, 3, 1000, 125, 12, 0, 7, 1000001];
+        let words = ["0", "-0", "+7", "-12", "3.000", "3.", "1e3", "12.5E1", "1200e-2", "0e99999999999", "007", "10000001"];
+        let values = [0, 0, 7, -12, 3, 3, 1000, 125, 12, 0, 7, 10000001];
         assert_eq!(words.map(whole), values.map(Some));
     }
 
     #[test]
     fn other_words() {
-        assert!(["1.5", "0.0001", "1e-1", "12e-99999999999", "1000001.25"].iter().all(|w| matches!(read(w), Number::NotWhole)));
+        assert!(["1.5", "0.0001", "1e-1", "12e-99999999999", "10000001.25"].iter().all(|w| matches!(read(w), Number::NotWhole)));
         assert!(["1e16", "1e99999999999", "12345678901234567890"].iter().all(|w| matches!(read(w), Number::Large)));
         assert!(["", "-", ".", "x", "1x", "1e", "--1", "1.2.3", "1e1e1"].iter().all(|w| matches!(read(w), Number::NoNumber)));
     }

@@ -4,7 +4,7 @@
 use std::cmp::Ordering;
 
 /// Coordinates run from -LIMIT to LIMIT.
-pub const LIMIT: i64 = 1_000_000;
+pub const LIMIT: i64 = 10_000_000;
 
 /// Ordered by x, then y.
 #[derive(Clone, Copy, PartialEq, Eq, PartialOrd, Ord, Hash, Debug)]

@@ -10,7 +10,7 @@ pub fn of(number: usize) -> Refusal {
         1 => ("the bytes end before a record or inside it", BYTES),
         2 => ("a record of this kind is not allowed here", BYTES),
         3 => ("a type that is not 1 to 3, or a d or ia that is not 0 or 1", BYTES),
-        4 => ("a coordinate is outside the range", "Move the objects into the range, -1000000 to 1000000."),
+        4 => ("a coordinate is outside the range", "Move the objects into the range, -10000000 to 10000000."),
         5 => ("the left end of a segment is not before its right end", BYTES),
         6 => ("an object has more than 1,024 elements", "Leave out elements: an object has at most 1,024 points or 512 segments."),
         7 => ("there are bytes after the second object", BYTES),
@@ -32,3 +32,14 @@ pub fn of(number: usize) -> Refusal {
 }
 
 const BYTES: &str = "The bytes themselves are at fault: `scene make` makes none like these.";
+
+#[cfg(test)]
+mod tests {
+    use crate::plane::LIMIT;
+
+    #[test]
+    fn range_in_words() {
+        let range = format!("-{LIMIT} to {LIMIT}");
+        assert!(super::of(4).advice.contains(&range) && include_str!("help.txt").contains(&range));
+    }
+}

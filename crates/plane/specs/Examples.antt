@@ -19,7 +19,7 @@ at x y = record { x = x; y = y }
 abbrev from : Point → Point → Segment
 from p q = record { left = p; right = q }
 
-in-range : map inRange (at (negsuc 999999) (pos 1000000) ∷ at (negsuc 1000000) (pos 0) ∷ at (pos 0) (pos 1000001) ∷ []) ≡ (true ∷ false ∷ false ∷ [])
+in-range : map inRange (at (negsuc 9999999) (pos 10000000) ∷ at (negsuc 10000000) (pos 0) ∷ at (pos 0) (pos 10000001) ∷ []) ≡ (true ∷ false ∷ false ∷ [])
 unfolding within
 in-range = refl
 
@@ -96,10 +96,10 @@ closed = refl
 
 -- ---- points about a segment as long as can be: its ends, its middle, a point of its line beyond it, and one just off it
 abbrev long : Segment
-long = from (at (negsuc 999999) (negsuc 999999)) (at (pos 1000000) (pos 999998))
+long = from (at (negsuc 9999999) (negsuc 9999999)) (at (pos 10000000) (pos 9999998))
 
 on-long :
-    map (on long) (grid (long .left) ∷ grid (long .right) ∷ midpoint long ∷ grid (at (pos 3000000) (pos 2999996)) ∷ grid (at (pos 0) (pos 0)) ∷ [])
+    map (on long) (grid (long .left) ∷ grid (long .right) ∷ midpoint long ∷ grid (at (pos 30000000) (pos 29999996)) ∷ grid (at (pos 0) (pos 0)) ∷ [])
     ≡ (true ∷ true ∷ true ∷ false ∷ false ∷ [])
 unfolding on notBefore notAfter sideAt
 on-long = refl

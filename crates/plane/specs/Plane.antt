@@ -13,9 +13,9 @@ use Rattle.plane.specs.declared.Halfsegment.{Halfsegment}
 use Rattle.plane.specs.declared.Turn.{Turn}
 use Rattle.plane.specs.declared.Turn.the-variants.{Left, Straight, Right}
 
--- "Coordinates are whole numbers from -1,000,000 to 1,000,000."
+-- "Coordinates run from -10,000,000 to 10,000,000" (02, Paper 13).
 abbrev pub limit : ℕ
-limit = 1000000
+limit = 10000000
 
 unfoldable pub within : ℕ → Point → Bool
 within n p = leb (natAbs (p .x)) n && leb (natAbs (p .y)) n

@@ -8,7 +8,7 @@ ghost use lib.IntN.{natAbs, _-ℤ_};
 ghost use Rattle.plane.specs.Plane.{limit, within, inRange, before, samePoint, sameSegment, side, turn};
 
 // The largest coordinate, and minus the smallest.
-pub const LIMIT: i32 = 1_000_000;
+pub const LIMIT: i32 = 10_000_000;
 
 // A grid point.
 pub struct Point {

@@ -3,7 +3,7 @@ use Prim.Native.Nat.{ℕ, suc, _+_, _*_, _-_, _<_, _≤_}
 use native.Mathlib.Omega.{arith}
 use mathlib.Core.Path.{_≡_, refl, ap}
 use mathlib.Core.Bool.{Bool, true, false, _&&_, _||_}
-use lib.Dec.{T, ltb, eqb, lt→ltb}
+use lib.Dec.{T, ltb, eqb, lt→ltb, lit≤}
 use lib.IntN.{ℤ, pos, negsuc, natAbs, _+ℤ_}
 use lib.Signed.{ltZ}
 use borrow.Author.Tests.{ltb-true, ltb-false, lt-ltb, le-ltb, eq-eqb, eqb-true}
@@ -13,7 +13,7 @@ use Rattle.plane.specs.declared.Point.{Point}
 use Rattle.plane.specs.Plane.{limit, inRange, before, samePoint}
 use Rattle.plane.proofs.Equal.{point-eq, samePoint-read, samePoint-refl}
 use Rattle.plane.proofs.Machine.{eqZ-yes, within-x, within-y}
-use Rattle.scene_keys.specs.Keyed.{raised, key, top, next}
+use Rattle.scene_keys.specs.Keyed.{raised, room, key, top, next}
 
 -- ---- a coordinate in range
 
@@ -37,12 +37,18 @@ raised-less (pos a) (negsuc b) h k l = absurd (omega arith)
 raised-less (negsuc a) (pos b) h k l = tt
 raised-less (negsuc a) (negsuc b) h k l = lt→ltb b a (omega arith)
 
--- ---- two digits
+-- ---- two digits: the one place that asks whether the radix is large enough for the limit
 
-digits-first : (x y u v : ℕ) → y ≤ 2 * limit → v ≤ 2 * limit → 2097152 * x + y ≡ 2097152 * u + v → x ≡ u
+room-enough : 2 * limit < room
+room-enough = lit≤ tt
+
+raised-digit : (z : ℤ) → natAbs z ≤ limit → raised z < room
+raised-digit z h = omega (arith, raised-most z h, room-enough)
+
+digits-first : (x y u v : ℕ) → y < room → v < room → room * x + y ≡ room * u + v → x ≡ u
 digits-first x y u v h k e = omega arith
 
-digits-second : (x y u v : ℕ) → y ≤ 2 * limit → v ≤ 2 * limit → 2097152 * x + y ≡ 2097152 * u + v → y ≡ v
+digits-second : (x y u v : ℕ) → y < room → v < room → room * x + y ≡ room * u + v → y ≡ v
 digits-second x y u v h k e = omega arith
 
 -- ---- points in range
@@ -50,7 +56,7 @@ digits-second x y u v h k e = omega arith
 module _ (p : Point) (h : T (inRange p)) where
   pub key-below : key p < top
   unfolding key
-  key-below = omega (arith, raised-most (p .x) (within-x limit p h), raised-most (p .y) (within-y limit p h))
+  key-below = omega (arith, raised-digit (p .x) (within-x limit p h), raised-digit (p .y) (within-y limit p h))
 
 module _ (p q : Point) (h : T (inRange p)) (k : T (inRange q)) where
   key-once : key p ≡ key q → p ≡ q
@@ -59,11 +65,11 @@ module _ (p q : Point) (h : T (inRange p)) (k : T (inRange q)) where
       point-eq (raised-once (p .x) (q .x) (within-x limit p h) (within-x limit q k) (digits-first (raised (p .x)) (raised (p .y)) (raised (q .x)) (raised (q .y)) y v e))
       (raised-once (p .y) (q .y) (within-y limit p h) (within-y limit q k) (digits-second (raised (p .x)) (raised (p .y)) (raised (q .x)) (raised (q .y)) y v e))
     where
-      y : raised (p .y) ≤ 2 * limit
-      y = raised-most (p .y) (within-y limit p h)
+      y : raised (p .y) < room
+      y = raised-digit (p .y) (within-y limit p h)
 
-      v : raised (q .y) ≤ 2 * limit
-      v = raised-most (q .y) (within-y limit q k)
+      v : raised (q .y) < room
+      v = raised-digit (q .y) (within-y limit q k)
 
   pub same-key : samePoint p q ≡ eqb (key p) (key q)
   same-key =
@@ -74,13 +80,13 @@ module _ (p q : Point) (h : T (inRange p)) (k : T (inRange q)) where
   unfolding key before
   key-less l = go (ltb (raised (p .x)) (raised (q .x))) refl
     where
-      y : raised (p .y) ≤ 2 * limit
-      y = raised-most (p .y) (within-y limit p h)
+      y : raised (p .y) < room
+      y = raised-digit (p .y) (within-y limit p h)
 
-      v : raised (q .y) ≤ 2 * limit
-      v = raised-most (q .y) (within-y limit q k)
+      v : raised (q .y) < room
+      v = raised-digit (q .y) (within-y limit q k)
 
-      level : (x y u v : ℕ) → y ≤ 2 * limit → v ≤ 2 * limit → 2097152 * x + y < 2097152 * u + v → u ≤ x → (x ≡ u) × (y < v)
+      level : (x y u v : ℕ) → y < room → v < room → room * x + y < room * u + v → u ≤ x → (x ≡ u) × (y < v)
       level x y u v h k l g = (omega arith, omega arith)
 
       go : (b : Bool) → ltb (raised (p .x)) (raised (q .x)) ≡ b → T (ltZ (p .x) (q .x) || (eqZ (p .x) (q .x) && ltZ (p .y) (q .y)))

@@ -17,13 +17,17 @@ abbrev pub raised : ℤ → ℕ
 raised (pos n) = limit + n
 raised (negsuc n) = limit - suc n
 
--- x first, then y, which is below 2 ^ 21
-unfoldable pub key : Point → ℕ
-key p = 2097152 * raised (p .x) + raised (p .y)
+-- the radix of a key, 2 ^ 25: above every raised coordinate (`room-enough`)
+abbrev pub room : ℕ
+room = 33554432
 
--- 2 ^ 42, above the key of every point in range
+-- x first, then y
+unfoldable pub key : Point → ℕ
+key p = room * raised (p .x) + raised (p .y)
+
+-- above the key of every point in range
 abbrev pub top : ℕ
-top = 4398046511104
+top = room * room
 
 -- n elements with the keys u: the key of the element i, and past the last
 abbrev pub next : ℕ → (ℕ → ℕ) → ℕ → ℕ

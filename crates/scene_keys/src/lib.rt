@@ -13,8 +13,11 @@ ghost use Rattle.plane.specs.Plane.{limit, inRange, dominating};
 ghost use Rattle.scene.specs.Read.{halfsegmentAt, size, place, IsObject};
 ghost use Rattle.scene_keys.specs.Keyed.{raised, key, pointIn, nextKey};
 
+// The radix of a key: a power of two above every raised coordinate.
+const ROOM: u64 = 33_554_432;
+
 // The key past the last element, above that of every point.
-pub const TOP: u64 = 4398046511104;
+pub const TOP: u64 = ROOM * ROOM;
 
 // A coordinate, counted from the least.
 fn raised(v: i32) -> u64
@@ -29,7 +32,7 @@ fn key(p: Point) -> u64
     requires { ⌜ T (inRange p) ⌝ }
     ensures { λ r. ⌜ r ≡ key p ⌝ }
 {
-    2097152 * raised(p.x) + raised(p.y)
+    ROOM * raised(p.x) + raised(p.y)
 }
 
 // The dominating point of the halfsegment at an offset, without a branch.

@@ -90,8 +90,8 @@ table =
     ++ R 4 0 4 2 1 1 ++ R 4 0 4 2 0 1 ++ R 4 2 4 4 1 1 ++ R 0 4 4 4 0 0 ++ R 4 2 4 4 0 1) gives "ok 2 3 93 1 1010F0212\n")
     -- k. no points; line round (0,0), (4,0), (0,3)
     ∷ (points [] ++ line (L 0 0 4 0 1 ++ L 0 0 0 3 1 ++ L 0 0 0 3 0 ++ L 0 3 4 0 1 ++ L 0 3 4 0 0 ++ L 0 0 4 0 0) gives "ok 1 2 0 0 FFFFFF1F2\n")
-    -- l. points (1000001,0); no points
-    ∷ (points (P 1000001 0) ++ points [] gives "no 4 2\n")
+    -- l. points (10000001,0); no points
+    ∷ (points (P 10000001 0) ++ points [] gives "no 4 2\n")
     ∷ []
 
 -- ---- the statement

@@ -42,6 +42,8 @@ impl Frame {
         let step = round_step(50.0 / self.scale);
         let style = "stroke=\"#ececec\" stroke-width=\"1\"";
         let number = "font-size=\"10\" fill=\"#8a8a8a\"";
+        // the longest, -10000000, would pass the picture's left edge
+        let narrow = "font-size=\"9\" fill=\"#8a8a8a\"";
         for x in multiples(step, self.middle.0, WIDTH / 2.0 / self.scale) {
             let at = self.place(x, 0.0).0;
             svg.line((at, TOP), (at, TOP + HEIGHT), style);
@@ -50,7 +52,9 @@ impl Frame {
         for y in multiples(step, self.middle.1, HEIGHT / 2.0 / self.scale) {
             let at = self.place(0.0, y).1;
             svg.line((LEFT, at), (LEFT + WIDTH, at), style);
-            svg.text((LEFT - 6.0, at + 3.5), &format!("{number} text-anchor=\"end\""), &n(y));
+            let words = n(y);
+            let number = if words.len() > 8 { narrow } else { number };
+            svg.text((LEFT - 6.0, at + 3.5), &format!("{number} text-anchor=\"end\""), &words);
         }
         svg.rect((LEFT, TOP), (WIDTH, HEIGHT), "fill=\"none\" stroke=\"#c8c8c8\"");
     }

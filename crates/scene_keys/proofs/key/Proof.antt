@@ -5,7 +5,7 @@ use borrow.Author.Needs.{needs}
 use mir.Facts.{toZ-ofZ}
 use Rattle.plane.specs.Plane.{limit}
 use Rattle.plane.proofs.Machine.{Held, within-x, within-y}
-use Rattle.scene_keys.specs.Keyed.{raised, key}
+use Rattle.scene_keys.specs.Keyed.{raised, room, key}
 use Rattle.scene_keys.proofs.key.Statement.{statement}
 use Rattle.scene_keys.proofs.key.Tie as tie
 
@@ -28,7 +28,7 @@ returns : tie.Need-returns
 unfolding key
 returns c =
     let z = c .before .before .before .before in
-    ap₂ (λ x y. 2097152 * x + y) (c .before .before .raised .ensures .0 ∙ ap raised (toZ-ofZ (held z .x-fits))) (c .raised2 .ensures .0 ∙ ap raised (toZ-ofZ (held z .y-fits)))
+    ap₂ (λ x y. room * x + y) (c .before .before .raised .ensures .0 ∙ ap raised (toZ-ofZ (held z .x-fits))) (c .raised2 .ensures .0 ∙ ap raised (toZ-ofZ (held z .y-fits)))
 
 pub key-spec : {M : Type 1} → statement M
 key-spec = tie.close (tie.spec raised-requires mul-result raised-requires-2 add-result returns)

@@ -25,14 +25,14 @@ turn-from-requires-3 c κs = (tt, tt, tt)
 write-turn-requires-3 : tie.Need-write-turn-requires-3
 write-turn-requires-3 c κs = search needs
 
-sub-t8 : tie.Need-sub-t8
-sub-t8 c = search needs
+sub-write-corners : tie.Need-sub-write-corners
+sub-write-corners c = search needs
 
-sub-t9 : tie.Need-sub-t9
-sub-t9 c = search needs
+sub-write-corners-2 : tie.Need-sub-write-corners-2
+sub-write-corners-2 c = search needs
 
-sub-t8-2 : tie.Need-sub-t8-2
-sub-t8-2 c = search needs
+sub-write-corners-3 : tie.Need-sub-write-corners-3
+sub-write-corners-3 c = search needs
 
 turn-from-requires-4 : tie.Need-turn-from-requires-4
 unfolding within
@@ -48,6 +48,21 @@ turn-from-requires-5 c κs = (tt, tt, tt)
 write-turn-requires-5 : tie.Need-write-turn-requires-5
 write-turn-requires-5 c κs = search needs
 
+sub-write-corners-4 : tie.Need-sub-write-corners-4
+sub-write-corners-4 c = search needs
+
+write-corners-requires : tie.Need-write-corners-requires
+write-corners-requires c κs = search needs
+
+mul-write-corners : tie.Need-mul-write-corners
+mul-write-corners c = search needs
+
+mul-write-corners-2 : tie.Need-mul-write-corners-2
+mul-write-corners-2 c = search needs
+
+write-corners-requires-2 : tie.Need-write-corners-requires-2
+write-corners-requires-2 c κs = search needs
+
 returns : tie.Need-returns
 returns c = search needs
 
@@ -61,11 +76,16 @@ main-spec =
     write-turn-requires-2
     turn-from-requires-3
     write-turn-requires-3
-    sub-t8
-    sub-t9
-    sub-t8-2
+    sub-write-corners
+    sub-write-corners-2
+    sub-write-corners-3
     turn-from-requires-4
     write-turn-requires-4
     turn-from-requires-5
     write-turn-requires-5
+    sub-write-corners-4
+    write-corners-requires
+    mul-write-corners
+    mul-write-corners-2
+    write-corners-requires-2
     returns)
