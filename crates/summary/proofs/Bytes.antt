@@ -2,24 +2,25 @@
 -- tells what they tell.
 use Prim.Native.Nat.{ℕ, suc, _+_, _*_, _-_, _/_, _%_, _^_, _≤_, _<_}
 use native.Mathlib.Omega.{arith}
+use native.Mathlib.Decide.{decLt}
 use native.Mathlib.Nat.{div-div-eq-div-mul, div-one, div-add-mod', mod-eq-of-lt}
-use mathlib.Core.Path.{_≡_, refl, sym, ap, ap₂, _∙_, subst}
-use mathlib.Core.Bool.{Bool, true, false, not, _&&_, cond}
-use mathlib.Core.List.{List, [], _∷_}
+use mathlib.Core.Path.{_≡_, refl, sym, ap, ap₂, _∙_}
+use mathlib.Core.Bool.{Bool, true, false, _&&_, cond}
+use mathlib.Core.List.{List, [], _∷_, map}
 use lib.ListN.{length}
-use lib.Dec.{T, leb, ltb, eqb, leb→le}
+use lib.Dec.{T, leb, eqb, leb→le}
 use lib.IntN.{ℤ, pos, negsuc, natAbs, _-ℤ_}
-use borrow.Author.Tests.{lt-ltb, le-ltb}
+use borrow.Author.Tests.{lt-ltb, le-ltb, eqb-true}
 use Rattle.whole.specs.Count.{bit}
 use Rattle.whole.proofs.Balance.{P, N, balance-eq, sub-balanceℤ, pos-P, pos-N}
 use Rattle.whole.proofs.Logic.{and-left, and-right, is-true, true-is}
 use Rattle.plane.specs.declared.Point.{Point}
 use Rattle.plane.specs.Plane.{limit, within, inRange}
-use Rattle.plane.proofs.Equal.{point-eq}
 use Rattle.scene.specs.declared.Shape.{Shape}
 use Rattle.scene.specs.declared.Shape.the-variants.{Points, Line, Region}
-use Rattle.scene.specs.Read.{byte, signed, coordinate, pointAt, shapeNumber}
+use Rattle.scene.specs.Read.{byte, signed, word, coordinate, shapeNumber}
 use Rattle.scene.specs.Read as Read
+use Rattle.scene.specs.Conditions.{indices}
 use Rattle.summary.specs.declared.Summary.{Summary}
 use Rattle.summary.specs.Summary.{goodBox, goodFor, isGood, unsigned, digit, size, bytesOf, summaryAt, fieldsGood, fieldsGoodAt, goodAt, goodBytes, toldOf, askedOf}
 
@@ -123,6 +124,107 @@ good-bytes s t = ap₂ _&&_ (fields-good (s .shape) (s .empty) (s .boundary)) (a
 pub good-summary : (r : List ℕ) → goodBytes r ≡ true → T (isGood (summaryAt r 0))
 unfolding goodBytes goodAt
 good-summary r e = and-right (fieldsGoodAt r 0) (isGood (summaryAt r 0)) (and-right (eqb (length r) size) (fieldsGoodAt r 0 && isGood (summaryAt r 0)) (is-true _ e))
+
+-- ---- bytes that are good are those of the summary that they hold
+
+-- a list read number by number
+listed : (f : ℕ → ℕ) (r : List ℕ) (j : ℕ) → ((i : ℕ) → i < length r → f (j + i) ≡ byte r i) → map f (indices (length r) j) ≡ r
+listed f [] j h = refl
+listed f (n ∷ r) j h = ap₂ (λ (x : ℕ) (l : List ℕ). x ∷ l) (ap f none ∙ h 0 (omega arith)) (listed f r (suc j) (λ i b. ap f (along i) ∙ h (suc i) (omega arith)))
+  where
+    none : j ≡ j + 0
+    none = omega arith
+
+    along : (i : ℕ) → suc j + i ≡ j + suc i
+    along i = omega arith
+
+unsigned-back : (n : ℕ) → n < 2 ^ 32 → unsigned (signed n) ≡ n
+unfolding signed
+unsigned-back n h = go (decLt n (2 ^ 31))
+  where
+    go : Dec (n < 2 ^ 31) → unsigned (signed n) ≡ n
+    go (yes k) = rw (lt-ltb n (2 ^ 31) k)
+    go (no k) = rw (le-ltb n (2 ^ 31) (omega arith), lt-ltb n (2 ^ 32) h) (omega arith)
+
+parted : (n a b c d : ℕ) → n ≡ a + 256 * b + 65536 * c + 16777216 * d → a < 256 → b < 256 → c < 256 → d < 256
+    → (n / 1 % 256 ≡ a) × (n / 256 % 256 ≡ b) × (n / 65536 % 256 ≡ c) × (n / 16777216 % 256 ≡ d)
+parted n a b c d e p q r t = (omega arith, omega arith, omega arith, omega arith)
+
+shape-again : (n : ℕ) → 1 ≤ n → n ≤ 3 → shapeNumber (Read.shapeOf n) ≡ n
+unfolding Read.shapeOf
+shape-again n h k = go (decLt n 2) (decLt n 3)
+  where
+    go : Dec (n < 2) → Dec (n < 3) → shapeNumber (Read.shapeOf n) ≡ n
+    go (yes a) b = let e : n ≡ 1 = omega arith in rw e
+    go (no a) (yes b) = let e : n ≡ 2 = omega arith in rw e
+    go (no a) (no b) = let e : n ≡ 3 = omega arith in rw e
+
+bit-again : (n : ℕ) → n ≤ 1 → bit (eqb n 1) ≡ n
+bit-again n h = go (decLt n 1)
+  where
+    go : Dec (n < 1) → bit (eqb n 1) ≡ n
+    go (yes k) = let e : n ≡ 0 = omega arith in rw e
+    go (no k) = let e : n ≡ 1 = omega arith in rw e
+
+module _ (r : List ℕ) (bytes : (i : ℕ) → byte r i < 256) where
+  coordinate-again : (at : ℕ)
+      → (digit (coordinate r at) 1 ≡ byte r at) × (digit (coordinate r at) 256 ≡ byte r (at + 1)) × (digit (coordinate r at) 65536 ≡ byte r (at + 2)) × (digit (coordinate r at) 16777216 ≡ byte r (at + 3))
+  unfolding coordinate digit
+  coordinate-again at =
+      parted (unsigned (signed (word r at))) (byte r at) (byte r (at + 1)) (byte r (at + 2)) (byte r (at + 3))
+      (unsigned-back (word r at) (omega (arith, bytes at, bytes (at + 1), bytes (at + 2), bytes (at + 3)))) (bytes at) (bytes (at + 1)) (bytes (at + 2)) (bytes (at + 3))
+
+  pub record-again : goodBytes r ≡ true → bytesOf (summaryAt r 0) ≡ r
+  unfolding goodBytes goodAt
+  record-again e = fields ∙ ap (λ (n : ℕ). map (byte r) (indices n 0)) (sym whole) ∙ listed (byte r) r 0 (λ i h. ap (byte r) (none i))
+    where
+      none : (i : ℕ) → 0 + i ≡ i
+      none i = omega arith
+
+      t : T (eqb (length r) size && (fieldsGoodAt r 0 && isGood (summaryAt r 0)))
+      t = is-true _ e
+
+      whole : length r ≡ size
+      whole = eqb-true (length r) size (true-is (eqb (length r) size) (and-left (eqb (length r) size) (fieldsGoodAt r 0 && isGood (summaryAt r 0)) t))
+
+      good : T (fieldsGoodAt r 0)
+      good = and-left (fieldsGoodAt r 0) (isGood (summaryAt r 0)) (and-right (eqb (length r) size) (fieldsGoodAt r 0 && isGood (summaryAt r 0)) t)
+
+      kind-and-type : T (eqb (byte r 0) 83 && (leb 1 (byte r 1) && leb (byte r 1) 3))
+      kind-and-type = and-left (eqb (byte r 0) 83 && (leb 1 (byte r 1) && leb (byte r 1) 3)) (leb (byte r 2) 1 && leb (byte r 19) 1) good
+
+      kind : 83 ≡ byte r 0
+      kind = sym (eqb-true (byte r 0) 83 (true-is (eqb (byte r 0) 83) (and-left (eqb (byte r 0) 83) (leb 1 (byte r 1) && leb (byte r 1) 3) kind-and-type)))
+
+      type : T (leb 1 (byte r 1) && leb (byte r 1) 3)
+      type = and-right (eqb (byte r 0) 83) (leb 1 (byte r 1) && leb (byte r 1) 3) kind-and-type
+
+      yes-or-no : T (leb (byte r 2) 1 && leb (byte r 19) 1)
+      yes-or-no = and-right (eqb (byte r 0) 83 && (leb 1 (byte r 1) && leb (byte r 1) 3)) (leb (byte r 2) 1 && leb (byte r 19) 1) good
+
+      fields : bytesOf (summaryAt r 0) ≡ map (byte r) (indices size 0)
+      fields = λ i.
+          kind i
+          ∷ shape-again (byte r 1) (leb→le 1 (byte r 1) (and-left (leb 1 (byte r 1)) (leb (byte r 1) 3) type)) (leb→le (byte r 1) 3 (and-right (leb 1 (byte r 1)) (leb (byte r 1) 3) type)) i
+          ∷ bit-again (byte r 2) (leb→le (byte r 2) 1 (and-left (leb (byte r 2) 1) (leb (byte r 19) 1) yes-or-no)) i
+          ∷ coordinate-again 3 .0 i
+          ∷ coordinate-again 3 .1 i
+          ∷ coordinate-again 3 .2 i
+          ∷ coordinate-again 3 .3 i
+          ∷ coordinate-again 7 .0 i
+          ∷ coordinate-again 7 .1 i
+          ∷ coordinate-again 7 .2 i
+          ∷ coordinate-again 7 .3 i
+          ∷ coordinate-again 11 .0 i
+          ∷ coordinate-again 11 .1 i
+          ∷ coordinate-again 11 .2 i
+          ∷ coordinate-again 11 .3 i
+          ∷ coordinate-again 15 .0 i
+          ∷ coordinate-again 15 .1 i
+          ∷ coordinate-again 15 .2 i
+          ∷ coordinate-again 15 .3 i
+          ∷ bit-again (byte r 19) (leb→le (byte r 19) 1 (and-right (leb (byte r 2) 1) (leb (byte r 19) 1) yes-or-no)) i
+          ∷ []
 
 -- ---- the far question over the bytes of good summaries
 
