@@ -75,7 +75,7 @@ pub and-false : (b : Bool) → b && false ≡ false
 and-false true = refl
 and-false false = refl
 
--- 12 and 15, by the lists that the segments of two objects are from
+-- 12, and 15 across two objects, by the lists that their segments are from
 across-passes : (s : List ℕ) (f g : Layout) (l m : List Segment) → ((t : Segment) → t ∈ segments s f → t ∈ l) → ((t : Segment) → t ∈ segments s g → t ∈ m)
     → AllOrdered l → AllOrdered m → Across l m → touching s f (segments s g) ≡ Nothing
 unfolding touching segments

@@ -32,7 +32,7 @@ two-points : objectBytes (points (at 1000000 0 ∷ record { x = negsuc 0; y = ne
 unfolding recordBytes pointItems before
 two-points = refl
 
--- the split of (0,2)-(4,2) and (2,0)-(2,4): 150 bytes
+-- (0,2)-(4,2) and (2,0)-(2,4), each as two segments that meet at (2,2): 150 bytes
 split-crossing : length (objectBytes (line (from (at 0 2) (at 2 2) ∷ from (at 2 2) (at 4 2) ∷ [])) ++ objectBytes (line (from (at 2 0) (at 2 2) ∷ from (at 2 2) (at 2 4) ∷ []))) ≡ 150
 unfolding recordBytes lineItems comesBefore dominating farEnd before samePoint side
 split-crossing = refl
