@@ -1,5 +1,5 @@
 -- What is written is a byte string: each number of it is below 256.
-use Prim.Native.Nat.{ℕ, _%_, _/_, _<_}
+use Prim.Native.Nat.{ℕ, _<_}
 use native.Mathlib.Omega.{arith}
 use mathlib.Core.Path.{sym, subst}
 use mathlib.Core.Logic.{⊎-elim}
@@ -14,8 +14,9 @@ use Rattle.plane.specs.Plane.{Object}
 use Rattle.scene.specs.declared.Shape.{Shape}
 use Rattle.scene.specs.declared.Shape.the-variants.{Points, Line, Region}
 use Rattle.scene.specs.Read.{shapeNumber}
-use Rattle.scene_written.specs.Bytes.{Item, AreBytes, unsigned, coordinateThen, pointThen, halfThen, recordBytes, recordsOf}
+use Rattle.scene_written.specs.Bytes.{Item, AreBytes, coordinateThen, pointThen, halfThen, recordBytes, recordsOf}
 use Rattle.scene_written.specs.Arranged.{shapeIn, itemsOf, objectBytes}
+use Rattle.scene_written.proofs.Coordinates.{digit-small}
 
 none-bytes : AreBytes []
 none-bytes n m = absurd (in-nil m)
@@ -26,13 +27,8 @@ then-bytes h k n m = ⊎-elim (λ e. subst (λ (x : ℕ). x < 256) (sym e) h) (k
 both-bytes : (l : List ℕ) {m : List ℕ} → AreBytes l → AreBytes m → AreBytes (l ++ m)
 both-bytes l h k n m = ⊎-elim (h n) (k n) (in-append l m)
 
-remainder : (n : ℕ) → n % 256 < 256
-remainder n = omega arith
-
 coordinate-bytes : (z : ℤ) {l : List ℕ} → AreBytes l → AreBytes (coordinateThen z l)
-coordinate-bytes z h =
-    then-bytes (remainder (unsigned z))
-    (then-bytes (remainder (unsigned z / 256)) (then-bytes (remainder (unsigned z / 256 / 256)) (then-bytes (remainder (unsigned z / 256 / 256 / 256)) h)))
+coordinate-bytes z h = then-bytes (digit-small z 1) (then-bytes (digit-small z 256) (then-bytes (digit-small z 65536) (then-bytes (digit-small z 16777216) h)))
 
 point-bytes : (p : Point) {l : List ℕ} → AreBytes l → AreBytes (pointThen p l)
 point-bytes p h = coordinate-bytes (p .x) (coordinate-bytes (p .y) h)

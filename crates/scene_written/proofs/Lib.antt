@@ -1,4 +1,5 @@
 -- Laws of what is written.
+pub mod Coordinates
 pub mod AreBytes
 pub mod Stands
 pub mod ReadBack

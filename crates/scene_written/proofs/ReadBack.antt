@@ -70,7 +70,7 @@ module _ (k : Shape) where
 abbrev pub AllGood : (k : Shape) → List (Item k) → Type 0
 AllGood k xs = (x : Item k) → x ∈ xs → GoodItem k x
 
-number-back : (k : Shape) → shapeOf (shapeNumber k) ≡ k
+pub number-back : (k : Shape) → shapeOf (shapeNumber k) ≡ k
 unfolding shapeOf
 number-back Points = refl
 number-back Line = refl

@@ -1,5 +1,5 @@
 -- Bytes that stand at an offset; and what an element's record is read as, where its bytes stand.
-use Prim.Native.Nat.{ℕ, suc, _+_, _*_, _-_, _/_, _%_, _^_, _<_, _≤_}
+use Prim.Native.Nat.{ℕ, _+_, _*_, _<_, _≤_}
 use native.Mathlib.Omega.{arith}
 use mathlib.Core.Path.{_≡_, refl, ap, _∙_}
 use mathlib.Core.Bool.{Bool, true, false, _&&_}
@@ -7,8 +7,7 @@ use mathlib.Core.List.{List, [], _∷_, _++_}
 use lib.ListN.{length, length-append, List·getD-append}
 use lib.Seq.{getD-append-add}
 use lib.Dec.{T, leb, leb→le, eqb}
-use lib.IntN.{ℤ, pos, negsuc, natAbs}
-use borrow.Author.Tests.{lt-ltb, le-ltb}
+use lib.IntN.{ℤ, natAbs}
 use Rattle.whole.specs.Count.{bit}
 use Rattle.whole.proofs.Logic.{and-left, and-right, true-is}
 use Rattle.plane.specs.declared.Point.{Point}
@@ -22,7 +21,8 @@ use Rattle.scene.specs.declared.Record.the-variants.{Good, Bad}
 use Rattle.scene.specs.Read.{byte, signed, coordinate, pointFrom, segmentAt, kindOf, kindAt, bodyLength, standsIn, unless, condition, judge, recordAt, size}
 use Rattle.scene.specs.Inner.{fieldsAt}
 use Rattle.scene.proofs.Passed.{whole-body}
-use Rattle.scene_written.specs.Bytes.{Edge, Item, itemAt, GoodSegment, GoodItem, unsigned, recordBytes}
+use Rattle.scene_written.specs.Bytes.{Edge, Item, itemAt, GoodSegment, GoodItem, digit, recordBytes}
+use Rattle.scene_written.proofs.Coordinates.{digits-read}
 
 -- ---- the bytes bs stand in s at an offset
 
@@ -56,29 +56,10 @@ stands-before {s} m {at} {bs} h = record {
 
 -- ---- coordinates
 
-signed-unsigned : (z : ℤ) → natAbs z ≤ limit → signed (unsigned z) ≡ z
-unfolding signed
-signed-unsigned (pos n) h = rw (lt-ltb n (2 ^ 31) (omega arith))
-signed-unsigned (negsuc n) h =
-    rw (le-ltb (2 ^ 32 - suc n) (2 ^ 31) (omega arith), lt-ltb (2 ^ 32 - suc n) (2 ^ 32) (omega arith)) (ap negsuc back)
-  where
-    back : 2 ^ 32 - suc (2 ^ 32 - suc n) ≡ n
-    back = omega arith
-
-small : (z : ℤ) → natAbs z ≤ limit → unsigned z < 2 ^ 32
-small (pos n) h = omega arith
-small (negsuc n) h = omega arith
-
-four-bytes : (n a b c d : ℕ) → n < 2 ^ 32 → a ≡ n % 256 → b ≡ n / 256 % 256 → c ≡ n / 256 / 256 % 256 → d ≡ n / 256 / 256 / 256 % 256
-    → a + 256 * b + 65536 * c + 16777216 * d ≡ n
-four-bytes n a b c d h p q r t = omega arith
-
 coordinate-back : (s : List ℕ) (at : ℕ) (z : ℤ) → natAbs z ≤ limit
-    → byte s at ≡ unsigned z % 256 → byte s (at + 1) ≡ unsigned z / 256 % 256 → byte s (at + 2) ≡ unsigned z / 256 / 256 % 256
-    → byte s (at + 3) ≡ unsigned z / 256 / 256 / 256 % 256 → coordinate s at ≡ z
+    → byte s at ≡ digit z 1 → byte s (at + 1) ≡ digit z 256 → byte s (at + 2) ≡ digit z 65536 → byte s (at + 3) ≡ digit z 16777216 → coordinate s at ≡ z
 unfolding coordinate
-coordinate-back s at z h p q r t =
-    ap signed (four-bytes (unsigned z) (byte s at) (byte s (at + 1)) (byte s (at + 2)) (byte s (at + 3)) (small z h) p q r t) ∙ signed-unsigned z h
+coordinate-back s at z h p q r t = (λ i. signed (p i + 256 * q i + 65536 * r i + 16777216 * t i)) ∙ digits-read z h
 
 -- ---- elements
 
@@ -93,9 +74,7 @@ stands-in {s} {at} {o} {bs} {cs} h k = record {
 
 -- the four bytes of a coordinate, at o in bs
 abbrev Coded : List ℕ → ℕ → ℤ → Type 0
-Coded bs o z =
-    (byte bs o ≡ unsigned z % 256) × (byte bs (o + 1) ≡ unsigned z / 256 % 256) × (byte bs (o + 2) ≡ unsigned z / 256 / 256 % 256)
-    × (byte bs (o + 3) ≡ unsigned z / 256 / 256 / 256 % 256)
+Coded bs o z = (byte bs o ≡ digit z 1) × (byte bs (o + 1) ≡ digit z 256) × (byte bs (o + 2) ≡ digit z 65536) × (byte bs (o + 3) ≡ digit z 16777216)
 
 range-x : (p : Point) → T (inRange p) → natAbs (p .x) ≤ limit
 unfolding within
@@ -105,7 +84,7 @@ range-y : (p : Point) → T (inRange p) → natAbs (p .y) ≤ limit
 unfolding within
 range-y p t = leb→le (natAbs (p .y)) limit (and-right (leb (natAbs (p .x)) limit) (leb (natAbs (p .y)) limit) t)
 
-test-back : (b : Bool) {n : ℕ} → n ≡ bit b → eqb n 1 ≡ b
+pub test-back : (b : Bool) {n : ℕ} → n ≡ bit b → eqb n 1 ≡ b
 test-back true e = rw e
 test-back false e = rw e
 

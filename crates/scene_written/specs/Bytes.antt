@@ -53,10 +53,13 @@ abbrev pub unsigned : ℤ → ℕ
 unsigned (pos n) = n
 unsigned (negsuc n) = 2 ^ 32 - suc n
 
--- four bytes before what follows
+-- one of its four bytes: unit is 1, 256, 65536, 16777216
+unfoldable pub digit : ℤ → ℕ → ℕ
+digit z unit = unsigned z / unit % 256
+
+-- the four before what follows
 abbrev pub coordinateThen : ℤ → List ℕ → List ℕ
-coordinateThen z rest =
-    unsigned z % 256 ∷ unsigned z / 256 % 256 ∷ unsigned z / 256 / 256 % 256 ∷ unsigned z / 256 / 256 / 256 % 256 ∷ rest
+coordinateThen z rest = digit z 1 ∷ digit z 256 ∷ digit z 65536 ∷ digit z 16777216 ∷ rest
 
 abbrev pub pointThen : Point → List ℕ → List ℕ
 pointThen p rest = coordinateThen (p .x) (coordinateThen (p .y) rest)
