@@ -2,7 +2,7 @@
 -- common ends.
 use Prim.Native.Nat.{suc, _*_, _≤_}
 use native.Mathlib.Omega.{arith}
-use mathlib.Core.Path.{_≡_, refl, sym, ap, ap₂, subst, _∙_}
+use mathlib.Core.Path.{_≡_, refl, sym, ap, subst, _∙_}
 use mathlib.Core.Logic.{_⊎_, inl, inr, ⊎-elim}
 use mathlib.Core.Bool.{Bool, true, false, cond, true≢false}
 use mathlib.Core.List.{List, [], _∷_}
@@ -114,26 +114,6 @@ insert-earliest less a (b ∷ l) h = rw (true-is (less a b) (h b here))
 pub arrange-same : {A : Type 0} (less : A → A → Bool) {l : List A} → Sorted (λ a b. T (less a b)) l → arrange less l ≡ l
 arrange-same less sorted-nil = refl
 arrange-same less (sorted-cons {a = a} {l = l} earliest rest) = ap (insert less a) (arrange-same less rest) ∙ insert-earliest less a l earliest
-
--- and two lists in strict order with the same members are equal
-module _ {A : Type 0} (P : A → Type 0) (R : A → A → Type 0) (never : (a b : A) → P a → P b → R a b → R b a → ⊥) where
-  pub sorted-unique : {l m : List A} → Sorted R l → Sorted R m → ((a : A) → a ∈ l → P a) → ((a : A) → a ∈ l → a ∈ m) → ((a : A) → a ∈ m → a ∈ l) → l ≡ m
-  sorted-unique sorted-nil sorted-nil good to from = refl
-  sorted-unique sorted-nil (sorted-cons {a = b} earliest rest) good to from = absurd (in-nil (from b here))
-  sorted-unique (sorted-cons {a = a} earliest rest) sorted-nil good to from = absurd (in-nil (to a here))
-  sorted-unique (sorted-cons {a = a} {l = l} earliest rest) (sorted-cons {a = b} {l = m} earliest′ rest′) good to from =
-      ap₂ (λ (x : A) (k : List A). x ∷ k) same
-      (sorted-unique rest rest′ (λ c n. good c (there n)) (λ c n. ⊎-elim (λ e. absurd (again c (e ∙ sym same) (earliest c n))) (λ k. k) (in-cons (to c (there n))))
-      (λ c n. ⊎-elim (λ e. absurd (again′ c (e ∙ same) (earliest′ c n))) (λ k. k) (in-cons (from c (there n)))))
-    where
-      same : a ≡ b
-      same = ⊎-elim (λ e. e) (λ n. ⊎-elim (λ e. sym e) (λ k. absurd (never a b (good a here) (good b (there k)) (earliest b k) (earliest′ a n))) (in-cons (from b here))) (in-cons (to a here))
-
-      again : (c : A) → c ≡ a → R a c → ⊥
-      again c e f = let r = subst (R a) e f in never a a (good a here) (good a here) r r
-
-      again′ : (c : A) → c ≡ b → R b c → ⊥
-      again′ c e f = let r = subst (R b) e f in let p = subst P same (good a here) in never b b p p r r
 
 -- ---- points
 

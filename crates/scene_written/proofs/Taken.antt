@@ -8,6 +8,7 @@ use mathlib.Core.List.{List, [], _∷_, map}
 use lib.ListN.{length, getD, length-map, List·getD-map}
 use lib.Dec.{T, ltb}
 use Rattle.whole.specs.Count.{_∈_}
+use Rattle.whole.proofs.Sorted.{sorted-unique}
 use Rattle.whole.proofs.Logic.{true-is, map-in, Sorted}
 use Rattle.plane.specs.declared.Point.{Point}
 use Rattle.plane.specs.declared.Segment.{Segment}
@@ -32,7 +33,7 @@ use Rattle.scene_written.specs.Bytes.{Edge, GoodSegment}
 use Rattle.scene_written.specs.Arranged.{edgeOf, pointItems, lineItems, regionItems, shapeIn, itemsOf, objectBytes}
 use Rattle.scene_written.proofs.Stands.{Stands}
 use Rattle.scene_written.proofs.ReadBack.{AllGood, nowhere, origin, object-back, alone-back, element-back, elements-back, stands-whole}
-use Rattle.scene_written.proofs.Arranging.{Halves, line-halves, points-in-order, points-in, points-as-given, sorted-unique}
+use Rattle.scene_written.proofs.Arranging.{Halves, line-halves, points-in-order, points-in, points-as-given}
 use Rattle.scene_written.proofs.Judged.{Once, ReadAs, sorted-at, order-passes, pairs-pass, touch-passes, ends-pass, ia-passes, segments-in, in-segments, segments-sorted, and-false}
 
 -- ---- what is asked of an object's points or segments
@@ -233,12 +234,14 @@ points-back s start l g stands sorted = elements-back s start Points (pointItems
 module _ (s : List ℕ) (lay : Layout) (l : List Segment) (g : GoodSegments l) (r : ReadAs s lay l (lineItems l)) where
   as-given : Sorted LeftBefore l → segments s lay ≡ l
   as-given sorted =
-      sorted-unique (λ t. T (ordered t)) LeftBefore (λ t u p q a b. comes-irreflexive (halfOf true t) (comes-trans (halfOf true t) (halfOf true u) (halfOf true t) p q p a b))
-      (segments-sorted r q (g .in-order) (g .apart)) sorted (λ t m. g .in-order t (segments-in r q (g .in-order) (g .apart) m)) (λ t m. segments-in r q (g .in-order) (g .apart) m)
-      (λ t m. in-segments r q (g .in-order) (g .apart) m)
+      sorted-unique LeftBefore (λ t u m n a b. comes-irreflexive (halfOf true t) (comes-trans (halfOf true t) (halfOf true u) (halfOf true t) (own t m) (own u n) (own t m) a b))
+      (segments-sorted r q (g .in-order) (g .apart)) sorted (λ t m. segments-in r q (g .in-order) (g .apart) m) (λ t m. in-segments r q (g .in-order) (g .apart) m)
     where
       q : Halves l (lineItems l)
       q = halves-of l g
+
+      own : (t : Segment) → t ∈ segments s lay → T (ordered t)
+      own t m = g .in-order t (segments-in r q (g .in-order) (g .apart) m)
 
 pub line-back : (s : List ℕ) (start : ℕ) (l : List Segment) → GoodSegments l → Stands s start (objectBytes (line l)) → Sorted LeftBefore l → segments s (layoutOf (line l) start) ≡ l
 line-back s start l g stands = as-given s (layoutOf (line l) start) l g (line-read s start l g stands)
