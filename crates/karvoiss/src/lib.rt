@@ -21,7 +21,7 @@ ghost use Rattle.overlap.specs.Rules.{checkList, checkRegions};
 ghost use Rattle.overlap.specs.Overlap.{overlapOf, bufferAfter};
 ghost use Rattle.areas.specs.Areas.{areasOf, PartsMakeWhole};
 ghost use Rattle.summary.specs.Summary.{askedOf};
-ghost use Rattle.summary_objects.specs.Objects.{NeverBad, ToldInFull, LookExactlyIfNear};
+ghost use Rattle.summary_objects.specs.Objects.{GoodExactlyIfMade, ToldInFull, LookExactlyIfNear};
 ghost use Rattle.summary_making.specs.Making.{summaryAnswerOf};
 ghost use Rattle.karvoiss.specs.Answer.{vectorsForC, rowSigns, signs, cellsForC, NoSignWrong, relateForC, overlapForC, areasForC, summaryForC, farForC, at, estimateForC, inWindowForC, fromC};
 ghost use Rattle.estimate.specs.Estimate.{estimated, EstimateHolds};
@@ -233,12 +233,12 @@ fn told(number: u32, place: usize, look: bool, f: u16, g: u16) -> KarvoissFar
     }
 }
 
-// The far question over two summaries: for every two byte strings the whole answer; nothing made is refused; where vectors are told, every two accepted objects that have these summaries
+// The far question over two summaries: for every two byte strings the whole answer; what is made is taken, and nothing else; where vectors are told, every two accepted objects that have these summaries
 // form an accepted scene, and they are its vectors in full; "look" exactly where neither is empty and the boxes share a point.
 #[no_mangle]
 pub extern "C" fn karvoiss_far(first: &[u8], second: &[u8]) -> KarvoissFar
     ensures { λ r. ⌜ (r ≡ farForC (askedOf (now (first .entry)) (now (second .entry))))
-        × NeverBad (now (first .entry)) × NeverBad (now (second .entry))
+        × GoodExactlyIfMade (now (first .entry)) × GoodExactlyIfMade (now (second .entry))
         × ToldInFull (now (first .entry)) (now (second .entry)) (askedOf (now (first .entry)) (now (second .entry)))
         × LookExactlyIfNear (now (first .entry)) (now (second .entry)) (askedOf (now (first .entry)) (now (second .entry))) ⌝ }
 {

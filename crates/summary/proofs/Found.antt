@@ -1,37 +1,40 @@
 -- Every good summary is made by some accepted object: two corners, a diagonal, or the triangle over the box's lower left corner.
-use Prim.Native.Nat.{ℕ, _+_}
+use Prim.Native.Nat.{ℕ, _+_, _≤_}
+use native.Mathlib.Omega.{arith}
 use mathlib.Core.Path.{_≡_, refl, sym, ap, ap₂, _∙_, subst}
 use mathlib.Core.Logic.{_⊎_, inl, inr, ⊎-elim}
 use mathlib.Core.Bool.{Bool, true, false, not, _&&_, _||_, cond}
 use mathlib.Core.List.{List, [], _∷_}
-use lib.Dec.{T, T-not, not-T, leb}
-use lib.IntN.{ℤ, pos, natAbs, negℤ, _+ℤ_, _-ℤ_, _*ℤ_}
-use lib.Signed.{ltZ, leZ}
-use Rattle.whole.specs.Count.{eqZ, _∈_, here, there, some, count, bit, odd}
-use Rattle.whole.proofs.Solver.{Exp, var, con, opp, _:+_, _:-_, _:*_, solve}
-use Rattle.whole.proofs.Sign.{Pos, NonNeg, Sign, minus, nought, plus, sign, Weak, weak-zero, weak-plus, weak, pos-clash, nonneg-clash, pos-nonneg, zero-pos, pos-add-nonneg, pos-mul, mul-zero-left, mul-zero-right, cancel-zero, cancel-zero-right, leZ-nonneg, nonneg-leZ, zero-nonneg, zero-eqZ, sub-zero-eq, pos-ltZ, pos-ltZ0, ltZ-leZ, ltZ-pos}
-use Rattle.whole.proofs.Balance.{eqZ-read, eqZ-make}
-use Rattle.whole.proofs.Logic.{in-nil, in-cons, and-left, and-right, and-make, or-left, or-right, decide, true-is, false-is, is-true, refute, Sorted, sorted-nil, sorted-cons}
+use lib.ListN.{length}
+use lib.Dec.{T, T-not, leb}
+use lib.IntN.{ℤ, pos, natAbs, negℤ, _-ℤ_, _*ℤ_}
+use lib.Signed.{leZ}
+use Rattle.whole.specs.Count.{eqZ, _∈_, bit, odd}
+use Rattle.whole.proofs.Solver.{var, con, opp, _:+_, _:-_, _:*_, solve}
+use Rattle.whole.proofs.Sign.{Pos, NonNeg, Weak, weak-zero, weak-plus, weak, pos-nonneg, zero-pos, pos-add-nonneg, pos-mul, mul-zero-left, mul-zero-right, cancel-zero, cancel-zero-right, leZ-nonneg, nonneg-leZ, zero-nonneg, zero-eqZ, sub-zero-eq, pos-ltZ0}
+use Rattle.whole.proofs.Balance.{eqZ-read}
+use Rattle.whole.proofs.Logic.{in-nil, in-cons, and-left, and-right, and-make, or-left, or-right, decide, true-is, false-is, refute, Sorted, sorted-nil, sorted-cons}
 use Rattle.whole.proofs.Parity.{_⊻_, parity, parity-nil}
 use Rattle.plane.specs.declared.Point.{Point}
 use Rattle.plane.specs.declared.Segment.{Segment}
-use Rattle.plane.specs.Plane.{HPoint, grid, midpoint, limit, within, inRange, before, side, samePoint, sameSegment, ordered, dominating, farEnd, comesBefore, isEnd, isBoundary, endsAt, countsBelow}
+use Rattle.plane.specs.Plane.{HPoint, grid, midpoint, limit, within, inRange, before, side, samePoint, ordered, dominating, farEnd, comesBefore, isEnd, isBoundary, endsAt, countsBelow}
 use Rattle.plane.proofs.OnSegment.{Ordered, slanting, upright, Along, right-of-left, above-left, left-of-right, below-right}
-use Rattle.plane.proofs.Means.{At, EndOf, left-end, right-end}
+use Rattle.plane.proofs.Means.{At, left-end, right-end}
 use Rattle.plane.proofs.Equal.{point-eq, samePoint-read, samePoint-refl}
 use Rattle.plane.proofs.Order.{ordered-make, ends-differ, LeftBefore, segments-once}
 use Rattle.plane.proofs.AlongSegment.{Apart}
 use Rattle.plane.proofs.Grid.{end-grid}
 use Rattle.plane.proofs.Path.{Even}
-use Rattle.plane.proofs.Accepted.{Across, Split, Regular}
+use Rattle.plane.proofs.Accepted.{Across, Split}
 use Rattle.scene.specs.declared.Shape.{Shape}
 use Rattle.scene.specs.declared.Shape.the-variants.{Points, Line, Region}
-use Rattle.flags.specs.Flags.{Edge, Elements, outline, isBound, someEnd}
+use Rattle.scene.specs.Read.{most}
+use Rattle.flags.specs.Flags.{Edge, Elements, isBound}
 use Rattle.cells_matrix.proofs.RegionRegion.{Sound}
 use Rattle.cells_matrix.proofs.Theorem.{Good}
 use Rattle.summary.specs.declared.Bounds.{Bounds}
 use Rattle.summary.specs.declared.Summary.{Summary}
-use Rattle.summary.specs.Summary.{ends, corners, lesser, greater, boxOf, origin, isOrigin, isEmpty, hasBoundary, summaryOf, shapeOf, isFlat, isPoint, goodBox, goodFor, isGood}
+use Rattle.summary.specs.Summary.{ends, corners, lesser, greater, boxOf, origin, isOrigin, hasBoundary, summaryOf, isFlat, isPoint, goodBox, goodFor, isGood}
 use Rattle.summary.proofs.Made.{AllInRange, Listed}
 
 -- ---- the triangle
@@ -277,11 +280,13 @@ nothing-sound = record { regular = record { split = nothing-split; even = λ v. 
 
 -- ---- the theorem
 
+-- "0 to 1,024 elements of its kind": a point is an element, and a segment two, one for each end
 pub record MadeBy (s : Summary) : Type 0 where
   pub of : Elements
   pub good : Good of
   pub listed : Listed of
   pub in-range : AllInRange (corners of)
+  pub few : length (corners of) ≤ most
   pub same : summaryOf of ≡ s
 
 abbrev given : Shape → Bool → Bounds → Bool → Summary
@@ -347,6 +352,7 @@ module _ (b : Bounds) (g : T (goodBox b)) where
         good = tt;
         listed = sorted-cons {l = b .greatest ∷ []} (λ q m. ⊎-elim (λ e. subst (λ u. T (before (b .least) u)) (sym e) (earlier (proper n))) (λ i. absurd (in-nil i)) (in-cons m)) (sorted-cons {l = []} (λ q m. absurd (in-nil m)) sorted-nil);
         in-range = two-in-range;
+        few = omega arith;
         same = ap (λ c. given Points false c false) box-two;
       }
 
@@ -357,6 +363,7 @@ module _ (b : Bounds) (g : T (goodBox b)) where
         good = tt;
         listed = sorted-cons {l = []} (λ q m. absurd (in-nil m)) sorted-nil;
         in-range = λ v m. ⊎-elim (λ e. subst (λ u. T (inRange u)) (sym e) (parts .0)) (λ i. absurd (in-nil i)) (in-cons m);
+        few = omega arith;
         same = ap (λ c. given Points false c false) (bounds-eq refl (point-eq (eqZ-read (b .least .x) (b .greatest .x) (and-left (eqZ (b .least .x) (b .greatest .x)) (eqZ (b .least .y) (b .greatest .y)) t)) (eqZ-read (b .least .y) (b .greatest .y) (and-right (eqZ (b .least .x) (b .greatest .x)) (eqZ (b .least .y) (b .greatest .y)) t))));
       }
 
@@ -368,6 +375,7 @@ module _ (b : Bounds) (g : T (goodBox b)) where
         good = one-split diagonal (proper n);
         listed = one-sorted diagonal (proper n);
         in-range = two-in-range;
+        few = omega arith;
         same = ap₂ (λ c y. given Line false c y) box-two (one-bound diagonal (proper n));
       }
 
@@ -388,6 +396,7 @@ module _ (b : Bounds) (g : T (goodBox b)) where
           good = split (b .least .x) (b .greatest .x) (b .least .y) (b .greatest .y) w h;
           listed = sorted (b .least .x) (b .greatest .x) (b .least .y) (b .greatest .y) w h;
           in-range = ranged;
+          few = omega arith;
           same = ap₂ (λ c y. given Line false c y) (three-points (b .least .x) (b .greatest .x) (b .least .y) (b .greatest .y) w h) (unbounded (b .least .x) (b .greatest .x) (b .least .y) (b .greatest .y) w h);
         }
 
@@ -398,6 +407,7 @@ module _ (b : Bounds) (g : T (goodBox b)) where
           good = sound (b .least .x) (b .greatest .x) (b .least .y) (b .greatest .y) w h;
           listed = sorted (b .least .x) (b .greatest .x) (b .least .y) (b .greatest .y) w h;
           in-range = ranged;
+          few = omega arith;
           same = ap (λ c. given Region false c true) (three-points (b .least .x) (b .greatest .x) (b .least .y) (b .greatest .y) w h);
         }
 
@@ -405,9 +415,9 @@ nobody : AllInRange []
 nobody v m = absurd (in-nil m)
 
 find : (k : Shape) (e : Bool) (b : Bounds) (y : Bool) → T (goodBox b) → T (goodFor k e b y) → MadeBy (given k e b y)
-find Points true b y g t = record { of = Elements.points []; good = tt; listed = sorted-nil; in-range = nobody; same = ap₂ (λ c z. given Points true c z) (zeros b g {y = y} t .0) (zeros b g {y = y} t .1) }
-find Line true b y g t = record { of = Elements.line []; good = nothing-split; listed = sorted-nil; in-range = nobody; same = ap₂ (λ c z. given Line true c z) (zeros b g {y = y} t .0) (zeros b g {y = y} t .1) }
-find Region true b y g t = record { of = Elements.region []; good = nothing-sound; listed = sorted-nil; in-range = nobody; same = ap₂ (λ c z. given Region true c z) (zeros b g {y = y} t .0) (zeros b g {y = y} t .1) }
+find Points true b y g t = record { of = Elements.points []; good = tt; listed = sorted-nil; in-range = nobody; few = omega arith; same = ap₂ (λ c z. given Points true c z) (zeros b g {y = y} t .0) (zeros b g {y = y} t .1) }
+find Line true b y g t = record { of = Elements.line []; good = nothing-split; listed = sorted-nil; in-range = nobody; few = omega arith; same = ap₂ (λ c z. given Line true c z) (zeros b g {y = y} t .0) (zeros b g {y = y} t .1) }
+find Region true b y g t = record { of = Elements.region []; good = nothing-sound; listed = sorted-nil; in-range = nobody; few = omega arith; same = ap₂ (λ c z. given Region true c z) (zeros b g {y = y} t .0) (zeros b g {y = y} t .1) }
 find Points false b true g t = absurd t
 find Points false b false g t = ⊎-elim (one b g) (two b g) (decide (isPoint b))
 find Line false b true g t = open-line b g (and-left (not (isPoint b)) true t)

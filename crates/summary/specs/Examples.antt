@@ -10,9 +10,10 @@ use Rattle.plane.specs.declared.Segment.{Segment}
 use Rattle.plane.specs.Plane.{within, isAt, isEnd, isBoundary, endsAt}
 use Rattle.scene.specs.Read as Read
 use Rattle.flags.specs.Flags.{Edge, Elements}
+use Rattle.scene_written.specs.Bytes.{digit}
 use Rattle.summary.specs.declared.Answer.{Answer}
 use Rattle.summary.specs.declared.Answer.the-variants.{Told, Look}
-use Rattle.summary.specs.Summary.{lesser, greater, digit, beside, goodBox, goodAt, goodBytes, summaryOf, hasBoundary, bytesOf, toldOf, askedOf, bad}
+use Rattle.summary.specs.Summary.{lesser, greater, beside, goodBox, goodAt, goodBytes, summaryOf, hasBoundary, bytesOf, toldOf, askedOf, bad}
 
 abbrev at : ℤ → ℤ → Point
 at a b = record { x = a; y = b }

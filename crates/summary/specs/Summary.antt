@@ -1,11 +1,11 @@
 -- Summaries: 02's Paper 2, sentence by sentence. A quotation names the sentence that a definition renders.
-use Prim.Native.Nat.{ℕ, suc, _+_, _-_, _/_, _%_, _^_}
+use Prim.Native.Nat.{ℕ, _+_}
 use mathlib.Core.Path.{_≡_}
 use mathlib.Core.Bool.{Bool, true, false, not, _&&_, _||_, cond}
 use mathlib.Core.List.{List, [], _∷_}
 use lib.Dec.{T, leb, eqb}
 use lib.ListN.{length}
-use lib.IntN.{ℤ, pos, negsuc}
+use lib.IntN.{ℤ, pos}
 use lib.Signed.{ltZ, leZ}
 use Rattle.whole.specs.Count.{eqZ, bit}
 use Rattle.plane.specs.declared.Point.{Point}
@@ -15,6 +15,7 @@ use Rattle.scene.specs.declared.Shape.{Shape}
 use Rattle.scene.specs.declared.Shape.the-variants.{Points, Line, Region}
 use Rattle.scene.specs.Read.{byte, pointAt, shapeNumber, descends}
 use Rattle.scene.specs.Read as Read
+use Rattle.scene_written.specs.Bytes.{digit}
 use Rattle.flags.specs.Flags.{Elements, points, line, region, outline, isBound, someEnd, pack}
 use Rattle.flags_vectors.specs.declared.Vectors.{Vectors}
 use Rattle.summary.specs.declared.Bounds.{Bounds}
@@ -197,14 +198,7 @@ summaryAt s at =
       boundary = eqb (byte s (at + 19)) 1;
     }
 
--- a coordinate's bytes, low byte first: unit is 1, 256, 65536, 16777216
-abbrev pub unsigned : ℤ → ℕ
-unsigned (pos n) = n
-unsigned (negsuc n) = 2 ^ 32 - suc n
-
-unfoldable pub digit : ℤ → ℕ → ℕ
-digit z unit = unsigned z / unit % 256
-
+-- and its 20 bytes, coordinates as in an object's bytes, low byte first
 abbrev pub bytesOf : Summary → List ℕ
 bytesOf s =
     83

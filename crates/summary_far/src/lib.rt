@@ -14,7 +14,7 @@ ghost use lib.Signed.{ltZ};
 ghost use Rattle.whole.specs.Count.{bit};
 ghost use Rattle.flags.specs.Flags.{pack};
 ghost use Rattle.summary.specs.Summary.{beside, areFar, flagsF, flagsG, ascendingVectors, farVectors, toldOf, askedOf};
-ghost use Rattle.summary_objects.specs.Objects.{NeverBad, ToldInFull, LookExactlyIfNear};
+ghost use Rattle.summary_objects.specs.Objects.{GoodExactlyIfMade, ToldInFull, LookExactlyIfNear};
 
 // ---- boxes that share no point
 
@@ -166,10 +166,10 @@ fn ask(first: &[u8], second: &[u8]) -> Answer
     }
 }
 
-// The far question: for every two byte strings the whole answer; nothing made is refused; where vectors are told they are the full answer; and "look" in words.
+// The far question: for every two byte strings the whole answer; what is made is taken, and nothing else; where vectors are told they are the full answer; and "look" in words.
 pub fn far(first: &[u8], second: &[u8]) -> Answer
     ensures { λ r. ⌜ (r ≡ askedOf (now (first .entry)) (now (second .entry)))
-        × NeverBad (now (first .entry)) × NeverBad (now (second .entry))
+        × GoodExactlyIfMade (now (first .entry)) × GoodExactlyIfMade (now (second .entry))
         × ToldInFull (now (first .entry)) (now (second .entry)) r
         × LookExactlyIfNear (now (first .entry)) (now (second .entry)) r ⌝ }
 {

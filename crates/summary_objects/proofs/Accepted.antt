@@ -1,7 +1,7 @@
 -- An accepted object, by its bytes alone: its elements are good, in order and in range, and so its summary is good.
 use Prim.Native.Nat.{ℕ}
 use mathlib.Core.Path.{_≡_, refl, sym, ap, subst}
-use mathlib.Core.Logic.{_⊎_, inl, inr, ⊎-elim}
+use mathlib.Core.Logic.{⊎-elim}
 use mathlib.Core.List.{List, [], _∷_}
 use lib.Dec.{T}
 use Rattle.whole.specs.Count.{_∈_, here, there}

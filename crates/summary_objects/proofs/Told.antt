@@ -6,7 +6,6 @@ use mathlib.Core.Logic.{_↔_}
 use mathlib.Core.Bool.{Bool, true, false, cond, false≢true}
 use mathlib.Core.List.{List, _++_, map}
 use lib.Dec.{T}
-use lib.ListN.{length}
 use Rattle.whole.specs.Count.{_∈_}
 use Rattle.whole.proofs.Logic.{and-left, is-true, true-is}
 use Rattle.plane.specs.declared.Segment.{Segment}
@@ -34,7 +33,6 @@ use Rattle.flags.specs.Flags.{segmentsOf}
 use Rattle.flags.specs.Elements.{elementsAs, elementsOf}
 use Rattle.flags.proofs.Elements.{outline-edges}
 use Rattle.flags_masks.specs.declared.Wanted.{Wanted}
-use Rattle.flags_vectors.specs.declared.Vectors.{Vectors}
 use Rattle.flags_vectors.specs.Vectors.{vectorsIn}
 use Rattle.cells.proofs.AskedTwice.{givenFlags, all-vectors, first-is, second-is}
 use Rattle.summary.specs.declared.Summary.{Summary}
@@ -44,7 +42,7 @@ use Rattle.summary.specs.Summary.{areFar, Near, farVectors, summaryAt, bytesOf,
 use Rattle.summary.proofs.Theorem.{full-answer, far-apart}
 use Rattle.summary.proofs.Near.{look-exactly}
 use Rattle.summary.proofs.Bytes.{good-bytes, good-summary, asked-good}
-use Rattle.summary_objects.specs.Objects.{summaryIn, Made, NeverBad, ToldInFull, LookExactlyIfNear}
+use Rattle.summary_objects.specs.Objects.{summaryIn, NeverBad, ToldInFull, LookExactlyIfNear}
 use Rattle.summary_objects.proofs.Accepted.{sound-object, elements-good, summary-good}
 
 pub read-of : (s : List ℕ) (l : Layout) → checkObject s ≡ CheckedObject.Taken l → readAlone s ≡ CheckedObject.Taken l

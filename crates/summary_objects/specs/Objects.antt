@@ -9,6 +9,7 @@ use Rattle.scene.specs.declared.Scene.{Scene}
 use Rattle.scene.specs.declared.CheckedObject.{CheckedObject}
 use Rattle.scene.specs.declared.CheckedScene.{CheckedScene}
 use Rattle.scene.specs.Conditions.{checkScene, checkObject}
+use Rattle.scene_written.specs.Bytes.{AreBytes}
 use Rattle.flags.specs.Elements.{elementsOf}
 use Rattle.flags_masks.specs.declared.Wanted.{Wanted}
 use Rattle.flags_vectors.specs.declared.Vectors.{Vectors}
@@ -34,6 +35,16 @@ pub record Made (r : List ℕ) : Type 0 where
 -- Nothing made is refused: the record of an accepted object is a good summary.
 abbrev pub NeverBad : List ℕ → Type 0
 NeverBad r = Made r → T (goodBytes r)
+
+-- Nothing else passes: a byte string that is a good summary is the record of some accepted object, a byte string too.
+abbrev pub OnlyMade : List ℕ → Type 0
+OnlyMade r = AreBytes r → T (goodBytes r) → (one : Made r) × AreBytes (one .object)
+
+-- "A summary is bad if its length, kind, type, yes-or-no byte or range is wrong, a least is above its greatest, or it breaks the empty rule. So are points with
+-- boundary byte 1, and a non-empty line whose box is one point, or is flat with boundary byte 0. So is a non-empty region whose box is flat or whose boundary byte
+-- is 0." That is, it is good (`goodBytes`) exactly if some accepted object has it.
+abbrev pub GoodExactlyIfMade : List ℕ → Type 0
+GoodExactlyIfMade r = NeverBad r × OnlyMade r
 
 -- ---- two objects
 

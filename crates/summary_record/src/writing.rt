@@ -5,7 +5,8 @@ use summary::Summary;
 ghost use mathlib.Core.Path.{_≡_};
 ghost use Prim.Native.Nat.{_<_};
 ghost use Rattle.whole.specs.Count.{bit};
-ghost use Rattle.summary.specs.Summary.{unsigned, digit, bytesOf};
+ghost use Rattle.scene_written.specs.Bytes.{unsigned, digit};
+ghost use Rattle.summary.specs.Summary.{bytesOf};
 
 // A coordinate's 32 bits as a number.
 fn unsigned(z: i32) -> u32

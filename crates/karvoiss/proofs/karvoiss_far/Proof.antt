@@ -4,15 +4,15 @@ use mathlib.Core.Path.{_≡_, sym, ap, subst, _∙_}
 use mathlib.Core.List.{List}
 use Rattle.summary.specs.declared.Answer.{Answer}
 use Rattle.summary.specs.Summary.{askedOf}
-use Rattle.summary_objects.specs.Objects.{NeverBad, ToldInFull, LookExactlyIfNear}
+use Rattle.summary_objects.specs.Objects.{GoodExactlyIfMade, ToldInFull, LookExactlyIfNear}
 use Rattle.karvoiss.specs.declared.KarvoissFar.{KarvoissFar}
 use Rattle.karvoiss.specs.Answer.{farForC}
 use borrow.Author.Needs.{needs}
 use Rattle.karvoiss.proofs.karvoiss_far.Statement.{statement}
 use Rattle.karvoiss.proofs.karvoiss_far.Tie as tie
 
-in-fields : (r q : List ℕ) {a b : Answer} {x : KarvoissFar} → (a ≡ askedOf r q) × NeverBad r × NeverBad q × ToldInFull r q a × LookExactlyIfNear r q a → a ≡ b → x ≡ farForC b
-    → (x ≡ farForC (askedOf r q)) × NeverBad r × NeverBad q × ToldInFull r q (askedOf r q) × LookExactlyIfNear r q (askedOf r q)
+in-fields : (r q : List ℕ) {a b : Answer} {x : KarvoissFar} → (a ≡ askedOf r q) × GoodExactlyIfMade r × GoodExactlyIfMade q × ToldInFull r q a × LookExactlyIfNear r q a → a ≡ b → x ≡ farForC b
+    → (x ≡ farForC (askedOf r q)) × GoodExactlyIfMade r × GoodExactlyIfMade q × ToldInFull r q (askedOf r q) × LookExactlyIfNear r q (askedOf r q)
 in-fields r q e is h = (h ∙ ap farForC (sym is ∙ e .0), e .1, e .2, subst (ToldInFull r q) (e .0) (e .3), subst (LookExactlyIfNear r q) (e .0) (e .4))
 
 far-requires : tie.Need-far-requires

@@ -4,7 +4,7 @@ use Prim.Native.Nat.{_/_, _%_}
 use mir.Facts.{toZ-ofZ}
 use borrow.Author.Needs.{needs}
 use Rattle.plane.proofs.Machine.{Held}
-use Rattle.summary.specs.Summary.{unsigned, digit}
+use Rattle.scene_written.specs.Bytes.{unsigned, digit}
 use Rattle.summary_record.proofs.writing.digit_x.Statement.{statement}
 use Rattle.summary_record.proofs.writing.digit_x.Tie as tie
 

@@ -11,7 +11,7 @@ use mir.Val.{SFits, Fits, toZ, ofZ}
 use mir.Facts.{toZ-ofZ}
 use borrow.Author.Needs.{needs}
 use borrow.Author.Tests.{ltb-true, le-ltb}
-use Rattle.summary.specs.Summary.{unsigned}
+use Rattle.scene_written.specs.Bytes.{unsigned}
 use Rattle.summary_record.proofs.writing.unsigned.Statement.{statement}
 use Rattle.summary_record.proofs.writing.unsigned.Tie as tie
 
