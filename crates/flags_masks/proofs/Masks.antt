@@ -7,7 +7,7 @@ use mathlib.Core.Logic.{_⊎_}
 use mathlib.Core.Bool.{Bool, false, not}
 use mathlib.Core.List.{List}
 use lib.Arith.{le→nltb}
-use lib.Bits.{bitAnd, and-mask}
+use lib.Bits.{bitAnd, and-mask, and-zero-r}
 use lib.Dec.{T, ltb, nltb→le}
 use lib.ListN.{length}
 use Rattle.whole.specs.Decides.{Decides}
@@ -58,6 +58,10 @@ module _ (all : ℕ) (flags : List Bool) (ones : all ≡ 2 ^ length flags - 1) w
   whole = ap (bitAnd (pack flags)) ones ∙ and-mask (pack flags) (length flags) ∙ mod-eq-of-lt (pack-lt flags)
 
 -- ---- refusal 9, and the vectors
+
+-- a mask that wants nothing leaves nothing of a vector
+pub none-wanted : (mask v : ℕ) → mask ≡ 0 → 0 ≡ only mask v
+none-wanted mask v e = sym (ap (bitAnd v) e ∙ and-zero-r v)
 
 -- a bit of what is wanted of a vector
 only-bit : {P : Type 0} (mask v k : ℕ) → Decides P (hasBit v k) → Decides (T (hasBit mask k) × P) (hasBit (only mask v) k)

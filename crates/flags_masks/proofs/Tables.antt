@@ -7,18 +7,14 @@ use lib.ListN.{getD}
 use Rattle.scene.specs.Read.{shapeNumber}
 use Rattle.scene.specs.declared.Shape.the-variants.{Points, Line, Region}
 use Rattle.scene.specs.declared.Shape.{Shape}
-use Rattle.flags_masks.specs.declared.FlagMasks.{FlagMasks}
+use Rattle.flags_masks.specs.Wanted.{entryOf}
 
 pub numbered : (k : Shape) → (1 ≤ shapeNumber k) × (shapeNumber k ≤ 3)
 numbered Points = (omega arith, omega arith)
 numbered Line = (omega arith, omega arith)
 numbered Region = (omega arith, omega arith)
 
--- an entry as the code has it
-abbrev pub entryOf : ℕ × ℕ → FlagMasks
-entryOf p = record { f = p .0; g = p .1 }
-
-getD-map : {A B : Type 0} (f : A → B) (l : List A) (i : ℕ) (d : A) → getD (map f l) i (f d) ≡ f (getD l i d)
+pub getD-map : {A B : Type 0} (f : A → B) (l : List A) (i : ℕ) (d : A) → getD (map f l) i (f d) ≡ f (getD l i d)
 getD-map f [] i d = refl
 getD-map f (a ∷ l) zero d = refl
 getD-map f (a ∷ l) (suc i) d = getD-map f l i d

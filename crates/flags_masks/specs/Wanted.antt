@@ -7,7 +7,7 @@ use lib.Bits.{bitAnd}
 use lib.Dec.{T, eqb}
 use lib.ListN.{length, getD}
 use Rattle.scene.specs.declared.Scene.{Scene}
-use Rattle.scene.specs.Read.{shapeNumber, asGiven}
+use Rattle.scene.specs.Read.{shapeNumber, turned, asGiven}
 use Rattle.scene.specs.Conditions.{indices}
 use Rattle.flags_masks.specs.declared.FlagMasks.{FlagMasks}
 use Rattle.flags_masks.specs.declared.Wanted.{Wanted}
@@ -51,13 +51,23 @@ cellMasks =
     ∷ ((60, 12) ∷ (0, 12) ∷ (67, 12) ∷ (12, 0) ∷ (240, 0) ∷ (3, 0) ∷ (76, 3) ∷ (0, 3) ∷ (0, 0) ∷ [])
     ∷ []
 
+-- an entry as the code has it
+abbrev pub entryOf : ℕ × ℕ → FlagMasks
+entryOf p = record { f = p .0; g = p .1 }
+
+-- a cell's place in the row of its pair of types: where the objects were exchanged, rows are columns
+abbrev pub placeIn : Bool → ℕ → ℕ
+placeIn exchanged at = cond exchanged (at % 3 * 3 + at / 3) at
+
 module _ (sc : Scene) where
-  -- a cell's place in the row of its pair of types: where the objects were exchanged, rows are columns
   abbrev pub cellPlace : ℕ → ℕ
-  cellPlace at = asGiven sc at (at % 3 * 3 + at / 3)
+  cellPlace = placeIn (turned sc)
+
+  abbrev pub cellMasksIn : List (ℕ × ℕ)
+  cellMasksIn = getD cellMasks ((shapeNumber (sc .f .shape) - 1) * 3 + (shapeNumber (sc .g .shape) - 1)) []
 
   abbrev pub cellMasksOf : ℕ → ℕ × ℕ
-  cellMasksOf at = getD (getD cellMasks ((shapeNumber (sc .f .shape) - 1) * 3 + (shapeNumber (sc .g .shape) - 1)) []) (cellPlace at) (0, 0)
+  cellMasksOf at = getD cellMasksIn (cellPlace at) (0, 0)
 
   -- what a set of cells, a bit for each, wants of F and of G for its cell at a place
   abbrev pub wantedForF : ℕ → ℕ → ℕ

@@ -5,9 +5,11 @@ use scene::order;
 use scene::records;
 ghost use mathlib.Core.Path.{_≡_};
 ghost use mathlib.Core.Bool.{cond};
+ghost use mathlib.Core.List.{map};
 ghost use Prim.Native.Nat.{_<_};
+ghost use lib.ListN.{getD};
 ghost use Rattle.scene.specs.Read.{shapeNumber};
-ghost use Rattle.flags_masks.specs.Wanted.{maskOfF, maskOfG, cellPlace, cellMasksOf, masksFor, hasStray, anyStray};
+ghost use Rattle.flags_masks.specs.Wanted.{maskOfF, maskOfG, entryOf, placeIn, cellMasksIn, masksFor, hasStray, anyStray};
 
 // A mask for each object, a bit for each flag.
 pub struct FlagMasks {
@@ -153,21 +155,9 @@ const CELL_MASKS: [[FlagMasks; 9]; 9] = [
     ],
 ];
 
-// Where a cell of the caller's stands in the row of its pair: with the objects exchanged, rows are columns.
-fn cell_place(scene: Scene, at: usize) -> usize
-    requires { ⌜ at < 9 ⌝ }
-    ensures { λ r. ⌜ (r ≡ cellPlace scene at) × (r < 9) ⌝ }
-{
-    if order::is_turned(scene) {
-        at % 3 * 3 + at / 3
-    } else {
-        at
-    }
-}
-
-fn cell_masks(scene: Scene, at: usize) -> FlagMasks
-    requires { ⌜ at < 9 ⌝ }
-    ensures { λ r. ⌜ (r .f ≡ cellMasksOf scene at .0) × (r .g ≡ cellMasksOf scene at .1) ⌝ }
+// The row of a scene's pair of types.
+fn cell_masks(scene: Scene) -> [FlagMasks; 9]
+    ensures { λ r. ⌜ r ≡ map entryOf (cellMasksIn scene) ⌝ }
 {
     let f = scene.f;
     let g = scene.g;
@@ -175,32 +165,41 @@ fn cell_masks(scene: Scene, at: usize) -> FlagMasks
     let of_g = g.shape;
     let row = (records::shape_number(of_f) - 1) as usize * 3
         + (records::shape_number(of_g) - 1) as usize;
-    let column = cell_place(scene, at);
-    CELL_MASKS[row][column]
+    CELL_MASKS[row]
 }
 
-// The flags that the cell at a place is read off, if it is one of the cells that are asked.
-fn wanted_for(scene: Scene, asked: bool, at: usize) -> FlagMasks
+// Where a cell of the caller's stands in the row of its pair: with the objects exchanged, rows are columns.
+fn cell_place(turned: bool, at: usize) -> usize
     requires { ⌜ at < 9 ⌝ }
-    ensures { λ r. ⌜ (r .f ≡ cond asked (cellMasksOf scene at .0) 0) × (r .g ≡ cond asked (cellMasksOf scene at .1) 0) ⌝ }
+    ensures { λ r. ⌜ (r ≡ placeIn turned at) × (r < 9) ⌝ }
+{
+    if turned { at % 3 * 3 + at / 3 } else { at }
+}
+
+// The flags that the cell at a place of a row is read off, if it is one of the cells that are asked.
+fn wanted_for(row: [FlagMasks; 9], asked: bool, place: usize) -> FlagMasks
+    requires { ⌜ place < 9 ⌝ }
+    ensures { λ r. ⌜ r ≡ cond asked (getD row place (entryOf (0, 0))) (entryOf (0, 0)) ⌝ }
 {
     if asked {
-        cell_masks(scene, at)
+        row[place]
     } else {
         FlagMasks { f: 0, g: 0 }
     }
 }
 
-// The flags that some cells are read off.
+// The flags that some cells are read off. The row is looked up once: a table is laid out anew wherever it is named.
 fn masks_of_cells(cells: u16, scene: Scene) -> FlagMasks
     ensures { λ r. ⌜ r ≡ masksFor (Wanted.Cells cells) scene ⌝ }
 {
+    let row = cell_masks(scene);
+    let turned = order::is_turned(scene);
     let mut f: u16 = 0;
     let mut g: u16 = 0;
     let mut rest = cells;
     let mut at: usize = 0;
     while at < 9 {
-        let masks = wanted_for(scene, rest % 2 == 1, at);
+        let masks = wanted_for(row, rest % 2 == 1, cell_place(turned, at));
         f = f | masks.f;
         g = g | masks.g;
         rest = rest / 2;

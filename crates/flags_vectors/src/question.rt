@@ -3,6 +3,7 @@ use crate::SceneAnswer;
 use crate::Vectors;
 use crate::VectorsAnswer;
 use check_verdict::Verdict;
+use flags_classes::Classes;
 use flags_classes::ClassesOfBoth;
 use flags_masks::FlagMasks;
 use flags_masks::Wanted;
@@ -11,6 +12,7 @@ use flags_table::walks;
 use scene::CheckedScene;
 use scene::Refusal;
 use scene::Scene;
+use scene::Shape;
 use scene::order;
 ghost use mathlib.Core.Path.{_≡_};
 ghost use Rattle.scene.specs.declared.CheckedScene.{CheckedScene as Checked};
@@ -22,6 +24,9 @@ ghost use Rattle.sweep_laws.specs.Noted.{Noted};
 ghost use Rattle.check_verdict.specs.SharedPoints.{CheckedMeans};
 ghost use Rattle.flags_meetings.specs.Met.{meetings};
 ghost use Rattle.flags_classes.specs.Classed.{classesOfF, classesOfG};
+ghost use Rattle.flags.specs.Flags.{pack};
+ghost use Rattle.flags_masks.specs.Wanted.{only};
+ghost use Rattle.flags_table.specs.Table.{flagsOfFBy, flagsOfGBy};
 ghost use Rattle.flags_table.specs.Walks.{readsMeetings, readsClasses};
 ghost use Rattle.flags_vectors.specs.Vectors.{sceneVectors, givenVectors, these, checkVectors, answerOf, vectorsOf, vectorsValues, NoFlagWrong};
 
@@ -61,6 +66,25 @@ fn wanted_classes(s: &[u8], scene: Scene, masks: FlagMasks, notes: &[u8]) -> Cla
     }
 }
 
+// The flags that are wanted of F, and of G: an object of which none is wanted has none looked up.
+fn wanted_of_f(f: Shape, g: Shape, m: Meetings, c: Classes, mask: u16) -> u16
+    ensures { λ r. ⌜ r ≡ only mask (pack (flagsOfFBy f g m c)) ⌝ }
+{
+    if mask == 0 {
+        return 0;
+    }
+    flags_table::flags_of_f(f, g, m, c) & mask
+}
+
+fn wanted_of_g(f: Shape, g: Shape, m: Meetings, c: Classes, mask: u16) -> u16
+    ensures { λ r. ⌜ r ≡ only mask (pack (flagsOfGBy f g m c)) ⌝ }
+{
+    if mask == 0 {
+        return 0;
+    }
+    flags_table::flags_of_g(f, g, m, c) & mask
+}
+
 // The wanted flags of both objects of a scene that is taken, from what the sweep noted.
 fn swept_vectors(s: &[u8], scene: Scene, masks: FlagMasks, notes: &[u8]) -> Vectors
     requires { ⌜ (checkScene (now s) ≡ Checked.Taken scene) × (2048 ≤ length (now notes)) × Noted (now s) scene (now notes) ⌝ }
@@ -73,8 +97,8 @@ fn swept_vectors(s: &[u8], scene: Scene, masks: FlagMasks, notes: &[u8]) -> Vect
     let met = wanted_meetings(s, scene, masks, notes);
     let beside = wanted_classes(s, scene, masks, notes);
     Vectors {
-        f: flags_table::flags_of_f(of_f, of_g, met, beside.f) & masks.f,
-        g: flags_table::flags_of_g(of_f, of_g, met, beside.g) & masks.g,
+        f: wanted_of_f(of_f, of_g, met, beside.f, masks.f),
+        g: wanted_of_g(of_f, of_g, met, beside.g, masks.g),
     }
 }
 

@@ -1,12 +1,11 @@
--- `flags_masks::cell_masks` meets its contract: the table of the code is that of the definition, entry by entry.
+-- `flags_masks::cell_masks` meets its contract: the table of the code is that of the definition, row by row.
 use Prim.Native.Nat.{_+_, _-_, _*_}
 use native.Mathlib.Omega.{arith}
-use mathlib.Core.Path.{ap}
+use mathlib.Core.List.{[], map}
 use borrow.Author.Needs.{needs}
 use Rattle.scene.specs.Read.{shapeNumber}
-use Rattle.flags_masks.specs.Wanted.{cellMasks, cellPlace}
-use Rattle.flags_masks.specs.declared.FlagMasks.{FlagMasks}
-use Rattle.flags_masks.proofs.Tables.{numbered, entry}
+use Rattle.flags_masks.specs.Wanted.{cellMasks, entryOf}
+use Rattle.flags_masks.proofs.Tables.{numbered, getD-map}
 use Rattle.flags_masks.proofs.cell_masks.Statement.{statement}
 use Rattle.flags_masks.proofs.cell_masks.Tie as tie
 
@@ -34,30 +33,19 @@ cast-row-2 c = search needs
 add-row : tie.Need-add-row
 add-row c = search needs
 
-cell-place-requires : tie.Need-cell-place-requires
-cell-place-requires c κs = search needs
-
 mul-result : tie.Need-mul-result
 mul-result c = search needs
 
-mul-result-2 : tie.Need-mul-result-2
-mul-result-2 c = search needs
-
-index-1-result : tie.Need-index-1-result
-index-1-result c =
-    let z = c .before .before .before .before .before .args .scene in
-    omega (arith, c .before .before .shape-number .ensures, c .before .shape-number2 .ensures, numbered (z .f .shape), numbered (z .g .shape))
-
-index-2-result : tie.Need-index-2-result
-index-2-result c = search needs
+array-copy-out-result : tie.Need-array-copy-out-result
+array-copy-out-result c =
+    let z = c .before .before .before .before .args .scene in
+    omega (arith, c .before .shape-number .ensures, c .shape-number2 .ensures, numbered (z .f .shape), numbered (z .g .shape))
 
 returns : tie.Need-returns
 returns c =
-    let placed = c .before in
-    let z = placed .before .before .before .before .before .args in
-    let e = entry cellMasks ((shapeNumber (z .scene .f .shape) - 1) * 3 + (shapeNumber (z .scene .g .shape) - 1)) (cellPlace (z .scene) (z .at)) in
-    rw (placed .before .before .shape-number .ensures, placed .before .shape-number2 .ensures, placed .cell-place .ensures .0)
-    (ap (λ (m : FlagMasks). m .f) e, ap (λ (m : FlagMasks). m .g) e)
+    let z = c .before .before .before .before .before .args .scene in
+    rw (c .before .before .shape-number .ensures, c .before .shape-number2 .ensures)
+    (getD-map (map entryOf) cellMasks ((shapeNumber (z .f .shape) - 1) * 3 + (shapeNumber (z .g .shape) - 1)) [])
 
 pub cell-masks-spec : {M : Type 1} → statement M
 cell-masks-spec =
@@ -71,9 +59,6 @@ cell-masks-spec =
     sub-row-2
     cast-row-2
     add-row
-    cell-place-requires
     mul-result
-    mul-result-2
-    index-1-result
-    index-2-result
+    array-copy-out-result
     returns)

@@ -3,14 +3,17 @@ use borrow.Author.Needs.{needs}
 use Rattle.flags_masks.proofs.wanted_for.Statement.{statement}
 use Rattle.flags_masks.proofs.wanted_for.Tie as tie
 
-cell-masks-requires : tie.Need-cell-masks-requires
-cell-masks-requires c κs = search needs
+mul-result : tie.Need-mul-result
+mul-result c = search needs
+
+array-copy-out-result : tie.Need-array-copy-out-result
+array-copy-out-result c = search needs
 
 returns : tie.Need-returns
-returns c = rw (c .before .if1 .taken) (c .cell-masks .ensures)
+returns c = rw (c .before .if1 .taken)
 
 returns-2 : tie.Need-returns-2
-returns-2 c = search needs
+returns-2 c = rw (c .if1 .left)
 
 pub wanted-for-spec : {M : Type 1} → statement M
-wanted-for-spec = tie.close (tie.spec cell-masks-requires returns returns-2)
+wanted-for-spec = tie.close (tie.spec mul-result array-copy-out-result returns returns-2)

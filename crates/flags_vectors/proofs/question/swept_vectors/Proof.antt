@@ -1,7 +1,6 @@
 -- `flags_vectors::question::swept_vectors` meets its contract: the flags by meetings and classes, and those that are wanted.
-use mathlib.Core.Path.{ap, _∙_}
+use mathlib.Core.Path.{_∙_}
 use borrow.Author.Needs.{needs}
-use Rattle.flags_masks.specs.Wanted.{only}
 use Rattle.flags_vectors.proofs.Answered.{accepted, vector-f, vector-g}
 use Rattle.flags_vectors.proofs.question.swept_vectors.Statement.{statement}
 use Rattle.flags_vectors.proofs.question.swept_vectors.Tie as tie
@@ -12,25 +11,25 @@ wanted-meetings-requires c κs = search needs
 wanted-classes-requires : tie.Need-wanted-classes-requires
 wanted-classes-requires c κs = search needs
 
-flags-of-f-requires : tie.Need-flags-of-f-requires
-flags-of-f-requires c κs = search needs
+wanted-of-f-requires : tie.Need-wanted-of-f-requires
+wanted-of-f-requires c κs = search needs
 
-flags-of-g-requires : tie.Need-flags-of-g-requires
-flags-of-g-requires c κs = search needs
+wanted-of-g-requires : tie.Need-wanted-of-g-requires
+wanted-of-g-requires c κs = search needs
 
 returns : tie.Need-returns
 returns c =
-    let classed = c .before .before .before .before in
+    let classed = c .before .before in
     let met = classed .before in
     let z = met .before .before .before .before .before in
     let masks = z .args .masks in
     let o = accepted (z .args .s .now) (z .args .scene) (z .pre .0) in
     λ i. record {
       f =
-          (ap (only (masks .f)) (c .before .before .before .flags-of-f .ensures)
+          (c .before .wanted-of-f .ensures
           ∙ vector-f o (z .pre .2) masks (met .wanted-meetings .ensures) (classed .wanted-classes .ensures)) i;
       g =
-          (ap (only (masks .g)) (c .before .flags-of-g .ensures)
+          (c .wanted-of-g .ensures
           ∙ vector-g o (z .pre .2) masks (met .wanted-meetings .ensures) (classed .wanted-classes .ensures)) i;
     }
 
@@ -40,6 +39,6 @@ swept-vectors-spec =
     (tie.spec
     wanted-meetings-requires
     wanted-classes-requires
-    flags-of-f-requires
-    flags-of-g-requires
+    wanted-of-f-requires
+    wanted-of-g-requires
     returns)
