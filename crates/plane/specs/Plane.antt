@@ -53,6 +53,15 @@ turnOf (negsuc n) = Right
 unfoldable pub turn : Point → Point → Point → Turn
 turn a b c = turnOf (side a b c)
 
+-- a turn as a number, and a point by its coordinates, for the inside of the side test
+abbrev pub turnCode : Turn → ℕ
+turnCode Right = 0
+turnCode Straight = 1
+turnCode Left = 2
+
+abbrev pub at : ℤ → ℤ → Point
+at x y = record { x = x; y = y }
+
 -- "It is stored as two halfsegments: d = 1 is the left one, whose dominating point is the left end; d = 0 the right one."
 abbrev pub choose : Bool → Point → Point → Point
 choose true p q = p
