@@ -19,7 +19,9 @@ use Rattle.whole.proofs.Logic.{and-left, and-right}
 use Rattle.plane.specs.declared.Point.{Point}
 use Rattle.plane.specs.declared.Turn.{Turn}
 use Rattle.plane.specs.declared.Turn.the-variants.{Left, Straight, Right}
-use Rattle.plane.specs.Plane.{limit, within, samePoint, side, at, turnOf, turn, turnCode}
+use Rattle.plane.specs.declared.Beside.{Beside}
+use Rattle.plane.specs.declared.Beside.the-variants.{Over, Under, Neither}
+use Rattle.plane.specs.Plane.{limit, within, samePoint, side, at, turnOf, turn, turnCode, Told}
 use Rattle.plane.proofs.Machine.{Held, isStraight, natAbs-difference, half-fits, near-fits, within-x, within-y}
 
 -- ---- the turn of a sign
@@ -184,6 +186,28 @@ coded-in-line Right = refl
 -- a point is read back from its bits
 pub point-back : (p : Point) → Held p → at (toZ w32 (ofZ w32 (p .x))) (toZ w32 (ofZ w32 (p .y))) ≡ p
 point-back p h = ap₂ at (toZ-ofZ (h .x-fits)) (toZ-ofZ (h .y-fits))
+
+-- ---- what a look at the box tells
+pub told-over : (t : Turn) → Left ≡ t → Told Over t
+told-over t e = record { over = λ q. sym e; under = λ q. absurd (clash q) }
+  where
+    clash : Over ≡ Under → ⊥
+    clash q = let z : _≡_ {A = ℕ} 0 1 = cc in omega arith
+
+pub told-under : (t : Turn) → Right ≡ t → Told Under t
+told-under t e = record { over = λ q. absurd (clash q); under = λ q. sym e }
+  where
+    clash : Under ≡ Over → ⊥
+    clash q = let z : _≡_ {A = ℕ} 0 1 = cc in omega arith
+
+pub told-nothing : (t : Turn) → Told Neither t
+told-nothing t = record { over = λ q. absurd (not-over q); under = λ q. absurd (not-under q) }
+  where
+    not-over : Neither ≡ Over → ⊥
+    not-over q = let z : _≡_ {A = ℕ} 0 1 = cc in omega arith
+
+    not-under : Neither ≡ Under → ⊥
+    not-under q = let z : _≡_ {A = ℕ} 0 1 = cc in omega arith
 
 -- ---- over and under the box of a and b: the side value is a sum of two products of one sign
 weighed : {p q r t : ℤ} → NonNeg p → NonNeg q → Pos (p +ℤ q) → Pos r → Pos t → Pos (p *ℤ r +ℤ q *ℤ t)

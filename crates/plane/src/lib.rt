@@ -8,7 +8,7 @@ ghost use lib.Dec.{T, leb};
 ghost use lib.IntN.{pos, natAbs, _+ℤ_, _-ℤ_};
 ghost use lib.Signed.{ltZ, leZ};
 ghost use Rattle.whole.specs.Count.{eqZ};
-ghost use Rattle.plane.specs.Plane.{limit, within, inRange, before, samePoint, sameSegment, side, at, turnOf, turn, turnCode};
+ghost use Rattle.plane.specs.Plane.{limit, within, inRange, before, samePoint, sameSegment, side, at, turnOf, turn, turnCode, Told};
 
 // The largest coordinate, and minus the smallest.
 pub const LIMIT: i32 = 10_000_000;
@@ -148,23 +148,36 @@ fn spans(m: i32, n: i32, x: i32) -> bool
     m < n && is_between(m, n, x)
 }
 
-// The turn at b of the path from a through b to c, as a number. Most turns of a walk need no product: c is over or under the box of a and b, or one of
-// them. Coordinates and a number, not points and a turn: so nothing of a test goes through memory.
-fn turn_code(ax: i32, ay: i32, bx: i32, by: i32, cx: i32, cy: i32) -> u32
-    requires { ⌜ T (within (2 * limit) (at ax ay)) × T (within (2 * limit) (at bx by)) × T (within (2 * limit) (at cx cy)) ⌝ }
-    ensures { λ r. ⌜ r ≡ turnCode (turn (at ax ay) (at bx by) (at cx cy)) ⌝ }
+// Where c is beside the box of a and b: over it or under it, and within its width. Most turns of a walk are told by that, and need no product.
+pub enum Beside {
+    Over,
+    Under,
+    Neither,
+}
+
+// Coordinates and not points: so nothing of a test goes through memory.
+pub fn beside_box(ax: i32, ay: i32, bx: i32, by: i32, cx: i32, cy: i32) -> Beside
+    ensures { λ r. ⌜ Told r (turn (at ax ay) (at bx by) (at cx cy)) ⌝ }
 {
     if spans(ax, bx, cx) {
-        if ay < cy {
-            if by < cy {
-                return 2;
-            }
-        } else if cy < ay {
+        if cy < ay {
             if cy < by {
-                return 0;
+                return Beside::Under;
+            }
+        } else if by < cy {
+            if ay < cy {
+                return Beside::Over;
             }
         }
     }
+    Beside::Neither
+}
+
+// The turn where c may be one of the two, as a number.
+fn turn_by_ends(ax: i32, ay: i32, bx: i32, by: i32, cx: i32, cy: i32) -> u32
+    requires { ⌜ T (within (2 * limit) (at ax ay)) × T (within (2 * limit) (at bx by)) × T (within (2 * limit) (at cx cy)) ⌝ }
+    ensures { λ r. ⌜ r ≡ turnCode (turn (at ax ay) (at bx by) (at cx cy)) ⌝ }
+{
     if is_same_point(Point { x: bx, y: by }, Point { x: cx, y: cy }) {
         return 1;
     }
@@ -177,6 +190,18 @@ fn turn_code(ax: i32, ay: i32, bx: i32, by: i32, cx: i32, cy: i32) -> u32
         raised(by, ay),
         raised(cx, ax),
     )
+}
+
+// The turn at b of the path from a through b to c, as a number.
+fn turn_code(ax: i32, ay: i32, bx: i32, by: i32, cx: i32, cy: i32) -> u32
+    requires { ⌜ T (within (2 * limit) (at ax ay)) × T (within (2 * limit) (at bx by)) × T (within (2 * limit) (at cx cy)) ⌝ }
+    ensures { λ r. ⌜ r ≡ turnCode (turn (at ax ay) (at bx by) (at cx cy)) ⌝ }
+{
+    match beside_box(ax, ay, bx, by, cx, cy) {
+        Beside::Over => 2,
+        Beside::Under => 0,
+        Beside::Neither => turn_by_ends(ax, ay, bx, by, cx, cy),
+    }
 }
 
 // The turn at b of the path from a through b to c.

@@ -1,18 +1,27 @@
--- `plane::turn_code` meets its contract: over or under the box of a and b, at one of the two, or by the products.
-use mathlib.Core.Path.{_≡_, sym, ap, ap₂, _∙_}
-use mathlib.Core.Bool.{_&&_}
+-- `plane::turn_code` meets its contract, by what the look at the box tells.
+use mathlib.Core.Path.{_≡_, sym, ap}
+use mir.Syntax.{w32}
+use mir.Val.{toZ, ofZ}
 use borrow.Author.Needs.{needs}
-use lib.Dec.{T}
-use lib.Signed.{ltZ, leZ}
-use Rattle.whole.proofs.Logic.{and-make, is-true}
 use Rattle.plane.specs.declared.Point.{Point}
-use Rattle.plane.specs.Plane.{at, turnCode}
-use Rattle.plane.proofs.Machine.{Held, doubled-held}
-use Rattle.plane.proofs.Narrow.{below-read, upto-read, over-box, under-box, at-first, at-second, point-back, raised-asks-x, raised-asks-y, raised-of-x, raised-of-y, sums-are}
+use Rattle.plane.specs.Plane.{at, turn, turnCode, Told}
+use Rattle.plane.proofs.Narrow.{point-back}
 use Rattle.plane.proofs.turn_code.Statement.{statement}
 use Rattle.plane.proofs.turn_code.Tie as tie
 
--- the three points
+beside-box-requires : tie.Need-beside-box-requires
+beside-box-requires c κs = search needs
+
+enum-told : tie.Need-enum-told
+enum-told c = search needs
+
+enum-told-2 : tie.Need-enum-told-2
+enum-told-2 c = search needs
+
+enum-told-3 : tie.Need-enum-told-3
+enum-told-3 c = search needs
+
+-- the three points, which the calls are handed by their bits
 module _ (s : tie.Start) where
   abbrev a : Point
   a = at (s .args .ax) (s .args .ay)
@@ -23,108 +32,39 @@ module _ (s : tie.Start) where
   abbrev p : Point
   p = at (s .args .cx) (s .args .cy)
 
-  a-held : Held a
-  a-held = doubled-held a (s .pre .0)
+  a-back : at (toZ w32 (ofZ w32 (s .args .ax))) (toZ w32 (ofZ w32 (s .args .ay))) ≡ a
+  a-back = point-back a (record { x-fits = s .fits .ax; y-fits = s .fits .ay })
 
-  b-held : Held b
-  b-held = doubled-held b (s .pre .1)
+  b-back : at (toZ w32 (ofZ w32 (s .args .bx))) (toZ w32 (ofZ w32 (s .args .by))) ≡ b
+  b-back = point-back b (record { x-fits = s .fits .bx; y-fits = s .fits .by })
 
-  p-held : Held p
-  p-held = doubled-held p (s .pre .2)
+  p-back : at (toZ w32 (ofZ w32 (s .args .cx))) (toZ w32 (ofZ w32 (s .args .cy))) ≡ p
+  p-back = point-back p (record { x-fits = s .fits .cx; y-fits = s .fits .cy })
 
-spanned : (c : tie.Then1) →
-    let s = c .before .before in
-    T (ltZ (s .args .ax) (s .args .bx) && (leZ (s .args .ax) (s .args .cx) && leZ (s .args .cx) (s .args .bx)))
-spanned c =
-    let s = c .before .before in
-    let f = a-held s .x-fits in
-    let g = b-held s .x-fits in
-    let h = p-held s .x-fits in
-    is-true _ (sym (c .before .spans .ensures ∙ ap₂ _&&_ (below-read f g) (ap₂ _&&_ (upto-read f h) (upto-read h g))) ∙ c .if1 .taken)
+told : (c : tie.After-beside-box) → let s = c .before in Told (c .beside-box .result) (turn (a s) (b s) (p s))
+told c = let s = c .before in rw (a-back s, b-back s, p-back s) at (c .beside-box .ensures)
 
-spans-requires : tie.Need-spans-requires
-spans-requires c κs = search needs
+turn-by-ends-requires : tie.Need-turn-by-ends-requires
+turn-by-ends-requires c κs = let s = c .before .before .before in rw (a-back s, b-back s, p-back s) (s .pre)
 
 returns : tie.Need-returns
-returns c =
-    let t = c .before .before in
-    let s = t .before .before in
-    let h = p-held s .y-fits in
-    ap turnCode
-    (over-box (a s) (b s) (p s) (spanned t)
-    (and-make (ltZ (s .args .ay) (s .args .cy)) (ltZ (s .args .by) (s .args .cy))
-    (is-true _ (sym (below-read (a-held s .y-fits) h) ∙ c .before .if2 .taken)) (is-true _ (sym (below-read (b-held s .y-fits) h) ∙ c .if3 .taken))))
+returns c = ap turnCode (sym (told (c .before .before) .over (c .enum-told .given .1)))
 
 returns-2 : tie.Need-returns-2
-returns-2 c =
-    let t = c .before .before .before in
-    let s = t .before .before in
-    let h = p-held s .y-fits in
-    ap turnCode
-    (under-box (a s) (b s) (p s) (spanned t)
-    (and-make (ltZ (s .args .cy) (s .args .ay)) (ltZ (s .args .cy) (s .args .by))
-    (is-true _ (sym (below-read h (a-held s .y-fits)) ∙ c .before .if4 .taken)) (is-true _ (sym (below-read h (b-held s .y-fits)) ∙ c .if5 .taken))))
-
-is-same-point-requires : tie.Need-is-same-point-requires
-is-same-point-requires c κs = search needs
+returns-2 c = ap turnCode (sym (told (c .before .before) .under (c .enum-told2 .given .1)))
 
 returns-3 : tie.Need-returns-3
-returns-3 c =
-    let s = c .before .before .before .before in
-    ap turnCode (at-second (a s) (b s) (p s) (is-true _ (sym (rw (point-back (b s) (b-held s), point-back (p s) (p-held s)) at (c .before .is-same-point .ensures)) ∙ c .if6 .taken)))
-
-is-same-point-requires-2 : tie.Need-is-same-point-requires-2
-is-same-point-requires-2 c κs = search needs
-
-returns-4 : tie.Need-returns-4
-returns-4 c =
-    let s = c .before .before .before .before .before .before in
-    ap turnCode (at-first (a s) (b s) (p s) (is-true _ (sym (rw (point-back (a s) (a-held s), point-back (p s) (p-held s)) at (c .before .is-same-point2 .ensures)) ∙ c .if7 .taken)))
-
-raised-requires : tie.Need-raised-requires
-raised-requires c κs = let s = c .before .before .before .before .before .before in raised-asks-x (b s) (a s) (s .pre .1) (s .pre .0)
-
-raised-requires-2 : tie.Need-raised-requires-2
-raised-requires-2 c κs = let s = c .before .before .before .before .before .before .before in raised-asks-y (p s) (a s) (s .pre .2) (s .pre .0)
-
-raised-requires-3 : tie.Need-raised-requires-3
-raised-requires-3 c κs = let s = c .before .before .before .before .before .before .before .before in raised-asks-y (b s) (a s) (s .pre .1) (s .pre .0)
-
-raised-requires-4 : tie.Need-raised-requires-4
-raised-requires-4 c κs = let s = c .before .before .before .before .before .before .before .before .before in raised-asks-x (p s) (a s) (s .pre .2) (s .pre .0)
-
-turn-by-products-requires : tie.Need-turn-by-products-requires
-turn-by-products-requires c κs = search needs
-
-returns-5 : tie.Need-returns-5
-returns-5 c =
-    let r₄ = c .before in
-    let r₃ = r₄ .before in
-    let r₂ = r₃ .before in
-    let r₁ = r₂ .before in
-    let s = r₁ .before .before .before .before .before .before .before in
-    c .turn-by-products .ensures
-    ∙ ap turnCode
-    (sums-are (a s) (b s) (p s) (r₁ .raised .result) (r₂ .raised2 .result) (r₃ .raised3 .result) (r₄ .raised4 .result)
-    (raised-of-x (b s) (a s) (s .pre .1) (s .pre .0) (r₁ .raised .result) (r₁ .raised .ensures .0))
-    (raised-of-y (p s) (a s) (s .pre .2) (s .pre .0) (r₂ .raised2 .result) (r₂ .raised2 .ensures .0))
-    (raised-of-y (b s) (a s) (s .pre .1) (s .pre .0) (r₃ .raised3 .result) (r₃ .raised3 .ensures .0))
-    (raised-of-x (p s) (a s) (s .pre .2) (s .pre .0) (r₄ .raised4 .result) (r₄ .raised4 .ensures .0)))
+returns-3 c = let s = c .before .before .before .before in rw (a-back s, b-back s, p-back s) at (c .turn-by-ends .ensures)
 
 pub turn-code-spec : {M : Type 1} → statement M
 turn-code-spec =
     tie.close
     (tie.spec
-    spans-requires
+    beside-box-requires
+    enum-told
+    enum-told-2
+    enum-told-3
+    turn-by-ends-requires
     returns
     returns-2
-    is-same-point-requires
-    returns-3
-    is-same-point-requires-2
-    returns-4
-    raised-requires
-    raised-requires-2
-    raised-requires-3
-    raised-requires-4
-    turn-by-products-requires
-    returns-5)
+    returns-3)
