@@ -60,6 +60,10 @@ mag-natAbs (negsuc n) = omega arith
 pub small-fits : (z : ℤ) → natAbs z ≤ 2 ^ 62 → SFits w64 z
 small-fits z h = record { sfits = omega (arith, mag-small z) }
 
+-- and what is at most 2 ^ 30 fits 32
+pub half-fits : (z : ℤ) → natAbs z ≤ 2 ^ 30 → SFits w32 z
+half-fits z h = record { sfits = omega (arith, mag-small z) }
+
 -- ---- tests
 pub eqZ-true : (a b : ℤ) → eqZ a b ≡ true → a ≡ b
 eqZ-true (pos a) (pos b) e = ap pos (eqb-true a b e)
@@ -160,8 +164,8 @@ pub turn-asks :
     T (within (2 * limit) (s .left)) × T (within (2 * limit) (s .right)) × T (within (2 * limit) p)
 turn-asks s p t u = (left-in-doubled s t, right-in-doubled s t, in-doubled p u)
 
-near-fits : (z : ℤ) → natAbs z ≤ 2 * limit → SFits w32 z
-near-fits z h = record { sfits = omega (arith, mag-small z) }
+pub near-fits : (z : ℤ) → natAbs z ≤ 2 * limit → SFits w32 z
+near-fits z h = half-fits z (omega arith)
 
 pub doubled-held : (p : Point) → T (within (2 * limit) p) → Held p
 doubled-held p t =

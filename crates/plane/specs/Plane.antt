@@ -1,6 +1,7 @@
 -- The plane: document 01's section "Objects", sentence by sentence. All tests compute; none but `inRange` knows a coordinate range.
 -- A quotation names the sentence that a definition renders.
 use Prim.Native.Nat.{ℕ, zero, suc, _*_, _<_}
+use mathlib.Core.Path.{_≡_}
 use mathlib.Core.Bool.{Bool, true, false, not, _&&_, _||_}
 use mathlib.Core.List.{List}
 use lib.Dec.{T, leb}
@@ -12,6 +13,8 @@ use Rattle.plane.specs.declared.Segment.{Segment}
 use Rattle.plane.specs.declared.Halfsegment.{Halfsegment}
 use Rattle.plane.specs.declared.Turn.{Turn}
 use Rattle.plane.specs.declared.Turn.the-variants.{Left, Straight, Right}
+use Rattle.plane.specs.declared.Beside.{Beside}
+use Rattle.plane.specs.declared.Beside.the-variants.{Over, Under}
 
 -- "Coordinates run from -10,000,000 to 10,000,000" (02, Paper 13).
 abbrev pub limit : ℕ
@@ -52,6 +55,20 @@ turnOf (negsuc n) = Right
 
 unfoldable pub turn : Point → Point → Point → Turn
 turn a b c = turnOf (side a b c)
+
+-- a turn as a number, and a point by its coordinates, for the inside of the side test
+abbrev pub turnCode : Turn → ℕ
+turnCode Right = 0
+turnCode Straight = 1
+turnCode Left = 2
+
+abbrev pub at : ℤ → ℤ → Point
+at x y = record { x = x; y = y }
+
+-- what a look at the box of two points tells of a turn
+pub record Told (r : Beside) (t : Turn) : Type 0 where
+  pub over : r ≡ Over → t ≡ Left
+  pub under : r ≡ Under → t ≡ Right
 
 -- "It is stored as two halfsegments: d = 1 is the left one, whose dominating point is the left end; d = 0 the right one."
 abbrev pub choose : Bool → Point → Point → Point

@@ -1,4 +1,4 @@
-// What is asked of segments, in 64 bits, each test proved equal to its definition in plane's Plane.antt: the order of halfsegments, "on", "counts below"
+// What is asked of segments, each test proved equal to its definition in plane's Plane.antt: the order of halfsegments, "on", "counts below"
 // and the touch test.
 use plane::Halfsegment;
 use plane::Point;

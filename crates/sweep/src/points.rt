@@ -33,7 +33,7 @@ fn locate(s: &[u8], status: &[u16], n: usize, v: Point) -> u8
         return 0;
     }
     let u = bytes::segment(s, place::wide(status[k - 1]));
-    if plane::side(u.left, u.right, v) == 0 {
+    if plane::is_in_line(u.left, u.right, v) {
         return 2;
     }
     (k % 2 == 1) as u8

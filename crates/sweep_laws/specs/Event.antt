@@ -25,6 +25,13 @@ pub record Place (s entries : List ℕ) (p : Point) (k : ℕ) : Type 0 where
   pub over-it : AtPlace entries k (λ e. T (passesOver (segmentAt s e) p))
   pub not-below : BelowPlace entries k (λ e. passesOver (segmentAt s e) p ≡ false)
 
+-- a place for p is from low to high among the first n of the array: the entry at high, if there is one, passes over p, and the one just below low does not
+pub record Bracket (s status : List ℕ) (n : ℕ) (p : Point) (low high : ℕ) : Type 0 where
+  pub rises : low ≤ high
+  pub within : high ≤ n
+  pub over-it : high < n → T (passesOver (segmentAt s (getD status high 0)) p)
+  pub not-below : BelowPlace status low (λ e. passesOver (segmentAt s e) p ≡ false)
+
 -- e can stand just below f: it is the lower of the two at the right
 abbrev pub LowerNext : List ℕ → ℕ → ℕ → Type 0
 LowerNext s e f = T (lowerAtRight (segmentAt s e) (segmentAt s f))

@@ -1,6 +1,7 @@
 // Where an event stands in the status, and whether its neighbours there let it in. Each function looks at a few entries only: that the others stand
 // in order follows, since every two neighbours were tested when they became neighbours. The entries are the first n of the array.
 use crate::owner;
+use plane::Beside;
 use plane::Point;
 use plane::Segment;
 use scene::Scene;
@@ -16,7 +17,7 @@ ghost use Rattle.scene.specs.Read.{segmentAt};
 ghost use Rattle.scene.proofs.Given.{GoodHalfsegment};
 ghost use Rattle.sweep_laws.specs.Lower.{passesUnder, passesOver, lowerAtRight};
 ghost use Rattle.sweep_laws.specs.Status.{AtPlace, BelowPlace};
-ghost use Rattle.sweep_laws.specs.Event.{Place, LowerNext, FitsOver, CanMeet};
+ghost use Rattle.sweep_laws.specs.Event.{Place, Bracket, LowerNext, FitsOver, CanMeet};
 ghost use Rattle.sweep_laws.specs.Ready.{Readable};
 
 pub fn wide(e: u16) -> usize
@@ -34,11 +35,16 @@ fn is_under(u: Segment, p: Point) -> bool
     plane_segments::is_left_of(u.left, u.right, p)
 }
 
+// Asked of many entries for each event, so the box of u is looked at here.
 fn is_over(u: Segment, p: Point) -> bool
     requires { ⌜ T (segmentInRange u) × T (inRange p) ⌝ }
     ensures { λ r. ⌜ r ≡ passesOver u p ⌝ }
 {
-    plane_segments::is_right_of(u.left, u.right, p)
+    match plane::beside_box(u.left.x, u.left.y, u.right.x, u.right.y, p.x, p.y) {
+        Beside::Over => false,
+        Beside::Under => true,
+        Beside::Neither => plane_segments::is_right_of(u.left, u.right, p),
+    }
 }
 
 // Does it begin with t, and turn left into it?
@@ -84,16 +90,24 @@ fn segment_of(s: &[u8], status: &[u16], i: usize) -> Segment
     bytes::segment(s, wide(status[i]))
 }
 
-// A place for p, by halving. Where those that pass over p stand above all others, it is the first of them.
-pub fn first_over(s: &[u8], p: Point, status: &[u16], n: usize) -> usize
-    requires { ⌜ T (inRange p) × Readable (now s) (now status) n ⌝ }
+// Does the entry i pass over p?
+fn is_entry_over(s: &[u8], p: Point, status: &[u16], i: usize) -> bool
+    requires { ⌜ T (inRange p) × (i < length (now status)) × GoodHalfsegment (now s) (getD (now status) i 0) ⌝ }
+    ensures { λ r. ⌜ r ≡ passesOver (segmentAt (now (s .entry)) (getD (now (status .entry)) i 0)) p ⌝ }
+{
+    is_over(segment_of(s, status, i), p)
+}
+
+// A place for p from low to high, by halving. Where those that pass over p stand above all others, it is the first of them.
+fn search(s: &[u8], p: Point, status: &[u16], n: usize, from: usize, to: usize) -> usize
+    requires { ⌜ T (inRange p) × Readable (now s) (now status) n × Bracket (now s) (now status) n p from to ⌝ }
     ensures { λ r. ⌜ Place (now (s .entry)) (take n (now (status .entry))) p r ⌝ }
 {
-    let mut low: usize = 0;
-    let mut high = n;
+    let mut low = from;
+    let mut high = to;
     while low < high {
         let middle = low + (high - low) / 2;
-        if is_over(segment_of(s, status, middle), p) {
+        if is_entry_over(s, p, status, middle) {
             high = middle;
         } else {
             low = middle + 1;
@@ -102,55 +116,53 @@ pub fn first_over(s: &[u8], p: Point, status: &[u16], n: usize) -> usize
     high
 }
 
-// Is k a place for p?
-fn is_place(s: &[u8], p: Point, status: &[u16], n: usize, k: usize) -> bool
-    requires { ⌜ T (inRange p) × Readable (now s) (now status) n ⌝ }
-    ensures { λ r. ⌜ Decides (Place (now (s .entry)) (take n (now (status .entry))) p k) r ⌝ }
-{
-    if n < k {
-        return false;
-    }
-    if 0 < k {
-        if is_over(segment_of(s, status, k - 1), p) {
-            return false;
-        }
-    }
-    if k == n {
-        return true;
-    }
-    is_over(segment_of(s, status, k), p)
-}
-
-// A place for p, looked for first at a hint, the place of the event before, and just above it: where several halfsegments meet at a point, the next one
-// is there.
-fn near(s: &[u8], p: Point, status: &[u16], n: usize, hint: usize) -> usize
+// A place for p among all entries.
+pub fn first_over(s: &[u8], p: Point, status: &[u16], n: usize) -> usize
     requires { ⌜ T (inRange p) × Readable (now s) (now status) n ⌝ }
     ensures { λ r. ⌜ Place (now (s .entry)) (take n (now (status .entry))) p r ⌝ }
 {
-    if is_place(s, p, status, n, hint) {
-        return hint;
+    search(s, p, status, n, 0, n)
+}
+
+// A place for p from low on, the entry just below which does not pass over p: looked for first at low, and just above it.
+fn from_place(s: &[u8], p: Point, status: &[u16], n: usize, low: usize) -> usize
+    requires { ⌜ T (inRange p) × Readable (now s) (now status) n × Bracket (now s) (now status) n p low n ⌝ }
+    ensures { λ r. ⌜ Place (now (s .entry)) (take n (now (status .entry))) p r ⌝ }
+{
+    if low == n {
+        return n;
     }
-    if hint < n {
-        if is_place(s, p, status, n, hint + 1) {
-            return hint + 1;
-        }
+    if is_entry_over(s, p, status, low) {
+        return low;
     }
-    first_over(s, p, status, n)
+    if low + 1 == n {
+        return n;
+    }
+    if is_entry_over(s, p, status, low + 1) {
+        return low + 1;
+    }
+    search(s, p, status, n, low + 2, n)
 }
 
 // With fewer entries than these, a search costs no more than a look at two places.
 const FEW: usize = 32;
 
-// A place for p, by the quicker way.
+// A place for p, looked for first at a hint, the place of the event before, and just above it: where several halfsegments meet at a point, the next one
+// is there.
 pub fn find(s: &[u8], p: Point, status: &[u16], n: usize, hint: usize) -> usize
     requires { ⌜ T (inRange p) × Readable (now s) (now status) n ⌝ }
     ensures { λ r. ⌜ Place (now (s .entry)) (take n (now (status .entry))) p r ⌝ }
 {
-    if n < FEW {
-        first_over(s, p, status, n)
-    } else {
-        near(s, p, status, n, hint)
+    if n < FEW || n < hint {
+        return first_over(s, p, status, n);
     }
+    if hint == 0 {
+        return from_place(s, p, status, n, 0);
+    }
+    if is_entry_over(s, p, status, hint - 1) {
+        return search(s, p, status, n, 0, hint - 1);
+    }
+    from_place(s, p, status, n, hint)
 }
 
 // Does the entry just below place k belong under the segment that begins, and is it the lower of the two at the right?

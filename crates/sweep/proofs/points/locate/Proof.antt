@@ -1,8 +1,6 @@
 -- `sweep::points::locate` meets its contract, by the entry just below the place that is found.
 use Prim.Native.Nat.{ℕ, suc, _-_, _<_, _≤_}
 use native.Mathlib.Omega.{arith}
-use mir.Syntax.{w64}
-use mir.Val.{ofZ}
 use mathlib.Core.Path.{_≡_, refl, sym, ap, subst, _∙_}
 use mathlib.Core.List.{List}
 use borrow.Author.Needs.{needs}
@@ -10,11 +8,11 @@ use lib.Dec.{T}
 use lib.IntN.{ℤ, pos}
 use lib.ListN.{getD, take}
 use lib.Seq.{getD-take}
-use Rattle.whole.specs.Count.{bit, odd}
+use Rattle.whole.specs.Count.{eqZ, bit, odd}
 use Rattle.whole.proofs.Logic.{is-true}
 use Rattle.plane.specs.declared.Segment.{Segment}
 use Rattle.plane.specs.Plane.{side}
-use Rattle.plane.proofs.Machine.{turn-asks, small-fits, bits-eq, eqZ-yes}
+use Rattle.plane.proofs.Machine.{turn-asks, eqZ-false}
 use Rattle.scene.specs.Read.{segmentAt}
 use Rattle.scene.proofs.Given.{GoodHalfsegment}
 use Rattle.scene_segments.proofs.Walk.{byte-bit}
@@ -57,8 +55,8 @@ module _ (c : tie.After-wide) where
   here : GoodHalfsegment (y .args .s .now) (c .wide .result)
   here = subst (GoodHalfsegment (y .args .s .now)) (sym (c .wide .ensures)) (y .pre .0 .entries i (last d))
 
--- and its side value, as the machine reads it from its bits
-module _ (c : tie.After-side) where
+-- and whether it has the point in its line
+module _ (c : tie.After-is-in-line) where
   abbrev e : tie.After-wide
   e = c .before .before
 
@@ -68,10 +66,10 @@ module _ (c : tie.After-side) where
   abbrev sideOf : ℕ → ℤ
   sideOf m = let t = segmentAt (y e .args .s .now) (getD (entries at) m 0) in side (t .left) (t .right) (y e .args .v)
 
-  value-is : c .side .result ≡ sideOf (i e)
-  value-is =
-      c .side .ensures
-      ∙ ap (λ (u : Segment). side (u .left) (u .right) (y e .args .v))
+  test-is : c .is-in-line .result ≡ eqZ (sideOf (i e)) (pos 0)
+  test-is =
+      c .is-in-line .ensures
+      ∙ ap (λ (u : Segment). eqZ (side (u .left) (u .right) (y e .args .v)) (pos 0))
       (c .before .segment .ensures ∙ ap (segmentAt (y e .args .s .now)) (e .wide .ensures ∙ sym (getD-take (y e .args .n) (y e .args .status .now) (i e) 0 (last (d e)))))
 
   below : (m : ℕ) → suc m ≡ k at → i e ≡ m
@@ -102,14 +100,14 @@ wide-requires c κs = search needs
 segment-requires : tie.Need-segment-requires
 segment-requires c κs = here c .there
 
-side-requires : tie.Need-side-requires
-side-requires c κs = let w = c .before in turn-asks (c .segment .result) (y w .args .v) (in-range-at (here w) (c .segment .ensures)) (y w .pre .1)
+is-in-line-requires : tie.Need-is-in-line-requires
+is-in-line-requires c κs = let w = c .before in turn-asks (c .segment .result) (y w .args .v) (in-range-at (here w) (c .segment .ensures)) (y w .pre .1)
 
 returns-2 : tie.Need-returns-2
 returns-2 c =
     let b = c .before in
     on-entry (i (e b)) (omega (arith, last (d (e b)), first-length (y (e b) .args .status .now) (y (e b) .args .n) (y (e b) .pre .0 .room)))
-    (is-true _ (eqZ-yes (sideOf b (i (e b))) (pos 0) (sym (value-is b) ∙ bits-eq (search needs) (small-fits (pos 0) (omega arith)) (c .if2 .taken)))) refl
+    (is-true _ (sym (test-is b) ∙ c .if2 .taken)) refl
 
 cast-result : tie.Need-cast-result
 cast-result c = tt
@@ -120,7 +118,7 @@ returns-3 c =
     let b = c .before in
     let p = at b .first-over .ensures in
     between (k (at b)) (p .within)
-    (λ m q. under-else (sideOf b m) (λ w. c .if2 .left (ap (ofZ w64) (value-is b ∙ ap (sideOf b) (below b m q) ∙ w))) (p .not-below m q)) (p .over-it) (byte-bit (odd (k (at b))))
+    (λ m q. under-else (sideOf b m) (eqZ-false (sideOf b m) (pos 0) (sym (test-is b ∙ ap (λ (n : ℕ). eqZ (sideOf b n) (pos 0)) (below b m q)) ∙ c .if2 .left)) (p .not-below m q)) (p .over-it) (byte-bit (odd (k (at b))))
 
 pub locate-spec : {M : Type 1} → statement M
 locate-spec =
@@ -133,7 +131,7 @@ locate-spec =
     shared-slice-read-wide
     wide-requires
     segment-requires
-    side-requires
+    is-in-line-requires
     returns-2
     cast-result
     returns-3)

@@ -1,0 +1,2 @@
+-- Laws of the searches in the status.
+pub mod Narrowed
