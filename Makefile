@@ -46,11 +46,10 @@ run: target/bin/explore target/tools/scene
 	done
 endif
 
-# The companion tool, outside the proved crates: scenes as text, listings, pictures; with the archive well-known binary too
-tools: archive target/bin/explore
-	@tools/build
+# The companion tool, outside the proved crates: scenes as text, listings, pictures
+tools: target/tools/scene target/bin/explore
 
-target/tools/scene: $(shell find tools -type f) $(wildcard target/staticlib/libkarvoiss.a)
+target/tools/scene: $(shell find tools -type f)
 	@tools/build
 
 pictures: $(patsubst scenes/%.wkt,docs/scenes/%.svg,$(wildcard scenes/*.wkt))

@@ -1,6 +1,5 @@
 //! The companion tool `scene`: scenes as text, as bytes, as a listing, as a picture and in words. It stands outside the proved crates and
-//! none of them trusts it: what it makes is checked by `explore`, every answer it shows is one that `explore` gave, and well-known binary is
-//! read and written by the library.
+//! none of them trusts it: what it makes is checked by `explore`, and every answer it shows is one that `explore` gave.
 
 pub mod answer;
 pub mod bytes;
@@ -17,7 +16,6 @@ pub mod relation;
 pub mod rings;
 pub mod show;
 pub mod text;
-pub mod wkb;
 pub mod words;
 
 #[cfg(test)]

@@ -1,6 +1,6 @@
 -- What the proofs of the line share.
 pub mod Decimal
-pub mod Lent
+pub mod Written
 pub mod Cells
 pub mod Line
 pub mod FirstBytes

@@ -1,5 +1,5 @@
--- The one line that answers a scene, document 01's section "The twelve scenes", as the list of its bytes in ASCII; and what a caller who
--- lends a buffer for it is given.
+-- The one line that answers a scene, document 01's section "The twelve scenes", as the list of its bytes in ASCII; and what it is to write bytes
+-- into a lent buffer.
 use Rattle.std.specs.Prelude.{ℕ, zero, suc, ◌+◌, ◌-◌, ◌*◌, ◌/◌, ◌%◌, ◌≤◌, ◌<◌, ◌≡◌, true, false, cond, List, [], ◌∷◌, ◌++◌, map, eqb, ltb, length, get_or, take, drop}
 use Rattle.plane_dimensions.specs.declared.Dimension.{Dimension}
 use Rattle.plane_dimensions.specs.Dimensions.{sign}
@@ -87,7 +87,13 @@ abbrev pub Numbered : CellsAnswer → Type 0
 Numbered (CellsAnswer.Taken e) = Unit {0}
 Numbered (CellsAnswer.Refused r) = 0 < r.number
 
--- ---- into a lent buffer
+-- ---- writing into a lent buffer
+
+-- `bytes` stand at `at`, `next` is the offset after them, and every other byte of the buffer is as it was
+pub record Written (before : List ℕ) (at : ℕ) (bytes : List ℕ) (next : ℕ) (after : List ℕ) : Type 0 where
+  pub ends : next ≡ at + length bytes
+  pub within : next ≤ length before
+  pub holds : after ≡ take at before ++ (bytes ++ drop next before)
 
 -- With room for the line: its length comes back, the buffer begins with it, and every later byte is as it was. Without: 0, and the buffer as it was.
 pub record Lent (line before : List ℕ) (r : ℕ) (after : List ℕ) : Type 0 where

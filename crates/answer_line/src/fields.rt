@@ -1,11 +1,29 @@
 // The parts of the answer line, written into a lent buffer: each function writes at an offset and answers the offset after what it wrote.
 ghost use Rattle.std.specs.Prelude.{[], ◌∷◌, map, ◌+◌, ◌<◌, ◌≤◌, length};
 ghost use Rattle.plane_dimensions.specs.Dimensions.{sign};
-ghost use Rattle.scene_writing.specs.Writing.{Written};
-ghost use Rattle.answer_line.specs.Line.{space, decimal, cell_bytes};
+ghost use Rattle.answer_line.specs.Line.{space, decimal, cell_bytes, Written};
 
 use plane_dimensions::Dimension;
-use scene_writing::write_byte;
+
+pub fn write_byte(out: &mut [u8], at: usize, b: u8) -> usize
+    requires { at < length out.old }
+    ensures { Written out.old at (b ∷ []) result out.new }
+{
+    out[at] = b;
+    at + 1
+}
+
+pub fn write_bytes(out: &mut [u8], at: usize, bytes: &[u8]) -> usize
+    requires { at + length bytes.now ≤ length out.old }
+    ensures { Written out.old at bytes.now result out.new }
+{
+    let mut i = 0;
+    while i < bytes.len() {
+        out[at + i] = bytes[i];
+        i += 1;
+    }
+    at + i
+}
 
 // The digits of a number: those of all but the last, then the last.
 pub fn write_decimal(out: &mut [u8], at: usize, n: u64) -> usize

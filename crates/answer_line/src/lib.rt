@@ -2,8 +2,7 @@
 // Each function but `write_line` writes at 0 and answers the offset after what it wrote.
 ghost use Rattle.std.specs.Prelude.{◌≤◌, length};
 ghost use Rattle.cells.specs.Explored.{cells_values};
-ghost use Rattle.scene_writing.specs.Writing.{Written};
-ghost use Rattle.answer_line.specs.Line.{ok_line, no_line, line_of, line_of_scene, Numbered, Lent};
+ghost use Rattle.answer_line.specs.Line.{ok_line, no_line, line_of, line_of_scene, Numbered, Written, Lent};
 
 use cells::{CellsAnswer, question, table};
 use plane_dimensions::Dimension;
@@ -18,24 +17,24 @@ fn write_ok(out: &mut [u8], f: u8, g: u8, v: u16, w: u16, cells: [[Dimension; 3]
     requires { LINE_LIMIT ≤ length out.old }
     ensures { Written out.old 0 (ok_line f g v w cells) result out.new }
 {
-    let first = scene_writing::write_bytes(out, 0, b"ok");
+    let first = fields::write_bytes(out, 0, b"ok");
     let second = fields::write_field(out, first, f as u64);
     let third = fields::write_field(out, second, g as u64);
     let fourth = fields::write_field(out, third, v as u64);
     let fifth = fields::write_field(out, fourth, w as u64);
-    let matrix = scene_writing::write_byte(out, fifth, b' ');
+    let matrix = fields::write_byte(out, fifth, b' ');
     let end = fields::write_cells(out, matrix, cells);
-    scene_writing::write_byte(out, end, b'\n')
+    fields::write_byte(out, end, b'\n')
 }
 
 fn write_no(out: &mut [u8], number: u8, place: usize) -> usize
     requires { LINE_LIMIT ≤ length out.old }
     ensures { Written out.old 0 (no_line number place) result out.new }
 {
-    let first = scene_writing::write_bytes(out, 0, b"no");
+    let first = fields::write_bytes(out, 0, b"no");
     let second = fields::write_field(out, first, number as u64);
     let end = fields::write_field(out, second, place as u64);
-    scene_writing::write_byte(out, end, b'\n')
+    fields::write_byte(out, end, b'\n')
 }
 
 fn write_answer(out: &mut [u8], answer: CellsAnswer) -> usize
@@ -65,5 +64,5 @@ pub fn write_line(s: &[u8], out: &mut [u8]) -> usize
     if out.len() < length {
         return 0;
     }
-    scene_writing::write_bytes(out, 0, &line[..length])
+    fields::write_bytes(out, 0, &line[..length])
 }

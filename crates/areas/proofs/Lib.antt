@@ -1,5 +1,6 @@
 -- The laws of the areas.
--- what a segment is worth by its sides, a region by itself, the two the other way round, and the parts that make up a region
+-- the sums over lists, what a segment is worth by its sides, a region by itself, the two the other way round, and the parts that make up a region
+pub mod Totals
 pub mod Weighed
 pub mod Own
 pub mod Exchanged

@@ -17,6 +17,7 @@ use native.Mathlib.Omega.{arith}
 use Rattle.sweep_laws.specs.Swept.{object_of, InOrder, Passes}
 use Rattle.check_verdict.specs.declared.Verdict.{Verdict}
 use Rattle.check_verdict.specs.declared.Verdict.TheVariants.{Sound, Refused}
+use Rattle.check_conditions.specs.Faults.{fault_under}
 use Rattle.check_verdict.specs.Refusals.{scene_fault_under, verdict, settle, object_verdict, geometry_rules, geometry_verdict}
 use Rattle.scene.proofs.Taken.{both_of_given, given_of_both}
 use Rattle.scene.proofs.Given.{neither}
@@ -49,6 +50,15 @@ decide_alike n f g a b e then = go f refl ∙ ap (λ (h : Fault). decide Refused
     go Nothing q = then q
 
 -- each test rests on the conditions before it
+pub object-numbered : (s : List ℕ) (l : Layout) → IsObject s l → object_verdict s l ≡ verdict (numbered (fault_under s l l) 10 15)
+unfolding object_verdict out_of_order
+object-numbered s l is =
+    decide_alike 10 (out_of_order s l) (fault_under s l l 10) _ _ refl (λ order.
+    decide_alike 11 (unpaired s l) (fault_under s l l 11) _ _ (sym (fault_11 s l is order)) (λ paired.
+    decide_alike 12 (touching_itself s l) (fault_under s l l 12) _ _ (sym (fault_12 s l is order)) (λ _.
+    decide_alike 13 (odd_end s l) (fault_under s l l 13) _ _ (sym (fault_13 s l)) (λ _.
+    decide_alike 14 (wrong_ia s l) (fault_under s l l 14) _ _ (sym (fault_14 s l is order paired)) (λ _. refl)))))
+
 pub geometry_numbered : (s : List ℕ) (sc : Scene) → IsObject s (given_first sc) → IsObject s (given_second sc)
     → geometry_verdict s sc ≡ verdict (numbered (scene_fault_under s sc) 10 16)
 unfolding geometry_verdict out_of_order

@@ -1,14 +1,14 @@
-// The conditions 10 to 15 of document 01 over the bytes of a scene, and the whole check of it. One object alone is check_alone's.
+// The conditions 10 to 15 of document 01 over the bytes of a scene or of one object, and the whole check of either.
 // A question with conditions of its own calls them in their order: its 9, `geometry_verdict` or `noted_verdict`, then its 16 and 17.
 ghost use Rattle.std.specs.Prelude.{◌≡◌, ◌≤◌, T, length};
 ghost use Rattle.whole.specs.Decides.{Decides};
 ghost use Rattle.scene.specs.Read.{given_first, given_second, IsObject, IsScene};
-ghost use Rattle.scene.specs.Conditions.{check_scene};
+ghost use Rattle.scene.specs.Conditions.{check_scene, check_object};
 ghost use Rattle.sweep_laws.specs.Noted.{Noted};
-ghost use Rattle.check_verdict.specs.Refusals.{scene_fault_under, geometry_verdict};
-ghost use Rattle.check_verdict.specs.SharedPoints.{CheckedMeans};
+ghost use Rattle.check_verdict.specs.Refusals.{scene_fault_under, object_verdict, geometry_verdict};
+ghost use Rattle.check_verdict.specs.SharedPoints.{CheckedMeans, CheckedObjectMeans};
 
-use scene::{CheckedScene, Fault, Refusal, Scene, order};
+use scene::{CheckedObject, CheckedScene, Fault, Layout, Refusal, Scene, order};
 
 // The first refusal under several conditions, if any.
 #[derive(Drop)]
@@ -31,6 +31,24 @@ fn scene_fault(s: &[u8], scene: Scene, number: u8) -> Fault
         Fault::At(place) => Fault::At(place),
         Fault::Nothing => check_conditions::fault_under(s, second, first, number),
     }
+}
+
+// The first refusal under 10 to 14 of one object.
+pub fn object_verdict(s: &[u8], l: Layout) -> Verdict
+    requires { IsObject s.now l }
+    ensures { result ≡ object_verdict s.now l }
+{
+    let mut number: u8 = 10;
+    while number < 15 {
+        match check_conditions::fault_under(s, l, l, number) {
+            Fault::At(place) => {
+                return Verdict::Refused(Refusal { number, place });
+            }
+            Fault::Nothing => {}
+        }
+        number += 1;
+    }
+    Verdict::Sound
 }
 
 // The first refusal under 10 to 15 of a scene, condition by condition.
@@ -96,6 +114,19 @@ pub fn check_scene(s: &[u8]) -> CheckedScene
         CheckedScene::Taken(scene) => match geometry_verdict(s, scene) {
             Verdict::Refused(r) => CheckedScene::Refused(r),
             Verdict::Sound => CheckedScene::Taken(scene),
+        },
+    }
+}
+
+// One object's bytes alone, and what the verdict says of the points that its segments share.
+pub fn check_object(s: &[u8]) -> CheckedObject
+    ensures { (result ≡ check_object s.now) × CheckedObjectMeans s.now result }
+{
+    match scene_reading::read_alone(s) {
+        CheckedObject::Refused(r) => CheckedObject::Refused(r),
+        CheckedObject::Taken(l) => match object_verdict(s, l) {
+            Verdict::Refused(r) => CheckedObject::Refused(r),
+            Verdict::Sound => CheckedObject::Taken(l),
         },
     }
 }

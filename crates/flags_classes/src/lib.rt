@@ -61,7 +61,7 @@ pub fn is_above(s: &[u8], l: Layout, i: usize) -> bool
 }
 
 // The mark of a segment that is none of the other object's.
-pub fn unshared(above: bool, note: u8) -> u16
+fn unshared(above: bool, note: u8) -> u16
     ensures { result ≡ unshared_marks above note }
 {
     if note == 0 {
@@ -74,7 +74,7 @@ pub fn unshared(above: bool, note: u8) -> u16
 }
 
 // The mark of a segment of both, with the interior of the other object above it or not.
-pub fn shared(above: bool, other: bool) -> u16
+fn shared(above: bool, other: bool) -> u16
     ensures { result ≡ shared_marks above other }
 {
     if above {

@@ -53,7 +53,7 @@ regroup s a b c d =
 -- ---- one object
 
 module _ (s : List ℕ) (l : Layout) (is : IsObject s l) where
-  pub degree_is : (v : Point) → T (in_range v) → degree s l v ≡ count (λ m. eqb (keys s l m) (key v)) (indices l.count 0)
+  degree_is : (v : Point) → T (in_range v) → degree s l v ≡ count (λ m. eqb (keys s l m) (key v)) (indices l.count 0)
   unfolding degree
   degree_is v h =
       count_same (λ m. is_same_point (element_point s l m) v) (λ m. eqb (keys s l m) (key v)) (elements l)

@@ -66,7 +66,7 @@ fn first(s: &[u8], l: Layout) -> Cursor
 }
 
 // From the element of a cursor past those that have the key k; records stand a step apart.
-pub fn pass(s: &[u8], l: Layout, step: usize, c: Cursor, k: u64) -> Cursor
+fn pass(s: &[u8], l: Layout, step: usize, c: Cursor, k: u64) -> Cursor
     requires { IsObject s.now l × (step ≡ size l.shape) × Reached s.now l c × (k < top) }
     ensures { Reached s.now l result × Passed l.count (keys s.now l) k c.index result.index }
 {
@@ -81,14 +81,14 @@ pub fn pass(s: &[u8], l: Layout, step: usize, c: Cursor, k: u64) -> Cursor
     Cursor { index, at, key }
 }
 
-pub fn least(a: u64, b: u64) -> u64
+fn least(a: u64, b: u64) -> u64
     ensures { result ≡ min a b }
 {
     if b < a { b } else { a }
 }
 
 // The boundary rule of a line: an odd number of its segments end at the point.
-pub fn is_bound(degree: usize) -> bool
+fn is_bound(degree: usize) -> bool
     ensures { result ≡ is_boundary degree }
 {
     degree % 2 == 1

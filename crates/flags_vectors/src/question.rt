@@ -93,7 +93,7 @@ fn swept_vectors(s: &[u8], scene: Scene, masks: FlagMasks, notes: &[u8]) -> Vect
 }
 
 // The vectors of F and G, in the caller's order.
-pub fn as_given(scene: Scene, v: Vectors) -> Vectors
+fn as_given(scene: Scene, v: Vectors) -> Vectors
     ensures { result ≡ given_vectors scene v }
 {
     if order::is_turned(scene) {

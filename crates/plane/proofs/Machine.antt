@@ -21,7 +21,7 @@ use Rattle.plane.specs.declared.Turn.TheVariants.{Left, Straight, Right}
 use Rattle.plane.specs.Plane.{limit, within, in_range, segment_in_range, side, turn_of, turn}
 
 -- ---- sizes
-pub nat_abs_neg : (z : ℤ) → nat_abs (neg_ℤ z) ≡ nat_abs z
+nat_abs_neg : (z : ℤ) → nat_abs (neg_ℤ z) ≡ nat_abs z
 nat_abs_neg (pos zero) = refl
 nat_abs_neg (pos (suc n)) = refl
 nat_abs_neg (negsuc n) = refl
@@ -199,7 +199,7 @@ pub record Factor (z : ℤ) : Type 0 where
 abbrev pub Difference : ℤ → ℤ → ℤ → Type 0
 Difference a b r = (r ≡ a -ℤ b) × Factor r
 
-pub difference_of : (a b r : ℤ) → nat_abs a ≤ 2 * limit → nat_abs b ≤ 2 * limit → r ≡ to_z w32 (of_z w32 a) -ℤ to_z w32 (of_z w32 b) → Difference a b r
+difference_of : (a b r : ℤ) → nat_abs a ≤ 2 * limit → nat_abs b ≤ 2 * limit → r ≡ to_z w32 (of_z w32 a) -ℤ to_z w32 (of_z w32 b) → Difference a b r
 difference_of a b r h k e =
     (is, record { small = subst (λ (z : ℤ). nat_abs z ≤ 4 * limit) (sym is) (omega (arith, nat_abs_difference a b)) })
   where

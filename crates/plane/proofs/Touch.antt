@@ -49,7 +49,7 @@ at_grid f free e p h t = ap f (at_multiple e p t) ∙ free p.W h (grid e)
 
 -- ---- steps that go forward, by x, then y
 
-pub data Onward (x y : ℤ) : Type 0 where
+data Onward (x y : ℤ) : Type 0 where
   wide : Pos x → Onward x y
   tall : x ≡ pos 0 → Pos y → Onward x y
 
@@ -80,7 +80,7 @@ onward_moves e f (wide h) = zero_pos e h
 onward_moves e f (tall g h) = zero_pos f h
 
 -- from one grid point to another, from e to p, and from p to e
-abbrev pub Step : Point → Point → Type 0
+abbrev Step : Point → Point → Type 0
 Step e f = Onward (f.x -ℤ e.x) (f.y -ℤ e.y)
 
 abbrev After : Point → HPoint → Type 0
@@ -107,12 +107,12 @@ step_through e f p h a b =
     sum : (e f z : ℤ) → (z -ℤ e *ℤ p.W) +ℤ (f *ℤ p.W -ℤ z) ≡ p.W *ℤ (f -ℤ e)
     sum e f z = solve (e ∷ f ∷ z ∷ p.W ∷ []) (var 2 :- var 0 :* var 3 :+ (var 1 :* var 3 :- var 2)) (var 3 :* (var 1 :- var 0)) tt
 
-pub data Compare (e f : Point) : Type 0 where
+data Compare (e f : Point) : Type 0 where
   earlier : Step e f → Compare e f
   equal : e ≡ f → Compare e f
   later : Step f e → Compare e f
 
-pub compare : (e f : Point) → Compare e f
+compare : (e f : Point) → Compare e f
 compare e f = by_x (sign (f.x -ℤ e.x)) (sign (f.y -ℤ e.y))
   where
     turned : (a b : ℤ) → Neg (b -ℤ a) → Pos (a -ℤ b)
@@ -215,11 +215,11 @@ end_within_lem s o e z a b =
 
 -- ---- opposite signs
 
-pub data Opposite (a b : ℤ) : Type 0 where
+data Opposite (a b : ℤ) : Type 0 where
   falls : Pos a → Neg b → Opposite a b
   rises : Neg a → Pos b → Opposite a b
 
-pub opposite_read : (a b : ℤ) → T (opposite a b) → Opposite a b
+opposite_read : (a b : ℤ) → T (opposite a b) → Opposite a b
 unfolding opposite
 opposite_read a b t = ⊎_elim up down (or_cases (lt_z a (pos 0) && lt_z (pos 0) b) (lt_z (pos 0) a && lt_z b (pos 0)) t)
   where
@@ -229,7 +229,7 @@ opposite_read a b t = ⊎_elim up down (or_cases (lt_z a (pos 0) && lt_z (pos 0)
     down : T (lt_z (pos 0) a && lt_z b (pos 0)) → Opposite a b
     down h = falls (lt_z0_pos a (and_left (lt_z (pos 0) a) (lt_z b (pos 0)) h)) (lt_z0_neg b (and_right (lt_z (pos 0) a) (lt_z b (pos 0)) h))
 
-pub opposite_make : (a b : ℤ) → Opposite a b → T (opposite a b)
+opposite_make : (a b : ℤ) → Opposite a b → T (opposite a b)
 unfolding opposite
 opposite_make a b (rises h k) =
     or_left (lt_z a (pos 0) && lt_z (pos 0) b) (lt_z (pos 0) a && lt_z b (pos 0)) (and_make (lt_z a (pos 0)) (lt_z (pos 0) b) (neg_lt_z0 a h) (pos_lt_z0 b k))
@@ -240,16 +240,16 @@ opposite_product : {a b : ℤ} → Opposite a b → Neg (a *ℤ b)
 opposite_product (falls h k) = pos_mul_neg h k
 opposite_product (rises h k) = neg_mul_pos h k
 
-pub opposite_differ : {A : Type 0} {a b : ℤ} → Opposite a b → a ≡ b → A
+opposite_differ : {A : Type 0} {a b : ℤ} → Opposite a b → a ≡ b → A
 opposite_differ (falls h k) e = pos_clash h (subst Neg (sym e) k)
 opposite_differ (rises h k) e = pos_clash k (subst Neg e h)
 
 -- a sum with positive weights that is zero
-pub data Balance (a b : ℤ) : Type 0 where
+data Balance (a b : ℤ) : Type 0 where
   tipped : Opposite a b → Balance a b
   level : a ≡ pos 0 → b ≡ pos 0 → Balance a b
 
-pub balance : {m n a b : ℤ} → Pos m → Pos n → m *ℤ a +ℤ n *ℤ b ≡ pos 0 → Balance a b
+balance : {m n a b : ℤ} → Pos m → Pos n → m *ℤ a +ℤ n *ℤ b ≡ pos 0 → Balance a b
 balance {m} {n} {a} {b} h k e = go (sign a)
   where
     rest : n *ℤ b ≡ neg_ℤ (m *ℤ a)
@@ -274,7 +274,7 @@ side_at_mean s {u} {v} {p} h =
     tt
 
 -- the ends of t lie strictly on opposite sides of the line of s
-abbrev pub Across : Segment → Segment → Type 0
+abbrev Across : Segment → Segment → Type 0
 Across s t = Opposite (side_at s (grid t.left)) (side_at s (grid t.right))
 
 -- the side values of each segment's ends against the other differ by the same
@@ -298,13 +298,13 @@ cross_sides : (s t : Segment)
 unfolding cross
 cross_sides s t = simp side_grid
 
-pub cross_make : (s t : Segment) → Across s t → Across t s → T (cross s t)
+cross_make : (s t : Segment) → Across s t → Across t s → T (cross s t)
 cross_make s t a b =
     subst T (sym (cross_sides s t))
     (and_make (opposite (side_at s (grid t.left)) (side_at s (grid t.right))) (opposite (side_at t (grid s.left)) (side_at t (grid s.right)))
     (opposite_make (side_at s (grid t.left)) (side_at s (grid t.right)) a) (opposite_make (side_at t (grid s.left)) (side_at t (grid s.right)) b))
 
-pub cross_read : (s t : Segment) → T (cross s t) → Across s t × Across t s
+cross_read : (s t : Segment) → T (cross s t) → Across s t × Across t s
 cross_read s t h = (
   opposite_read (side_at s (grid t.left)) (side_at s (grid t.right)) (and_left one other both),
   opposite_read (side_at t (grid s.left)) (side_at t (grid s.right)) (and_right one other both),
@@ -321,13 +321,13 @@ cross_read s t h = (
 
 -- ---- the test, taken apart: they cross, or an end of t lies strictly inside s, or an end of s inside t
 
-abbrev pub EndWithin : Segment → Segment → Type 0
+abbrev EndWithin : Segment → Segment → Type 0
 EndWithin s t = T (end_within s t.left) ⊎ T (end_within s t.right)
 
-abbrev pub Touching : Segment → Segment → Type 0
+abbrev Touching : Segment → Segment → Type 0
 Touching s t = T (cross s t) ⊎ (EndWithin s t ⊎ EndWithin t s)
 
-pub touch_read : (s t : Segment) → T (touch s t) → Touching s t
+touch_read : (s t : Segment) → T (touch s t) → Touching s t
 unfolding touch
 touch_read s t h =
     first_of (cross s t) (end_within s t.left) (end_within s t.right) (end_within t s.left) (end_within t s.right)
@@ -460,7 +460,7 @@ first_between u v =
     only a b = solve (a ∷ b ∷ []) (con (pos 1) :* var 0) (con (pos 1) :* var 0 :+ con (pos 0) :* var 1) tt
 
 -- where they cross
-pub cross_shares : (s t : Segment) → Ordered s → Ordered t → T (cross s t) → SharePoint s t
+cross_shares : (s t : Segment) → Ordered s → Ordered t → T (cross s t) → SharePoint s t
 cross_shares s t o u h =
     ⊎_elim apart (λ m. share s t m.z o u m.z_pos m.on_segment m.on_path (no_end m))
     (clear_or_meets (grid t.left) (grid t.right) (one_pos 0) (one_pos 0) s)

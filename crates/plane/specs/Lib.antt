@@ -1,4 +1,3 @@
 -- The plane's specification.
 pub mod Plane
-pub mod Shoelace
 pub mod Examples

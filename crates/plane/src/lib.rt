@@ -68,7 +68,7 @@ pub fn is_same_segment(s: Segment, t: Segment) -> bool
     is_same_point(s.left, t.left) && is_same_point(s.right, t.right)
 }
 
-pub fn difference(a: i32, b: i32) -> i64
+fn difference(a: i32, b: i32) -> i64
     ensures { result ≡ a -ℤ b }
 {
     (a as i64) - (b as i64)

@@ -139,7 +139,7 @@ fn separates(s: Segment, p: Point, q: Point) -> bool
     }
 }
 
-pub fn crosses(s: Segment, t: Segment) -> bool
+fn crosses(s: Segment, t: Segment) -> bool
     requires { T (segment_in_range s) × T (segment_in_range t) }
     ensures { result ≡ cross s t }
 {
@@ -147,7 +147,7 @@ pub fn crosses(s: Segment, t: Segment) -> bool
 }
 
 // Is p on s and no end of it?
-pub fn has_within(s: Segment, p: Point) -> bool
+fn has_within(s: Segment, p: Point) -> bool
     requires { T (segment_in_range s) × T (in_range p) }
     ensures { result ≡ end_within s p }
 {

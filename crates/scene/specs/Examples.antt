@@ -38,17 +38,17 @@ square bottom =
 record Example : Type 0 where
   bytes : List ℕ
   number : ℕ
-  place_of_lem : ℕ
+  place_of : ℕ
 
 infix 30 ◌gives◌at◌
 ◌gives◌at◌ : List ℕ → ℕ → ℕ → Example
-b gives n at p = record { bytes = b; number = n; place_of_lem = p }
+b gives n at p = record { bytes = b; number = n; place_of = p }
 
 answer : Values → List ℕ
 answer v = v.number ∷ v.place ∷ []
 
 expected : Example → List ℕ
-expected e = e.number ∷ e.place_of_lem ∷ []
+expected e = e.number ∷ e.place_of ∷ []
 
 scenes : List Example
 unfolding word coord P L R object square ◌gives◌at◌

@@ -1,16 +1,13 @@
 -- The key of a point: in the order of points, one for each point in range, and below the top.
-use Prim.Native.Nat.{ℕ, suc, ◌+◌, ◌*◌, ◌/◌, ◌%◌, ◌<◌, ◌≤◌}
-use native.Mathlib.Nat.{mul_comm, mod-lt, div-add-mod'}
+use Prim.Native.Nat.{ℕ, suc, ◌+◌, ◌*◌, ◌-◌, ◌<◌, ◌≤◌}
 use native.Mathlib.Omega.{arith}
-use mathlib.Core.Path.{◌≡◌, refl, sym, ap, ◌∙◌}
-use mathlib.Core.List.{[], ◌∷◌}
+use mathlib.Core.Path.{◌≡◌, refl, ap}
 use mathlib.Core.Bool.{Bool, true, false, ◌&&◌, ◌||◌}
 use lib.Dec.{T, ltb, eqb, lt→ltb, lit≤}
-use lib.IntN.{ℤ, pos, negsuc, nat_abs, ◌+ℤ◌, ◌-ℤ◌}
+use lib.IntN.{ℤ, pos, negsuc, nat_abs, ◌+ℤ◌}
 use lib.Signed.{lt_z}
 use borrow.Author.Tests.{ltb-true, ltb-false, lt-ltb, le-ltb, eq-eqb, eqb-true}
 use Rattle.whole.specs.Count.{eq_z}
-use Rattle.whole.proofs.Solver.{var, ◌:+◌, ◌:-◌, solve}
 use Rattle.whole.proofs.Logic.{is_true, true_is, or_left, or_right, and_make, same_test}
 use Rattle.plane.specs.declared.Point.{Point}
 use Rattle.plane.specs.Plane.{limit, in_range, before, is_same_point}
@@ -27,9 +24,6 @@ raised_is (negsuc n) h = rw (le-ltb limit (suc n) h)
 pub raised_most : (z : ℤ) → nat_abs z ≤ limit → raised z ≤ 2 * limit
 raised_most (pos n) h = omega arith
 raised_most (negsuc n) h = omega arith
-
-pub lowered_is : (z : ℤ) → nat_abs z ≤ limit → pos (raised z) -ℤ pos limit ≡ z
-lowered_is z h = ap (λ y. y -ℤ pos limit) (sym (raised_is z h)) ∙ solve (z ∷ pos limit ∷ []) (var 0 :+ var 1 :- var 1) (var 0) tt
 
 raised_once : (a b : ℤ) → nat_abs a ≤ limit → nat_abs b ≤ limit → raised a ≡ raised b → a ≡ b
 raised_once (pos a) (pos b) h k e = ap pos (omega arith)
@@ -48,7 +42,7 @@ raised_less (negsuc a) (negsuc b) h k l = lt→ltb b a (omega arith)
 room_enough : 2 * limit < room
 room_enough = lit≤ tt
 
-pub raised_digit : (z : ℤ) → nat_abs z ≤ limit → raised z < room
+raised_digit : (z : ℤ) → nat_abs z ≤ limit → raised z < room
 raised_digit z h = omega (arith, raised_most z h, room_enough)
 
 digits_first : (x y u v : ℕ) → y < room → v < room → room * x + y ≡ room * u + v → x ≡ u
@@ -57,15 +51,6 @@ digits_first x y u v h k e = omega arith
 digits_second : (x y u v : ℕ) → y < room → v < room → room * x + y ≡ room * u + v → y ≡ v
 digits_second x y u v h k e = omega arith
 
--- the digits come back by division
-digits_back : (x y : ℕ) → y < room → ((room * x + y) / room ≡ x) × ((room * x + y) % room ≡ y)
-digits_back x y h =
-    let n = room * x + y in
-    (digits_first (n / room) (n % room) x y (mod-lt n {m = room} (lit≤ tt)) h e, digits_second (n / room) (n % room) x y (mod-lt n {m = room} (lit≤ tt)) h e)
-  where
-    e : room * ((room * x + y) / room) + (room * x + y) % room ≡ room * x + y
-    e = ap (λ m. m + (room * x + y) % room) (mul_comm room ((room * x + y) / room)) ∙ div-add-mod' (room * x + y) room
-
 -- ---- points in range
 
 module _ (p : Point) (h : T (in_range p)) where
@@ -73,13 +58,8 @@ module _ (p : Point) (h : T (in_range p)) where
   unfolding key
   key_below = omega (arith, raised_digit p.x (within_x limit p h), raised_digit p.y (within_y limit p h))
 
-  -- the digits of a key are the raised coordinates
-  pub key_digits : (key p / room ≡ raised p.x) × (key p % room ≡ raised p.y)
-  unfolding key
-  key_digits = digits_back (raised p.x) (raised p.y) (raised_digit p.y (within_y limit p h))
-
 module _ (p q : Point) (h : T (in_range p)) (k : T (in_range q)) where
-  pub key_once : key p ≡ key q → p ≡ q
+  key_once : key p ≡ key q → p ≡ q
   unfolding key
   key_once e =
       point_eq (raised_once p.x q.x (within_x limit p h) (within_x limit q k) (digits_first (raised p.x) (raised p.y) (raised q.x) (raised q.y) y v e))

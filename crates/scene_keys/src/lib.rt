@@ -1,16 +1,15 @@
-// Points as numbers, their keys, in the order of points, and back; and the keys of an object's elements: of its points, or of the dominating points of its
-// halfsegments. A comparison is then one test, and the end of an object needs none.
-ghost use Rattle.std.specs.Prelude.{◌≡◌, ◌+◌, ◌*◌, ◌<◌, ◌≤◌, T, ℤ, nat_abs, length};
-ghost use Rattle.plane.specs.declared.Point.{Point};
+// The points of an object's elements as numbers, their keys: those of points and the dominating points of halfsegments, in the order of points. A
+// comparison is then one test, and the end of an object needs none.
+ghost use Rattle.std.specs.Prelude.{◌≡◌, ◌+◌, ◌*◌, ◌≤◌, T, nat_abs, length};
 ghost use Rattle.plane.specs.Plane.{limit, in_range, dominating};
 ghost use Rattle.scene.specs.Read.{halfsegment_at, size, place, IsObject};
-ghost use Rattle.scene_keys.specs.Keyed.{raised, room, key, top, point_in, next_key};
+ghost use Rattle.scene_keys.specs.Keyed.{raised, key, point_in, next_key};
 
 use plane::Point;
 use scene::{Layout, Shape, bytes};
 
 // The radix of a key: a power of two above every raised coordinate.
-pub const ROOM: u64 = 33_554_432;
+const ROOM: u64 = 33_554_432;
 
 // The key past the last element, above that of every point.
 pub const TOP: u64 = ROOM * ROOM;
@@ -24,30 +23,11 @@ fn raised(v: i32) -> u64
 }
 
 // The key of a point: by x, then y, as points are ordered.
-pub fn key(p: Point) -> u64
+fn key(p: Point) -> u64
     requires { T (in_range p) }
     ensures { result ≡ key p }
 {
     ROOM * raised(p.x) + raised(p.y)
-}
-
-// The coordinate that is so far above the least.
-fn lowered(n: u64) -> i32
-    requires { n < room }
-    ensures { (z : ℤ) → nat_abs z ≤ limit → raised z ≡ n → result ≡ z }
-{
-    n as i32 - plane::LIMIT
-}
-
-// The point in range whose key is k, if there is one.
-pub fn point_at(k: u64) -> Point
-    requires { k < top }
-    ensures { (p : Point) → T (in_range p) → key p ≡ k → result ≡ p }
-{
-    Point {
-        x: lowered(k / ROOM),
-        y: lowered(k % ROOM),
-    }
 }
 
 // The dominating point of the halfsegment at an offset, without a branch.

@@ -2,7 +2,7 @@
 // halfsegments.
 ghost use Rattle.std.specs.Prelude.{◌≡◌, ◌*◌, ◌≤◌, T};
 ghost use Rattle.whole.specs.Count.{count};
-ghost use Rattle.plane.specs.Plane.{limit, within, segment_in_range, ordered, grid, halved, midpoint, is_end, ends_at, counts_below, touch};
+ghost use Rattle.plane.specs.Plane.{limit, within, segment_in_range, ordered, grid, halved, midpoint, is_end, ends_at, counts_below, counts_below_left, touch};
 ghost use Rattle.scene.specs.Read.{segment_at, IsObject};
 ghost use Rattle.scene.specs.Conditions.{has_segments, is_region, segments};
 ghost use Rattle.scene_segments.specs.Walked.{Readable, left_with, beyond, is_below, touches_from, count_below};
@@ -10,7 +10,7 @@ ghost use Rattle.scene_segments.specs.Walked.{Readable, left_with, beyond, is_be
 use plane::{Point, Segment};
 use scene::{Layout, Shape, bytes, records};
 
-pub mod apart;
+mod apart;
 
 pub fn has_segments(k: Shape) -> bool
     ensures { result ≡ has_segments k }
@@ -29,18 +29,6 @@ pub fn is_region(k: Shape) -> bool
         Shape::Points => false,
         Shape::Line => false,
         Shape::Region => true,
-    }
-}
-
-// Does u count for the ia of t, the doubled coordinates of whose midpoint are m's?
-pub fn is_below(u: Segment, t: Segment, m: Point) -> bool
-    requires { T (segment_in_range u) × T (within (2 * limit) m) × (halved m ≡ midpoint t) }
-    ensures { result ≡ is_below t u }
-{
-    if t.left.x == t.right.x {
-        plane_segments::counts_below_left(u, m)
-    } else {
-        plane_segments::counts_below(u, m)
     }
 }
 
@@ -81,12 +69,23 @@ fn counts_below_at(s: &[u8], at: usize, m: Point) -> bool
     s[at + 17] == 1 && plane_segments::counts_below(bytes::segment(s, at), m)
 }
 
+fn counts_below_left_at(s: &[u8], at: usize, m: Point) -> bool
+    requires { Readable s.now at × T (within (2 * limit) m) }
+    ensures { result ≡ left_with (counts_below_left (halved m)) s.now at }
+{
+    s[at + 17] == 1 && plane_segments::counts_below_left(bytes::segment(s, at), m)
+}
+
 // Does it count for the ia of t, the doubled coordinates of whose midpoint are m's?
 fn is_below_at(s: &[u8], at: usize, t: Segment, m: Point) -> bool
     requires { Readable s.now at × T (within (2 * limit) m) × (halved m ≡ midpoint t) }
     ensures { result ≡ left_with (is_below t) s.now at }
 {
-    s[at + 17] == 1 && is_below(bytes::segment(s, at), t, m)
+    if t.left.x == t.right.x {
+        counts_below_left_at(s, at, m)
+    } else {
+        counts_below_at(s, at, m)
+    }
 }
 
 // ---- the searches

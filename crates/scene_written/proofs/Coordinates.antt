@@ -19,7 +19,7 @@ in_word : (z : ℤ) → nat_abs z ≤ limit → unsigned z < 2 ^ 32
 in_word (pos n) h = omega arith
 in_word (negsuc n) h = omega arith
 
-pub four : (n : ℕ) → n < 2 ^ 32 → n / 1 % 256 + 256 * (n / 256 % 256) + 65536 * (n / 65536 % 256) + 16777216 * (n / 16777216 % 256) ≡ n
+four : (n : ℕ) → n < 2 ^ 32 → n / 1 % 256 + 256 * (n / 256 % 256) + 65536 * (n / 65536 % 256) + 16777216 * (n / 16777216 % 256) ≡ n
 four n h =
     joined n (n / 256) (n / 65536) (n / 16777216) (n / 1 % 256) (n / 256 % 256) (n / 65536 % 256) (n / 16777216 % 256)
     (ap (λ m. n / 256 * 256 + m % 256) (div-one n) ∙ div-add-mod' n 256)

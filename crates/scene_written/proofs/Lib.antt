@@ -7,4 +7,3 @@ pub mod Compared
 pub mod Arranging
 pub mod Judged
 pub mod Taken
-pub mod Again

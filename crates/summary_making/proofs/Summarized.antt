@@ -1,10 +1,11 @@
 -- The parts of an accepted object's summary, and the answer by the scene that the object and an empty one form.
-use Prim.Native.Nat.{ℕ}
+use Prim.Native.Nat.{ℕ, ◌≤◌}
 use native.Mathlib.Omega.{arith}
 use mathlib.Core.Path.{◌≡◌, refl, sym, ap, ◌∙◌}
 use mathlib.Core.Bool.{Bool, true, false, not, ◌||◌, cond, true≢false}
 use mathlib.Core.List.{List, [], ◌∷◌, ◌++◌}
 use lib.Dec.{T, eqb}
+use lib.ListN.{length}
 use borrow.Author.Tests.{eqb-true}
 use Rattle.whole.proofs.Logic.{or_left, or_right, is_true}
 use Rattle.scene.specs.declared.Shape.{Shape}
@@ -16,7 +17,7 @@ use Rattle.scene.specs.declared.CheckedObject.{CheckedObject}
 use Rattle.scene.specs.declared.CheckedScene.{CheckedScene}
 use Rattle.scene.specs.Read.{descends, read_alone}
 use Rattle.scene.specs.Conditions.{check_scene, check_object}
-use Rattle.scene.proofs.Taken.{never_taken, same_scene}
+use Rattle.scene.proofs.Taken.{longest, taken_alone, object_short, never_taken, same_scene}
 use Rattle.scene.proofs.Given.{object_checked}
 use Rattle.check_verdict.specs.declared.Verdict.{Verdict}
 use Rattle.check_verdict.specs.declared.Verdict.TheVariants.{Sound, Refused}
@@ -25,9 +26,6 @@ use Rattle.check_verdict.proofs.Verdicts.{object_read}
 use Rattle.check_verdict.specs.SharedPoints.{CheckedObjectMeans}
 use Rattle.check_verdict.proofs.CheckedMeans.{checked_object_means}
 use Rattle.check_verdict.proofs.Laws.{SoundObject}
-use Rattle.check_alone.specs.Beside.{empty_of}
-use Rattle.check_alone.proofs.Accepted.{sound_object}
-use Rattle.check_alone.proofs.EmptyBeside.{nothing, scene, empty_read, empty_faultless, checked_beside}
 use Rattle.flags.specs.Flags.{Elements, pack}
 use Rattle.flags.specs.Elements.{elements_as, elements_of}
 use Rattle.flags_masks.specs.declared.Wanted.{Wanted}
@@ -40,11 +38,12 @@ use Rattle.cells.proofs.Taken.{empty_as}
 use Rattle.summary.specs.declared.Summary.{Summary}
 use Rattle.summary.specs.Summary.{corners, grow, box_of, shape_of, is_empty, beside, flags_f, ascending_vectors, swapped, far_vectors}
 use Rattle.summary_objects.specs.Objects.{summary_in}
-use Rattle.summary_objects.proofs.Accepted.{elements_in_range}
+use Rattle.summary_objects.proofs.Accepted.{sound_object, elements_in_range}
 use Rattle.summary_objects.proofs.Told.{far_told}
 use Rattle.summary_making.specs.declared.SummaryAnswer.{SummaryAnswer}
-use Rattle.summary_making.specs.Making.{corners_from, widest, beside_empty, summarized, summary_answer_of}
+use Rattle.summary_making.specs.Making.{corners_from, widest, empty_of, beside_empty, summarized, summary_answer_of}
 use Rattle.summary_making.proofs.Corners.{corners_are, grow_widest}
+use Rattle.summary_making.proofs.EmptyBeside.{nothing, scene, empty_read, empty_faultless, checked_beside}
 
 -- ---- type, emptiness and box
 
@@ -105,6 +104,9 @@ same_type s t e = go (descends s.shape t.shape) (ap (descends s.shape) e ∙ not
 module _ (s : List ℕ) (l : Layout) (read : read_alone s ≡ CheckedObject.Taken l) where
   abbrev k : Shape
   k = l.shape
+
+  pub short : length s ≤ longest
+  short = let t = taken_alone s l read in omega (arith, object_short s 0 l t.object, t.all)
 
   pub refused_beside : (r : Refusal) → check_scene (s ++ empty_of k) ≡ CheckedScene.Refused r → check_object s ≡ CheckedObject.Refused r
   refused_beside r e = object_read s l read ∙ go (object_verdict s l) (sym (checked_beside s l k read) ∙ e)

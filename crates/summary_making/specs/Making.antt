@@ -7,7 +7,7 @@ use Rattle.scene.specs.declared.Shape.{Shape}
 use Rattle.scene.specs.declared.Shape.TheVariants.{Points, Line, Region}
 use Rattle.scene.specs.declared.Layout.{Layout}
 use Rattle.scene.specs.declared.CheckedObject.{CheckedObject}
-use Rattle.scene.specs.Read.{point_at, halfsegment_at, place}
+use Rattle.scene.specs.Read.{point_at, halfsegment_at, shape_number, place}
 use Rattle.scene.specs.Conditions.{check_object}
 use Rattle.flags.specs.Flags.{pack}
 use Rattle.summary.specs.declared.Bounds.{Bounds}
@@ -60,6 +60,11 @@ corners_from s l (suc n) i = corners_at s l.shape (place l i) ++ corners_from s 
 abbrev pub widest : Bounds
 widest = record { least = record { x = pos limit; y = pos limit }; greatest = record { x = neg_ℤ (pos limit); y = neg_ℤ (pos limit) } }
 
--- ---- and the vector that an object has beside an empty object of its type
+-- ---- and an empty object beside this one
+
+abbrev pub empty_of : Shape → List ℕ
+empty_of k = 84 ∷ shape_number k ∷ 69 ∷ []
+
+-- the vector that an object has beside an empty object of its type
 abbrev pub beside_empty : Summary → ℕ
 beside_empty s = pack (flags_f s.shape s.shape (not s.empty) s.boundary)

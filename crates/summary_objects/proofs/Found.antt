@@ -1,13 +1,13 @@
 -- Every good summary is the summary of some accepted object: the elements that have it, written out, are taken and read back as they are. With what is proved
 -- of records made from accepted objects, a byte string is a good summary exactly if some accepted object has it.
-use Prim.Native.Nat.{ℕ, ◌*◌, ◌≤◌}
+use Prim.Native.Nat.{ℕ, zero, suc, ◌*◌, ◌<◌, ◌≤◌}
 use native.Mathlib.Omega.{arith}
 use mathlib.Core.Path.{◌≡◌, refl, sym, ap, ◌∙◌}
 use mathlib.Core.Bool.{not}
 use mathlib.Core.List.{List, [], ◌∷◌}
 use lib.ListN.{length}
 use lib.Dec.{T}
-use Rattle.whole.specs.Count.{◌∈◌}
+use Rattle.whole.specs.Count.{◌∈◌, here, there}
 use Rattle.whole.proofs.Logic.{and_make, true_is}
 use Rattle.plane.specs.declared.Point.{Point}
 use Rattle.plane.specs.declared.Segment.{Segment}
@@ -15,11 +15,11 @@ use Rattle.plane.specs.Plane.{in_range, segment_in_range, Object}
 use Rattle.scene.specs.declared.Shape.TheVariants.{Region}
 use Rattle.scene.specs.declared.Layout.{Layout}
 use Rattle.scene.specs.declared.CheckedObject.{CheckedObject}
-use Rattle.scene.specs.Read.{most}
+use Rattle.scene.specs.Read.{byte, most}
 use Rattle.scene.specs.Conditions.{check_object}
 use Rattle.scene_written.specs.Bytes.{AreBytes}
 use Rattle.scene_written.specs.Arranged.{line_items, object_bytes}
-use Rattle.scene_written.proofs.AreBytes.{byte_below, object_bytes_lem}
+use Rattle.scene_written.proofs.AreBytes.{object_bytes_lem}
 use Rattle.scene_written.proofs.ReadBack.{stands_whole}
 use Rattle.scene_written.proofs.Arranging.{points_length, line_length}
 use Rattle.scene_written.proofs.Taken.{Writable, split_writable, regular_writable, layout_of, object_taken, points_back, line_back, region_back}
@@ -102,6 +102,11 @@ found s g =
       accepted = object_taken (object m.of) w;
       same = same_summary m.of m.listed w ∙ m.same;
     }
+
+byte_below : (r : List ℕ) → AreBytes r → (i : ℕ) → byte r i < 256
+byte_below [] h i = omega arith
+byte_below (n ∷ r) h zero = h n here
+byte_below (n ∷ r) h (suc i) = byte_below r (λ k m. h k (there m)) i
 
 pub only_made : (r : List ℕ) → OnlyMade r
 only_made r bytes g =

@@ -29,7 +29,6 @@ use Rattle.check_verdict.specs.SharedPoints.{OnlyEndsShared, CheckedObjectMeans}
 use Rattle.check_verdict.proofs.Laws.{SoundObject, in_left, all_ordered}
 use Rattle.check_verdict.proofs.CheckedMeans.{checked_object_means}
 use Rattle.check_verdict.proofs.EitherOrder.{across_none, checked}
-use Rattle.check_alone.proofs.Accepted.{sound_object}
 use Rattle.flags.specs.Flags.{segments_of}
 use Rattle.flags.specs.Elements.{elements_as, elements_of}
 use Rattle.flags.proofs.Elements.{outline_edges}
@@ -44,7 +43,7 @@ use Rattle.summary.proofs.Theorem.{full_answer, far_apart}
 use Rattle.summary.proofs.Near.{look_exactly}
 use Rattle.summary.proofs.Bytes.{good_bytes_lem, good_summary, asked_good}
 use Rattle.summary_objects.specs.Objects.{summary_in, NeverBad, ToldInFull, LookExactlyIfNear}
-use Rattle.summary_objects.proofs.Accepted.{elements_good, summary_good}
+use Rattle.summary_objects.proofs.Accepted.{sound_object, elements_good, summary_good}
 
 pub read_of : (s : List ℕ) (l : Layout) → check_object s ≡ CheckedObject.Taken l → read_alone s ≡ CheckedObject.Taken l
 read_of s l e = (subst (CheckedObjectMeans s) e (checked_object_means s)).0

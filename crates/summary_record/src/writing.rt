@@ -1,30 +1,71 @@
 // The 20 bytes of a summary, by value.
-ghost use Rattle.std.specs.Prelude.{◌≡◌, ◌≤◌, length};
-ghost use Rattle.scene_writing.specs.Writing.{Written};
+ghost use Rattle.std.specs.Prelude.{◌≡◌, ◌<◌};
+ghost use Rattle.whole.specs.Count.{bit};
+ghost use Rattle.scene_written.specs.Bytes.{unsigned, digit};
 ghost use Rattle.summary.specs.Summary.{bytes_of};
 
+use plane::Point;
 use scene::records;
-use scene_writing::records::{write_bit, write_point};
-use scene_writing::write_byte;
 use summary::Summary;
 
-fn write(out: &mut [u8], s: Summary) -> usize
-    requires { 20 ≤ length out.old }
-    ensures { Written out.old 0 (bytes_of s) result out.new }
+// A coordinate's 32 bits as a number.
+fn unsigned(z: i32) -> u32
+    ensures { result ≡ unsigned z }
 {
-    let k = s.shape;
-    let shape = write_byte(out, 0, 83);
-    let empty = write_byte(out, shape, records::shape_number(k));
-    let least = write_bit(out, empty, s.empty);
-    let greatest = write_point(out, least, s.bounds.least);
-    let boundary = write_point(out, greatest, s.bounds.greatest);
-    write_bit(out, boundary, s.boundary)
+    if z < 0 {
+        (z as i64 + 4294967296) as u32
+    } else {
+        z as u32
+    }
+}
+
+fn digit_x(p: Point, unit: u32) -> u8
+    requires { 0 < unit }
+    ensures { result ≡ digit p.x unit }
+{
+    (unsigned(p.x) / unit % 256) as u8
+}
+
+fn digit_y(p: Point, unit: u32) -> u8
+    requires { 0 < unit }
+    ensures { result ≡ digit p.y unit }
+{
+    (unsigned(p.y) / unit % 256) as u8
+}
+
+fn bit(b: bool) -> u8
+    ensures { result ≡ bit b }
+{
+    if b { 1 } else { 0 }
 }
 
 pub fn written(s: Summary) -> [u8; 20]
     ensures { result ≡ bytes_of s }
 {
-    let mut out = [0u8; 20];
-    write(&mut out, s);
-    out
+    let k = s.shape;
+    let b = s.bounds;
+    let p = b.least;
+    let q = b.greatest;
+    [
+        83,
+        records::shape_number(k),
+        bit(s.empty),
+        digit_x(p, 1),
+        digit_x(p, 256),
+        digit_x(p, 65536),
+        digit_x(p, 16777216),
+        digit_y(p, 1),
+        digit_y(p, 256),
+        digit_y(p, 65536),
+        digit_y(p, 16777216),
+        digit_x(q, 1),
+        digit_x(q, 256),
+        digit_x(q, 65536),
+        digit_x(q, 16777216),
+        digit_y(q, 1),
+        digit_y(q, 256),
+        digit_y(q, 65536),
+        digit_y(q, 16777216),
+        bit(s.boundary),
+    ]
 }

@@ -22,7 +22,7 @@ fn check_scene(label: &[u8], bytes: &[u8]) {
 }
 
 fn check_object(label: &[u8], bytes: &[u8]) {
-    match check_alone::check(bytes) {
+    match check_verdict::check_object(bytes) {
         CheckedObject::Taken(_) => report(label, 0, 0),
         CheckedObject::Refused(r) => report(label, r.number, r.place),
     }

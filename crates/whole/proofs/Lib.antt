@@ -8,4 +8,3 @@ pub mod Sorted
 pub mod Deciding
 pub mod Counted
 pub mod Parity
-pub mod Totals

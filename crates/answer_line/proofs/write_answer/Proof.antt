@@ -4,7 +4,7 @@ use borrow.Author.Rules.{rules}
 use Rattle.cells.specs.declared.CellsAnswer.{CellsAnswer}
 use Rattle.cells.specs.Explored.{cells_values}
 use Rattle.answer_line.specs.Line.{line_of, Numbered}
-use Rattle.scene_writing.proofs.Written.{written_same}
+use Rattle.answer_line.proofs.Written.{written_same}
 use Rattle.answer_line.proofs.Line.{taken_line, refused_line}
 use Rattle.answer_line.proofs.write_answer.Statement.{statement}
 use Rattle.answer_line.proofs.write_answer.Tie as tie

@@ -3,8 +3,7 @@ use mathlib.Core.Path.{sym, subst}
 use native.Mathlib.Omega.{arith}
 use borrow.Author.Rules.{rules}
 use Rattle.answer_line.specs.Line.{Numbered}
-use Rattle.scene_writing.proofs.Written.{written_same, start_length, start_holds}
-use Rattle.answer_line.proofs.Lent.{lent_none, lent_all}
+use Rattle.answer_line.proofs.Written.{written_same, start_length, start_holds, lent_none, lent_all}
 use Rattle.answer_line.proofs.Line.{scene_line, numbered}
 use Rattle.answer_line.proofs.write_line.Statement.{statement}
 use Rattle.answer_line.proofs.write_line.Tie as tie

@@ -4,7 +4,7 @@ use Prim.Native.Nat.{◌+◌, ◌≤◌}
 use native.Mathlib.Omega.{arith}
 use lib.ListN.{length}
 use Rattle.answer_line.specs.Line.{decimal, no_line}
-use Rattle.scene_writing.proofs.Written.{followed}
+use Rattle.answer_line.proofs.Written.{followed}
 use Rattle.answer_line.proofs.Line.{no_length, no_limit}
 use Rattle.answer_line.proofs.write_no.Statement.{statement}
 use Rattle.answer_line.proofs.write_no.Tie as tie

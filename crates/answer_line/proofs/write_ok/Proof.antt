@@ -5,7 +5,7 @@ use mathlib.Core.Path.{◌≡◌}
 use native.Mathlib.Omega.{arith}
 use lib.ListN.{length}
 use Rattle.answer_line.specs.Line.{decimal, cell_bytes, ok_line}
-use Rattle.scene_writing.proofs.Written.{followed}
+use Rattle.answer_line.proofs.Written.{followed}
 use Rattle.answer_line.proofs.Cells.{nine}
 use Rattle.answer_line.proofs.Line.{ok_length, ok_limit}
 use Rattle.answer_line.proofs.write_ok.Statement.{statement}

@@ -5,7 +5,7 @@ use native.Mathlib.Omega.{arith}
 use borrow.Author.Rules.{rules}
 use lib.ListN.{length}
 use lib.Seq.{length-take-le}
-use Rattle.answer_line.proofs.Lent.{lent_within}
+use Rattle.answer_line.proofs.Written.{lent_within}
 use Rattle.explore.proofs.main.Statement.{statement}
 use Rattle.explore.proofs.main.Tie as tie
 

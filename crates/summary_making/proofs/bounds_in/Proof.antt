@@ -1,6 +1,6 @@
 -- `summary_making::bounds_in` meets its contract.
 use mathlib.Core.Path.{◌∙◌}
-use Rattle.check_alone.proofs.Accepted.{sound_object}
+use Rattle.summary_objects.proofs.Accepted.{sound_object}
 use Rattle.summary_making.proofs.Summarized.{empty_box, filled_box}
 use borrow.Author.Rules.{rules}
 use Rattle.summary_making.proofs.bounds_in.Statement.{statement}

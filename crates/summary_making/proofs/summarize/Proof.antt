@@ -7,10 +7,9 @@ use Rattle.scene.specs.declared.CheckedObject.{CheckedObject}
 use Rattle.scene.specs.Read.{read_alone}
 use Rattle.scene.specs.Conditions.{check_object}
 use Rattle.check_verdict.proofs.Verdicts.{object_refused}
-use Rattle.check_alone.proofs.Alone.{short}
 use Rattle.summary_objects.specs.Objects.{summary_in}
 use Rattle.summary_making.specs.Making.{beside_empty}
-use Rattle.summary_making.proofs.Summarized.{refused_alone, taken_so, refused_answer, made_answer}
+use Rattle.summary_making.proofs.Summarized.{short, refused_alone, taken_so, refused_answer, made_answer}
 use borrow.Author.Rules.{rules}
 use Rattle.summary_making.proofs.summarize.Statement.{statement}
 use Rattle.summary_making.proofs.summarize.Tie as tie

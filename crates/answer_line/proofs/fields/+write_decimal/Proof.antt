@@ -5,11 +5,11 @@ use borrow.Author.Rules.{rules}
 use borrow.Fn.Kinds.{In}
 use borrow.Fn.PlainCycle.{Measures, is, falls, and}
 use Rattle.answer_line.proofs.Decimal.{decimal_one, decimal_more, length_one, length_more}
-use Rattle.scene_writing.proofs.Written.{followed}
+use Rattle.answer_line.proofs.Written.{followed}
 use Rattle.answer_line.proofs.fields.write_decimal.Reads as write-decimal
 use Rattle.answer_line.proofs.fields.write_decimal.Kinds as write-decimal-kinds
 use Rattle.answer_line.proofs.fields.+write_decimal.Lts-write_decimal as write-decimal-lts
-use Rattle.scene_writing.proofs.write_byte.Reads as write-byte-reads
+use Rattle.answer_line.proofs.fields.write_byte.Reads as write-byte-reads
 use Rattle.answer_line.proofs.fields.+write_decimal.{statement}
 use Rattle.answer_line.proofs.fields.+write_decimal.Tie.{close}
 

@@ -3,7 +3,7 @@ use borrow.Author.Rules.{rules}
 use Prim.Native.Nat.{ℕ}
 use mathlib.Core.Path.{ap}
 use mathlib.Core.List.{[], ◌∷◌}
-use Rattle.scene_writing.proofs.Written.{written_same}
+use Rattle.answer_line.proofs.Written.{written_same}
 use Rattle.answer_line.proofs.fields.write_cell.Statement.{statement}
 use Rattle.answer_line.proofs.fields.write_cell.Tie as tie
 

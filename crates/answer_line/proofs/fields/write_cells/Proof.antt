@@ -8,7 +8,7 @@ use lib.ListN.{length, get_or}
 use borrow.Kind.Array.{e_arr, good_length}
 use Rattle.plane_dimensions.specs.Dimensions.{sign}
 use Rattle.answer_line.specs.Line.{cell_bytes}
-use Rattle.scene_writing.proofs.Written.{followed}
+use Rattle.answer_line.proofs.Written.{followed}
 use Rattle.answer_line.proofs.Cells.{cell, three_rows, three_rows_length}
 use Rattle.answer_line.proofs.fields.write_cells.Statement.{statement}
 use Rattle.answer_line.proofs.fields.write_cells.Tie as tie

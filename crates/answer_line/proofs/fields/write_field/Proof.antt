@@ -1,6 +1,6 @@
 -- `answer_line::fields::write_field` meets its contract.
 use borrow.Author.Rules.{rules}
-use Rattle.scene_writing.proofs.Written.{followed}
+use Rattle.answer_line.proofs.Written.{followed}
 use Rattle.answer_line.proofs.fields.write_field.Statement.{statement}
 use Rattle.answer_line.proofs.fields.write_field.Tie as tie
 

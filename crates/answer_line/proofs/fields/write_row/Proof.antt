@@ -7,7 +7,7 @@ use lib.ListN.{length, length-map}
 use borrow.Kind.Array.{good_length}
 use Rattle.plane_dimensions.specs.declared.Dimension.TheVariants.{Empty}
 use Rattle.plane_dimensions.specs.Dimensions.{sign}
-use Rattle.scene_writing.proofs.Written.{followed}
+use Rattle.answer_line.proofs.Written.{followed}
 use Rattle.answer_line.proofs.Cells.{cell, three}
 use Rattle.answer_line.proofs.fields.write_row.Statement.{statement}
 use Rattle.answer_line.proofs.fields.write_row.Tie as tie

@@ -1,5 +1,5 @@
 -- `summary_making::beside::answer` meets its contract.
-use Rattle.scene_writing.proofs.Written.{start_length, start_holds}
+use Rattle.answer_line.proofs.Written.{start_length, start_holds}
 use borrow.Author.Rules.{rules}
 use Rattle.summary_making.proofs.beside.answer.Statement.{statement}
 use Rattle.summary_making.proofs.beside.answer.Tie as tie

@@ -1,0 +1,20 @@
+-- `answer_line::fields::write_byte` meets its contract.
+use borrow.Author.Rules.{rules}
+use Rattle.answer_line.proofs.Written.{written_byte}
+use Rattle.answer_line.proofs.fields.write_byte.Statement.{statement}
+use Rattle.answer_line.proofs.fields.write_byte.Tie as tie
+
+slice-write-out : tie.Need-slice-write-out
+slice-write-out c = search rules
+
+add-result : tie.Need-overflow-add-result
+add-result c = search rules
+
+same_length : tie.Need-same-length
+same_length c = search rules
+
+returns : tie.Need-returns
+returns c = written_byte _ _ _ c.requires
+
+pub write-byte-spec : {M : Type 1} → statement M
+write-byte-spec = tie.close (tie.spec slice-write-out add-result same_length returns)
