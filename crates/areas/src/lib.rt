@@ -10,7 +10,7 @@ use scene::CheckedScene;
 pub mod sums;
 
 // An answer: number 0 with the three areas, else that of the refusal with its place, and zeros.
-#[derive(Drop)]
+#[derive(Clone, Copy)]
 pub struct Areas {
     pub number: u8,
     pub place: usize,

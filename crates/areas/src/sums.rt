@@ -13,7 +13,7 @@ use plane::{Point, Segment};
 use scene::Scene;
 
 // The sums, one for each part.
-#[derive(Drop)]
+#[derive(Clone, Copy)]
 pub struct Sums {
     pub both: i64,
     pub f_only: i64,

@@ -2,7 +2,7 @@
 use scene::{Refusal, Shape};
 
 // What a taken scene's cells follow from, in the caller's order: the two types, the two vectors with every flag wanted, and which objects are empty.
-#[derive(Drop)]
+#[derive(Clone, Copy)]
 pub struct Explored {
     pub f: Shape,
     pub g: Shape,
@@ -12,7 +12,7 @@ pub struct Explored {
     pub g_empty: bool,
 }
 
-#[derive(Drop)]
+#[derive(Clone, Copy)]
 pub enum CellsAnswer {
     Taken(Explored),
     Refused(Refusal),

@@ -2,7 +2,7 @@
 use scene::Refusal;
 
 // Taken with yes or no, or refused.
-#[derive(Drop)]
+#[derive(Clone, Copy)]
 pub enum RelateAnswer {
     Taken(bool),
     Refused(Refusal),

@@ -11,7 +11,7 @@ ghost use Rattle.check_verdict.specs.SharedPoints.{CheckedMeans, CheckedObjectMe
 use scene::{CheckedObject, CheckedScene, Fault, Layout, Refusal, Scene, order};
 
 // The first refusal under several conditions, if any.
-#[derive(Drop)]
+#[derive(Clone, Copy)]
 pub enum Verdict {
     Sound,
     Refused(Refusal),

@@ -1,5 +1,7 @@
 // The side of a point by single floats, for a viewer that has no others (document 02, Paper 10): an estimate of the side value, each operation rounded
 // once, and the side where it is certain. Nothing is fused: each result of an operation is a float of its own.
+#![tactic(auto)]
+
 ghost use Rattle.std.specs.Prelude.{◌≡◌, T, leb, nat_abs};
 ghost use Rattle.std.specs.Float.{binary32};
 ghost use Rattle.floats.specs.Value.{counted};
@@ -11,14 +13,14 @@ use plane::Point;
 const RANGE: i32 = 1_000_000;
 
 // The side of c against a segment from a to b, or that it is too close to tell.
-#[derive(Drop)]
+#[derive(Clone, Copy)]
 pub enum Side {
     Left,
     Right,
     Close,
 }
 
-#[derive(Drop)]
+#[derive(Clone, Copy)]
 pub struct Estimated {
     pub estimate: f32,
     pub side: Side,

@@ -13,7 +13,7 @@ use scene::{Layout, Scene, bytes, records};
 pub mod merged;
 
 // Which classes the segments of an object have beside the other object: with their own interior above them, or not. A line's have none.
-#[derive(Drop)]
+#[derive(Clone, Copy)]
 pub struct Classes {
     // None of the other's, outside it or inside, by a note of 0 or another: (0/1), (1/0), (1/2), (2/1).
     pub above_outside: bool,
@@ -26,7 +26,7 @@ pub struct Classes {
     pub opposite: bool,
 }
 
-#[derive(Drop)]
+#[derive(Clone, Copy)]
 pub struct ClassesOfBoth {
     pub f: Classes,
     pub g: Classes,

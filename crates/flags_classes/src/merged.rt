@@ -9,7 +9,7 @@ use plane::{Halfsegment, Segment};
 use scene::{Layout, bytes, records};
 
 // What comes next: the halfsegment i of F, or j of G, or both, which have the same segment. The other of i and j is the first after its place.
-#[derive(Drop)]
+#[derive(Clone, Copy)]
 pub enum Step {
     OfF { i: usize, j: usize },
     OfG { i: usize, j: usize },

@@ -6,7 +6,7 @@ ghost use Rattle.flags_masks.specs.Wanted.{mask_of_f, mask_of_g, entry_of, place
 use scene::{Scene, Shape, order, records};
 
 // A mask for each object, a bit for each flag.
-#[derive(Drop)]
+#[derive(Clone, Copy)]
 pub struct FlagMasks {
     pub f: u16,
     pub g: u16,
@@ -14,7 +14,7 @@ pub struct FlagMasks {
 
 // What is wanted of a scene: the flags of two masks, all that its pair of types has, or those that some of the nine cells are read off. Cells are a bit each, row
 // by row, in the caller's order.
-#[derive(Drop)]
+#[derive(Clone, Copy)]
 pub enum Wanted {
     These(FlagMasks),
     All,

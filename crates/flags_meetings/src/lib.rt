@@ -12,7 +12,7 @@ use scene::{Layout, Scene, records};
 
 // How elements of F and of G meet at points: for each kind of point, whether there is one. By the number of an object's elements that have it, its degree
 // there, a point is bound in the object if the boundary rule holds of the degree, and inner if some element has it and the rule does not hold.
-#[derive(Drop)]
+#[derive(Clone, Copy)]
 pub struct Meetings {
     // Bound in F, and none of G's: outside G, inside G or on it, by a note of 0, of 1 or of more. Beside a line the first two are both "off it".
     pub bound_outside: bool,
@@ -45,7 +45,7 @@ const INNER_INNER: u16 = 64;
 const BOUND_OF_G: u16 = 128;
 
 // How far the elements of an object are walked: the next one's index, the offset of its record, and the key of its point.
-#[derive(Drop)]
+#[derive(Clone, Copy)]
 pub struct Cursor {
     pub index: usize,
     pub at: usize,

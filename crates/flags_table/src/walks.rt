@@ -6,7 +6,7 @@ ghost use Rattle.flags_table.specs.Walks.{off_classes_f, off_classes_g, reads_me
 use scene::Shape;
 
 // The flags of F and of G that are read off the classes of segments, a bit for each. Every other flag is read off the meetings at points.
-#[derive(Drop)]
+#[derive(Clone, Copy)]
 pub struct ClassFlags {
     pub f: u16,
     pub g: u16,

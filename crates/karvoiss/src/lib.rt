@@ -26,7 +26,7 @@ use summary_record::writing;
 use summary_window::Window;
 
 #[repr(C)]
-#[derive(Drop)]
+#[derive(Clone, Copy)]
 pub struct KarvoissVectors {
     pub number: u32,
     pub place: usize,
@@ -58,7 +58,7 @@ pub extern "C" fn karvoiss_vectors(scene: &[u8], want_f: u16, want_g: u16) -> Ka
 }
 
 #[repr(C)]
-#[derive(Drop)]
+#[derive(Clone, Copy)]
 pub struct KarvoissCells {
     pub number: u32,
     pub place: usize,
@@ -105,7 +105,7 @@ pub extern "C" fn karvoiss_cells(scene: &[u8]) -> KarvoissCells
 }
 
 #[repr(C)]
-#[derive(Drop)]
+#[derive(Clone, Copy)]
 pub struct KarvoissRelate {
     pub number: u32,
     pub place: usize,
@@ -136,7 +136,7 @@ pub extern "C" fn karvoiss_relate(scene: &[u8], pattern: &[u8]) -> KarvoissRelat
 }
 
 #[repr(C)]
-#[derive(Drop)]
+#[derive(Clone, Copy)]
 pub struct KarvoissOverlap {
     pub number: u32,
     pub place: usize,
@@ -159,7 +159,7 @@ pub extern "C" fn karvoiss_overlap(scene: &[u8], list: &mut [u8]) -> KarvoissOve
 }
 
 #[repr(C)]
-#[derive(Drop)]
+#[derive(Clone, Copy)]
 pub struct KarvoissAreas {
     pub number: u32,
     pub place: usize,
@@ -186,7 +186,7 @@ pub extern "C" fn karvoiss_areas(scene: &[u8]) -> KarvoissAreas
 }
 
 #[repr(C)]
-#[derive(Drop)]
+#[derive(Clone, Copy)]
 pub struct KarvoissSummary {
     pub number: u32,
     pub place: usize,
@@ -217,7 +217,7 @@ pub extern "C" fn karvoiss_summary(object: &[u8]) -> KarvoissSummary
 }
 
 #[repr(C)]
-#[derive(Drop)]
+#[derive(Clone, Copy)]
 pub struct KarvoissFar {
     pub number: u32,
     pub place: usize,
@@ -255,7 +255,7 @@ pub extern "C" fn karvoiss_far(first: &[u8], second: &[u8]) -> KarvoissFar
 }
 
 #[repr(C)]
-#[derive(Drop)]
+#[derive(Clone, Copy)]
 pub struct KarvoissEstimate {
     pub estimate: f32,
     pub side: i32,
@@ -286,7 +286,7 @@ pub extern "C" fn karvoiss_estimate(
 }
 
 #[repr(C)]
-#[derive(Drop)]
+#[derive(Clone, Copy)]
 pub struct KarvoissInWindow {
     pub number: u32,
     pub place: usize,

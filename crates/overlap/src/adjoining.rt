@@ -10,7 +10,7 @@ ghost use Rattle.overlap.specs.Bytes.{adjoins_below, adjoins_above, byte_of};
 use scene::Layout;
 
 // Whether the interior of a region adjoins a segment below (right, if vertical) and above (left).
-#[derive(Drop)]
+#[derive(Clone, Copy)]
 pub struct Sides {
     pub below: bool,
     pub above: bool,

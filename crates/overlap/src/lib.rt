@@ -12,7 +12,7 @@ pub mod walk;
 pub mod written;
 
 // An answer: number 0 where the list was written, else that of the refusal with its place; and how many bytes were written.
-#[derive(Drop)]
+#[derive(Clone, Copy)]
 pub struct Overlap {
     pub number: u8,
     pub place: usize,

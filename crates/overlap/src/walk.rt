@@ -16,7 +16,7 @@ use plane::Segment;
 use scene::{Layout, Scene};
 
 // What comes next from a place in each object: a segment, with the places after it.
-#[derive(Drop)]
+#[derive(Clone, Copy)]
 pub enum Step {
     Next {
         segment: Segment,
@@ -80,7 +80,7 @@ pub fn count(s: &[u8], f: Layout, g: Layout) -> usize
 // ---- with its sides
 
 // What comes next from a place in each region: a segment, the sides where either region adjoins it, and the places after it.
-#[derive(Drop)]
+#[derive(Clone, Copy)]
 pub enum SidesStep {
     Next {
         segment: Segment,
@@ -128,7 +128,7 @@ pub fn next_sides(s: &[u8], scene: Scene, notes: &[u8], i: usize, j: usize) -> S
 // ---- with its byte
 
 // What comes next from a place in each region: its byte, with the places after it.
-#[derive(Drop)]
+#[derive(Clone, Copy)]
 pub enum ByteStep {
     Next { byte: u8, i: usize, j: usize },
     End,

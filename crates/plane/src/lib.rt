@@ -1,6 +1,8 @@
 // The plane of document 01, exactly: its types, and the tests on points and turns, each proved equal to its definition in specs/Plane.antt.
 // The tests on segments are those of `plane_segments`.
 // Every sign of a side value is read off `turn_code`.
+#![tactic(auto)]
+
 ghost use Rattle.std.specs.Prelude.{◌≡◌, ◌&&◌, ◌+◌, ◌*◌, ◌<◌, ◌≤◌, T, leb, pos, nat_abs, ◌+ℤ◌, ◌-ℤ◌};
 ghost use Rattle.std.specs.Int.Signed.{lt_z, le_z};
 ghost use Rattle.whole.specs.Count.{eq_z};
@@ -10,28 +12,28 @@ ghost use Rattle.plane.specs.Plane.{limit, within, in_range, before, is_same_poi
 pub const LIMIT: i32 = 10_000_000;
 
 // A grid point.
-#[derive(Drop)]
+#[derive(Clone, Copy)]
 pub struct Point {
     pub x: i32,
     pub y: i32,
 }
 
 // A segment, its left end strictly before its right end.
-#[derive(Drop)]
+#[derive(Clone, Copy)]
 pub struct Segment {
     pub left: Point,
     pub right: Point,
 }
 
 // One of the two halfsegments of a segment: the left one has d = 1 in a scene's bytes.
-#[derive(Drop)]
+#[derive(Clone, Copy)]
 pub struct Halfsegment {
     pub segment: Segment,
     pub is_left: bool,
 }
 
 // The way that the path from a point through a second to a third turns at the second.
-#[derive(Drop)]
+#[derive(Clone, Copy)]
 pub enum Turn {
     Left,
     Straight,
@@ -149,7 +151,7 @@ fn spans(m: i32, n: i32, x: i32) -> bool
 }
 
 // Where c is beside the box of a and b: over it or under it, and within its width. Most turns of a walk are told by that, and need no product.
-#[derive(Drop)]
+#[derive(Clone, Copy)]
 pub enum Beside {
     Over,
     Under,

@@ -1,5 +1,7 @@
 // What is asked of segments, each test proved equal to its definition in plane's Plane.antt: the order of halfsegments, "on", "counts below"
 // and the touch test.
+#![tactic(auto)]
+
 ghost use Rattle.std.specs.Prelude.{◌≡◌, ◌||◌, ◌*◌, T, pos, ◌+ℤ◌};
 ghost use Rattle.std.specs.Int.Signed.{lt_z};
 ghost use Rattle.plane.specs.Plane.{limit, within, in_range, segment_in_range, side, dominating, far_end, comes_before};

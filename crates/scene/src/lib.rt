@@ -1,8 +1,10 @@
 // A scene's bytes: taken, with the layout of its two objects, or refused with one number and one place, as document 01 says.
 // Elements are read where they stand in the bytes; nothing is copied out of them.
+#![tactic(auto)]
+
 
 // An object's type: 1, 2, 3 in a type record.
-#[derive(Drop)]
+#[derive(Clone, Copy)]
 pub enum Shape {
     Points,
     Line,
@@ -10,7 +12,7 @@ pub enum Shape {
 }
 
 // What a record is, by its kind byte: a type record starts an object.
-#[derive(Drop)]
+#[derive(Clone, Copy)]
 pub enum Kind {
     Start,
     Element(Shape),
@@ -19,7 +21,7 @@ pub enum Kind {
 }
 
 // An object in the bytes: its type, the offset of its type record, and how many elements follow that record.
-#[derive(Drop)]
+#[derive(Clone, Copy)]
 pub struct Layout {
     pub shape: Shape,
     pub start: usize,
@@ -27,40 +29,40 @@ pub struct Layout {
 }
 
 // The two objects of a scene, F's type not above G's.
-#[derive(Drop)]
+#[derive(Clone, Copy)]
 pub struct Scene {
     pub f: Layout,
     pub g: Layout,
 }
 
 // A refusal: its number in document 01's table, and a byte offset.
-#[derive(Drop)]
+#[derive(Clone, Copy)]
 pub struct Refusal {
     pub number: u8,
     pub place: usize,
 }
 
 // The earliest place at fault under one condition.
-#[derive(Drop)]
+#[derive(Clone, Copy)]
 pub enum Fault {
     At(usize),
     Nothing,
 }
 
 // What stands at an offset where a record is due.
-#[derive(Drop)]
+#[derive(Clone, Copy)]
 pub enum Record {
     Good(Kind),
     Bad(Refusal),
 }
 
-#[derive(Drop)]
+#[derive(Clone, Copy)]
 pub enum CheckedObject {
     Taken(Layout),
     Refused(Refusal),
 }
 
-#[derive(Drop)]
+#[derive(Clone, Copy)]
 pub enum CheckedScene {
     Taken(Scene),
     Refused(Refusal),

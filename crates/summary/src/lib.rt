@@ -4,13 +4,13 @@ use plane::Point;
 use scene::{Refusal, Shape};
 
 // The least upright box round an object: its least and greatest x and y, as two corners.
-#[derive(Drop)]
+#[derive(Clone, Copy)]
 pub struct Bounds {
     pub least: Point,
     pub greatest: Point,
 }
 
-#[derive(Drop)]
+#[derive(Clone, Copy)]
 pub struct Summary {
     pub shape: Shape,
     pub empty: bool,
@@ -19,7 +19,7 @@ pub struct Summary {
 }
 
 // What two summaries tell: both vectors of far objects, in the caller's order; that the objects themselves must be looked at; or that a summary is bad.
-#[derive(Drop)]
+#[derive(Clone, Copy)]
 pub enum Answer {
     Told(Vectors),
     Look,

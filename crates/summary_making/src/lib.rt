@@ -15,7 +15,7 @@ use plane::Point;
 use scene::{CheckedObject, Layout, Refusal, Shape};
 use summary::{Bounds, Summary};
 
-#[derive(Drop)]
+#[derive(Clone, Copy)]
 pub enum SummaryAnswer {
     Made(Summary),
     Refused(Refusal),

@@ -11,7 +11,7 @@ ghost use Rattle.summary_window.specs.Window.{is_range, is_window, shares_of, me
 use summary::Bounds;
 
 #[repr(C)]
-#[derive(Drop)]
+#[derive(Clone, Copy)]
 pub struct Window {
     pub least_x: f32,
     pub least_y: f32,
@@ -20,7 +20,7 @@ pub struct Window {
 }
 
 // Number 0: word and hits. Any other: a refusal, with no bit and no hit.
-#[derive(Drop)]
+#[derive(Clone, Copy)]
 pub struct InWindow {
     pub number: u32,
     pub place: usize,

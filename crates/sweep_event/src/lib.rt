@@ -15,7 +15,7 @@ use scene::{Scene, bytes, order};
 use sweep_status::{note, owner, place};
 
 // The number of entries that are now in use, the note of the element, and a place where the next event may well be; or the event could not be taken.
-#[derive(Drop)]
+#[derive(Clone, Copy)]
 pub enum Step {
     On(usize, u8, usize),
     Stop,

@@ -1,9 +1,11 @@
 // Cases of a text, each `label: bytes;` on lines of its own, and bytes as document 01 writes them, "84 1 P(1,1) 69 84 1 69": a number is a byte, and in
 // P(x,y), L(..) and R(..) the first two or four numbers are coordinates. #n stands for n points, (0,0) to (n-1,0).
+#![tactic(auto)]
+
 ghost use Rattle.std.specs.Prelude.{◌≡◌, ◌<◌, ◌≤◌, length, take};
 
 // A label ends at its colon, what it labels at its semicolon, and the next case begins after the line end.
-#[derive(Drop)]
+#[derive(Clone, Copy)]
 pub struct Case {
     pub colon: usize,
     pub end: usize,
@@ -42,7 +44,7 @@ pub fn case_at(text: &[u8], at: usize) -> Case
 }
 
 // What has been written, and the number that is being read.
-#[derive(Drop)]
+#[derive(Clone, Copy)]
 struct Writing {
     // How many bytes stand in the buffer.
     at: usize,

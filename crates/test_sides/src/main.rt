@@ -31,7 +31,7 @@ fn point(s: &[u8], at: usize) -> Point
 }
 
 // What is written of a quadruple.
-#[derive(Drop)]
+#[derive(Clone, Copy)]
 pub struct Letters {
     pub plain: u8,
     pub halfway: u8,

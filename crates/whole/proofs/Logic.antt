@@ -109,11 +109,11 @@ module _ {A : Type 0} where
   some_find f [] t = absurd t
   some_find f (a ∷ l) t = ⊎_elim (λ h. (a, here, h)) (λ h. let w = some_find f l h in (w.0, there w.1, w.2)) (or_cases (f a) (some f l) t)
 
-  pub some_make : (f : A → Bool) {l : List A} {a : A} → a ∈ l → T (f a) → T (some f l)
+  pub some_make : (f : A → Bool) {a : A} {l : List A} → a ∈ l → T (f a) → T (some f l)
   some_make f {a = a} (here {l = l}) t = or_left (f a) (some f l) t
   some_make f (there {b = b} {l = l} m) t = or_right (f b) (some f l) (some_make f m t)
 
-  pub every_at : (f : A → Bool) {l : List A} {a : A} → T (every f l) → a ∈ l → T (f a)
+  pub every_at : (f : A → Bool) {a : A} {l : List A} → T (every f l) → a ∈ l → T (f a)
   every_at f {a = a} t (here {l = l}) = and_left (f a) (every f l) t
   every_at f t (there {b = b} {l = l} m) = every_at f (and_right (f b) (every f l) t) m
 
@@ -144,7 +144,7 @@ module _ {A : Type 0} where
   in_at (a ∷ l) d zero h = here
   in_at (a ∷ l) d (suc i) h = there (in_at l d i (le_of_suc-le-suc h))
 
-  pub in_index : {l : List A} {a : A} (d : A) → a ∈ l → (i : ℕ) × (i < length l) × (get_or l i d ≡ a)
+  pub in_index : {a : A} (d : A) {l : List A} → a ∈ l → (i : ℕ) × (i < length l) × (get_or l i d ≡ a)
   in_index d here = (0, omega arith, refl)
   in_index d (there m) = let w = in_index d m in (suc w.0, omega arith, w.2)
 

@@ -5,32 +5,32 @@ use Rattle.estimate.specs.Estimate.{all_in_range}
 use Rattle.estimate.proofs.are_in_range.Statement.{statement}
 use Rattle.estimate.proofs.are_in_range.Tie as tie
 
-is-in-range-requires : tie.Need-is-in-range-requires
-is-in-range-requires c κs = search rules
+is_in_range-requires : tie.Need-is_in_range-requires
+is_in_range-requires c κs = search rules
 
-is-in-range-requires-2 : tie.Need-is-in-range-requires-2
-is-in-range-requires-2 c κs = search rules
+is_in_range-requires-then-is_in_range : tie.Need-is_in_range-requires-then-is_in_range
+is_in_range-requires-then-is_in_range c κs = search rules
 
-is-in-range-requires-3 : tie.Need-is-in-range-requires-3
-is-in-range-requires-3 c κs = search rules
+is_in_range-requires-then-is_in_range-2 : tie.Need-is_in_range-requires-then-is_in_range-2
+is_in_range-requires-then-is_in_range-2 c κs = search rules
 
-returns : tie.Need-returns
+returns-then-is_in_range-2 : tie.Need-returns-then-is_in_range-2
 unfolding all_in_range
-returns c =
+returns-then-is_in_range-2 c =
     let second = c.before.before in
-    rw (sym second.before.before.is_in_range.ensures ∙ second.before.if1.true, sym second.is-in-range2.ensures ∙ c.before.if2.true) c.is-in-range3.ensures
+    rw (sym second.is_in_range.ensures ∙ second.if-is_in_range.true, sym second.is_in_range-then-is_in_range.ensures ∙ c.if-is_in_range-2.true) c.is_in_range-then-is_in_range-2.ensures
 
-returns-2 : tie.Need-returns-2
+returns-else-is_in_range-2 : tie.Need-returns-else-is_in_range-2
 unfolding all_in_range
-returns-2 c =
+returns-else-is_in_range-2 c =
     let second = c.before in
-    rw (sym second.before.before.is_in_range.ensures ∙ second.before.if1.true, sym second.is-in-range2.ensures, c.if2.false)
+    rw (sym second.is_in_range.ensures ∙ second.if-is_in_range.true, sym second.is_in_range-then-is_in_range.ensures, c.if-is_in_range-2.false)
 
-returns-3 : tie.Need-returns-3
+returns-else-is_in_range : tie.Need-returns-else-is_in_range
 unfolding all_in_range
-returns-3 c = rw (sym c.before.is_in_range.ensures, c.if1.false)
+returns-else-is_in_range c = rw (sym c.is_in_range.ensures, c.if-is_in_range.false)
 
-pub are-in-range-spec : {M : Type 1} → statement M
-are-in-range-spec =
+pub are_in_range_spec : {M : Type 1} → statement M
+are_in_range_spec =
     tie.close
-    (tie.spec is-in-range-requires is-in-range-requires-2 is-in-range-requires-3 returns returns-2 returns-3)
+    (tie.spec is_in_range-requires is_in_range-requires-then-is_in_range is_in_range-requires-then-is_in_range-2 returns-then-is_in_range-2 returns-else-is_in_range-2 returns-else-is_in_range)

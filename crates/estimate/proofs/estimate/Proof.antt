@@ -26,28 +26,28 @@ module _ (a b c : Point) (r : Estimated) where
   unfolding estimated of_bits
   outside t e = (rw t e, λ u. absurd (subst T t u))
 
-are-in-range-requires : tie.Need-are-in-range-requires
-are-in-range-requires c κs = search rules
+are_in_range-requires : tie.Need-are_in_range-requires
+are_in_range-requires c κs = search rules
 
-value-requires : tie.Need-value-requires
-value-requires c κs = is_true _ (sym c.before.are-in-range.ensures ∙ c.if1.true)
+value-v-requires : tie.Need-value-v-requires
+value-v-requires c κs = is_true _ (sym c.are_in_range.ensures ∙ c.if-are_in_range.true)
 
-side-of-requires : tie.Need-side-of-requires
-side-of-requires c κs = search rules
+side_of-requires : tie.Need-side_of-requires
+side_of-requires c κs = search rules
 
-returns : tie.Need-returns
-returns c =
+returns-then-are_in_range : tie.Need-returns-then-are_in_range
+returns-then-are_in_range c =
     let tested = c.before.before in
     let s = tested.before.before in
-    let v = c.before.value in
-    inside s.args.a s.args.b s.args.c (of v.result c.side-of.result) (sym tested.before.are-in-range.ensures ∙ tested.if1.true)
-    (ap₂ of v.ensures (c.side-of.ensures ∙ ap certain v.ensures))
+    let v = c.value-v in
+    inside s.args.a s.args.b s.args.c (of v.result c.side_of.result) (sym tested.are_in_range.ensures ∙ tested.if-are_in_range.true)
+    (ap₂ of v.ensures (c.side_of.ensures ∙ ap certain v.ensures))
 
-returns-2 : tie.Need-returns-2
-returns-2 c =
+returns-else-are_in_range : tie.Need-returns-else-are_in_range
+returns-else-are_in_range c =
     let s = c.before.before in
-    outside s.args.a s.args.b s.args.c (of (of_bits binary32 0) Close) (sym c.before.are-in-range.ensures ∙ c.if1.false) refl
+    outside s.args.a s.args.b s.args.c (of (of_bits binary32 0) Close) (sym c.are_in_range.ensures ∙ c.if-are_in_range.false) refl
 
-pub estimate-spec : {M : Type 1} → statement M
-estimate-spec =
-    tie.close (tie.spec are-in-range-requires value-requires side-of-requires returns returns-2)
+pub estimate_spec : {M : Type 1} → statement M
+estimate_spec =
+    tie.close (tie.spec are_in_range-requires value-v-requires side_of-requires returns-then-are_in_range returns-else-are_in_range)

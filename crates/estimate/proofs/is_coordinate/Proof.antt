@@ -15,18 +15,18 @@ use Rattle.estimate.proofs.is_coordinate.Tie as tie
 back : (s : tie.Start) → to_z w32 (of_z w32 s.args.v) ≡ s.args.v
 back s = to_z-of_z s.ranges.v
 
-sub-if1 : tie.Need-overflow-sub-if1
-sub-if1 c = search rules
+overflow_sub-t-3 : tie.Need-overflow_sub-t-3
+overflow_sub-t-3 c = search rules
 
-returns : tie.Need-returns
-returns c =
+returns-then-v : tie.Need-returns-then-v
+returns-then-v c =
     let s = c.before in
-    rw (back s) (ap (λ (b : Bool). b && le_z s.args.v (pos range)) (sym (rw (back s) at c.if1.true)) ∙ size_test range s.args.v)
+    rw (back s) (ap (λ (b : Bool). b && le_z s.args.v (pos range)) (sym (rw (back s) at c.if-v.true)) ∙ size_test range s.args.v)
 
-returns-2 : tie.Need-returns-2
-returns-2 c =
+returns-else-v : tie.Need-returns-else-v
+returns-else-v c =
     let s = c.before in
-    c.if1.false ∙ ap (λ (b : Bool). b && le_z s.args.v (pos range)) (sym (rw (back s) at c.if1.false)) ∙ size_test range s.args.v
+    c.if-v.false ∙ ap (λ (b : Bool). b && le_z s.args.v (pos range)) (sym (rw (back s) at c.if-v.false)) ∙ size_test range s.args.v
 
-pub is-coordinate-spec : {M : Type 1} → statement M
-is-coordinate-spec = tie.close (tie.spec sub-if1 returns returns-2)
+pub is_coordinate_spec : {M : Type 1} → statement M
+is_coordinate_spec = tie.close (tie.spec overflow_sub-t-3 returns-then-v returns-else-v)

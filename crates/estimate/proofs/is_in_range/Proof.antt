@@ -13,29 +13,29 @@ use Rattle.estimate.proofs.is_in_range.Tie as tie
 held : (s : tie.Start) → Held s.args.p
 held s = search rules
 
-is-coordinate-requires : tie.Need-is-coordinate-requires
-is-coordinate-requires c κs = search rules
+is_coordinate-requires : tie.Need-is_coordinate-requires
+is_coordinate-requires c κs = search rules
 
-is-coordinate-requires-2 : tie.Need-is-coordinate-requires-2
-is-coordinate-requires-2 c κs = search rules
+is_coordinate-requires-then-is_coordinate : tie.Need-is_coordinate-requires-then-is_coordinate
+is_coordinate-requires-then-is_coordinate c κs = search rules
 
 -- what each call says, of the coordinate itself
-module _ (c : tie.After-is-coordinate) where
-  x_is : c.is-coordinate.result ≡ leb (nat_abs c.before.before.args.p.x) range
-  x_is = rw (to_z-of_z (held c.before.before).x_fits) at c.is-coordinate.ensures
+module _ (c : tie.After-is_coordinate) where
+  x_is : c.is_coordinate.result ≡ leb (nat_abs c.args.p.x) range
+  x_is = rw (to_z-of_z (held c.before.before).x_fits) at c.is_coordinate.ensures
 
-module _ (c : tie.After-is-coordinate2) where
-  y_is : c.is-coordinate2.result ≡ leb (nat_abs c.before.before.before.before.before.args.p.y) range
-  y_is = rw (to_z-of_z (held c.before.before.before.before.before).y_fits) at c.is-coordinate2.ensures
+module _ (c : tie.After-is_coordinate-then-is_coordinate) where
+  y_is : c.is_coordinate-then-is_coordinate.result ≡ leb (nat_abs c.args.p.y) range
+  y_is = rw (to_z-of_z (held c.before.before.before.before.before).y_fits) at c.is_coordinate-then-is_coordinate.ensures
 
-returns : tie.Need-returns
+returns-then-is_coordinate : tie.Need-returns-then-is_coordinate
 unfolding within
-returns c = rw (sym (x_is c.before.before.before) ∙ c.before.before.if1.true) (y_is c)
+returns-then-is_coordinate c = rw (sym (x_is c.before.before.before) ∙ c.if-is_coordinate.true) (y_is c)
 
-returns-2 : tie.Need-returns-2
+returns-else-is_coordinate : tie.Need-returns-else-is_coordinate
 unfolding within
-returns-2 c = rw (sym (x_is c.before), c.if1.false)
+returns-else-is_coordinate c = rw (sym (x_is c.before), c.if-is_coordinate.false)
 
-pub is-in-range-spec : {M : Type 1} → statement M
-is-in-range-spec =
-    tie.close (tie.spec is-coordinate-requires is-coordinate-requires-2 returns returns-2)
+pub is_in_range_spec : {M : Type 1} → statement M
+is_in_range_spec =
+    tie.close (tie.spec is_coordinate-requires is_coordinate-requires-then-is_coordinate returns-then-is_coordinate returns-else-is_coordinate)

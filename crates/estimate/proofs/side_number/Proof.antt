@@ -5,24 +5,24 @@ use Rattle.estimate.specs.Estimate.{side_number}
 use Rattle.estimate.proofs.side_number.Statement.{statement}
 use Rattle.estimate.proofs.side_number.Tie as tie
 
-enum_told : tie.Need-enum-told
-enum_told c = search rules
+enum_told-1 : tie.Need-enum_told-1
+enum_told-1 c = search rules
 
-enum-told-2 : tie.Need-enum-told-2
-enum-told-2 c = search rules
+enum_told-in-Right : tie.Need-enum_told-in-Right
+enum_told-in-Right c = search rules
 
-enum-told-3 : tie.Need-enum-told-3
-enum-told-3 c = search rules
+enum_told-in-Close : tie.Need-enum_told-in-Close
+enum_told-in-Close c = search rules
 
-returns : tie.Need-returns
-returns c = sym (ap side_number c.enum_told.given.1)
+returns-in-Left : tie.Need-returns-in-Left
+returns-in-Left c = sym (ap side_number c.in-Left.is)
 
-returns-2 : tie.Need-returns-2
-returns-2 c = sym (ap side_number c.enum-told2.given.1)
+returns-in-Right : tie.Need-returns-in-Right
+returns-in-Right c = sym (ap side_number c.in-Right.is)
 
-returns-3 : tie.Need-returns-3
-returns-3 c = sym (ap side_number c.enum-told3.given.1)
+returns-in-Close : tie.Need-returns-in-Close
+returns-in-Close c = sym (ap side_number c.in-Close.is)
 
-pub side-number-spec : {M : Type 1} → statement M
-side-number-spec =
-    tie.close (tie.spec enum_told enum-told-2 enum-told-3 returns returns-2 returns-3)
+pub side_number_spec : {M : Type 1} → statement M
+side_number_spec =
+    tie.close (tie.spec enum_told-1 enum_told-in-Right enum_told-in-Close returns-in-Left returns-in-Right returns-in-Close)

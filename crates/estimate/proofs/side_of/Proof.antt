@@ -4,17 +4,17 @@ use Rattle.estimate.specs.Estimate.{certain}
 use Rattle.estimate.proofs.side_of.Statement.{statement}
 use Rattle.estimate.proofs.side_of.Tie as tie
 
-returns : tie.Need-returns
+returns-then-estimate : tie.Need-returns-then-estimate
 unfolding certain of_bits
-returns c = simp c.if1.true
+returns-then-estimate c = simp c.if-estimate.true
 
-returns-2 : tie.Need-returns-2
+returns-then-estimate-2 : tie.Need-returns-then-estimate-2
 unfolding certain of_bits neg
-returns-2 c = simp (c.before.if1.false, c.if2.true)
+returns-then-estimate-2 c = simp (c.if-estimate.false, c.if-estimate-2.true)
 
-returns-3 : tie.Need-returns-3
+returns-else-estimate-2 : tie.Need-returns-else-estimate-2
 unfolding certain of_bits neg
-returns-3 c = simp (c.before.if1.false, c.if2.false)
+returns-else-estimate-2 c = simp (c.if-estimate.false, c.if-estimate-2.false)
 
-pub side-of-spec : {M : Type 1} → statement M
-side-of-spec = tie.close (tie.spec returns returns-2 returns-3)
+pub side_of_spec : {M : Type 1} → statement M
+side_of_spec = tie.close (tie.spec returns-then-estimate returns-then-estimate-2 returns-else-estimate-2)

@@ -34,10 +34,10 @@ module _ (s : tie.Start) where
   a_in = first_in s.args.a s.args.b s.args.c s.requires
 
   b_in : T (in_range s.args.b)
-  b_in = second_in s.args.a s.args.b s.args.c s.pre
+  b_in = second_in s.args.a s.args.b s.args.c s.requires
 
   c_in : T (in_range s.args.c)
-  c_in = third_in s.args.a s.args.b s.args.c s.pre
+  c_in = third_in s.args.a s.args.b s.args.c s.requires
 
 -- what two coordinates by their bits ask, and what their difference is
 module _ (p q : Point) (h : T (in_range p)) (k : T (in_range q)) where
@@ -84,8 +84,8 @@ returns c =
     let b = s.args.b in
     let e = s.args.c in
     ap₂ (λ (x y : Float). sub binary32 x y)
-    (ap₂ (mul binary32) (d₁.difference.ensures ∙ apart_x a b (a_in s) (b_in s)) (d₂.difference2.ensures ∙ apart_y a e (a_in s) (c_in s)))
-    (ap₂ (mul binary32) (d₃.difference3.ensures ∙ apart_y a b (a_in s) (b_in s)) (c.difference4.ensures ∙ apart_x a e (a_in s) (c_in s)))
+    (ap₂ (mul binary32) (d₁.difference.ensures ∙ apart_x a b (a_in s) (b_in s)) (d₂.difference-2.ensures ∙ apart_y a e (a_in s) (c_in s)))
+    (ap₂ (mul binary32) (d₃.difference-3.ensures ∙ apart_y a b (a_in s) (b_in s)) (c.difference-4.ensures ∙ apart_x a e (a_in s) (c_in s)))
 
 pub value_spec : {M : Type 1} → statement M
 value_spec = tie.close (tie.spec difference-requires difference-requires-2 difference-requires-3 difference-requires-4 returns)

@@ -26,48 +26,48 @@ module _ (s : tie.Start) where
   abbrev t : Turn
   t = turn a b p
 
-spanned : (c : tie.Then1) →
+spanned : (c : tie.Then-spans) →
     let s = c.before.before in
     T (lt_z s.args.ax s.args.bx && (le_z s.args.ax s.args.cx && le_z s.args.cx s.args.bx))
 spanned c =
-    let f = c.before.before.ranges in
-    is_true _ (sym (c.before.spans.ensures ∙ ap₂ ◌&&◌ (below_read f.ax f.bx) (ap₂ ◌&&◌ (upto_read f.ax f.cx) (upto_read f.cx f.bx))) ∙ c.if1.true)
+    let f = c.ranges in
+    is_true _ (sym (c.spans.ensures ∙ ap₂ ◌&&◌ (below_read f.ax f.bx) (ap₂ ◌&&◌ (upto_read f.ax f.cx) (upto_read f.cx f.bx))) ∙ c.if-spans.true)
 
 spans-requires : tie.Need-spans-requires
 spans-requires c κs = search rules
 
-returns : tie.Need-returns
-returns c =
+returns-then-cy-by : tie.Need-returns-then-cy-by
+returns-then-cy-by c =
     let u = c.before.before in
     let s = u.before.before in
     let f = s.ranges in
     told_under (t s)
     (under_box (a s) (b s) (p s) (spanned u)
     (and_make (lt_z s.args.cy s.args.ay) (lt_z s.args.cy s.args.by)
-    (is_true _ (sym (below_read f.cy f.ay) ∙ c.before.if2.true)) (is_true _ (sym (below_read f.cy f.by) ∙ c.if3.true))))
+    (is_true _ (sym (below_read f.cy f.ay) ∙ c.if-cy-ay.true)) (is_true _ (sym (below_read f.cy f.by) ∙ c.if-cy-by.true))))
 
-returns-2 : tie.Need-returns-2
-returns-2 c =
+returns-then-ay-cy : tie.Need-returns-then-ay-cy
+returns-then-ay-cy c =
     let u = c.before.before.before in
     let s = u.before.before in
     let f = s.ranges in
     told_over (t s)
     (over_box (a s) (b s) (p s) (spanned u)
     (and_make (lt_z s.args.ay s.args.cy) (lt_z s.args.by s.args.cy)
-    (is_true _ (sym (below_read f.ay f.cy) ∙ c.if5.true)) (is_true _ (sym (below_read f.by f.cy) ∙ c.before.if4.true))))
+    (is_true _ (sym (below_read f.ay f.cy) ∙ c.if-ay-cy.true)) (is_true _ (sym (below_read f.by f.cy) ∙ c.if-by-cy.true))))
 
-returns-3 : tie.Need-returns-3
-returns-3 c = told_nothing (t c.before.before.before.before)
+returns-else-cy-by : tie.Need-returns-else-cy-by
+returns-else-cy-by c = told_nothing (t c.before.before.before.before)
 
-returns-4 : tie.Need-returns-4
-returns-4 c = told_nothing (t c.before.before.before.before.before)
+returns-else-ay-cy : tie.Need-returns-else-ay-cy
+returns-else-ay-cy c = told_nothing (t c.before.before.before.before.before)
 
-returns-5 : tie.Need-returns-5
-returns-5 c = told_nothing (t c.before.before.before.before)
+returns-else-by-cy : tie.Need-returns-else-by-cy
+returns-else-by-cy c = told_nothing (t c.before.before.before.before)
 
-returns-6 : tie.Need-returns-6
-returns-6 c = told_nothing (t c.before.before)
+returns-else-spans : tie.Need-returns-else-spans
+returns-else-spans c = told_nothing (t c.before.before)
 
-pub beside-box-spec : {M : Type 1} → statement M
-beside-box-spec =
-    tie.close (tie.spec spans-requires returns returns-2 returns-3 returns-4 returns-5 returns-6)
+pub beside_box_spec : {M : Type 1} → statement M
+beside_box_spec =
+    tie.close (tie.spec spans-requires returns-then-cy-by returns-then-ay-cy returns-else-cy-by returns-else-ay-cy returns-else-by-cy returns-else-spans)

@@ -14,14 +14,14 @@ wide = sfits_widen tt
 fits : (a b : ℤ) → SFits w32 a → SFits w32 b → SFits w64 (a -ℤ b)
 fits a b f g = small_fits (a -ℤ b) (omega (arith, nat_abs_difference a b, mag_nat_abs a, mag_nat_abs b))
 
-cast-result : tie.Need-overflow-cast-result
-cast-result c = rw (to_z-of_z c.ranges.a) (wide c.ranges.a)
+overflow_cast-result : tie.Need-overflow_cast-result
+overflow_cast-result c = rw (to_z-of_z c.ranges.a) (wide c.ranges.a)
 
-cast-result-2 : tie.Need-overflow-cast-result-2
-cast-result-2 c = rw (to_z-of_z c.ranges.b) (wide c.ranges.b)
+overflow_cast-result-2 : tie.Need-overflow_cast-result-2
+overflow_cast-result-2 c = rw (to_z-of_z c.ranges.b) (wide c.ranges.b)
 
-sub-result : tie.Need-overflow-sub-result
-sub-result c =
+overflow_sub-result : tie.Need-overflow_sub-result
+overflow_sub-result c =
     let f = c.ranges.a in
     let g = c.ranges.b in
     simp (to_z-of_z, wide) (fits c.args.a c.args.b f g)
@@ -32,5 +32,5 @@ returns c =
     let g = c.ranges.b in
     simp (to_z-of_z, wide, fits)
 
-pub difference-spec : {M : Type 1} → statement M
-difference-spec = tie.close (tie.spec cast-result cast-result-2 sub-result returns)
+pub difference_spec : {M : Type 1} → statement M
+difference_spec = tie.close (tie.spec overflow_cast-result overflow_cast-result-2 overflow_sub-result returns)

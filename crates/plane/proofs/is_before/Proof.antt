@@ -27,21 +27,21 @@ module _ (s : tie.Start) where
   q_held : Held s.args.q
   q_held = search rules
 
-returns : tie.Need-returns
-returns c =
+returns-then-p-q : tie.Need-returns-then-p-q
+returns-then-p-q c =
     let s = c.before.before.before.before.before.before.before.before.before in
     let p = p_held s in
     let q = q_held s in
     ap₂ lt_z (to_z-of_z p.y_fits) (to_z-of_z q.y_fits)
-    ∙ same_x s.args.p s.args.q (bits_eq p.x_fits q.x_fits c.before.before.before.before.if1.true)
+    ∙ same_x s.args.p s.args.q (bits_eq p.x_fits q.x_fits c.if-p-q.true)
 
-returns-2 : tie.Need-returns-2
-returns-2 c =
+returns-else-p-q : tie.Need-returns-else-p-q
+returns-else-p-q c =
     let s = c.before.before.before.before.before.before.before.before.before in
     let p = p_held s in
     let q = q_held s in
     ap₂ lt_z (to_z-of_z p.x_fits) (to_z-of_z q.x_fits)
-    ∙ other_x s.args.p s.args.q (λ e. c.before.before.before.before.if1.false (ap (of_z w32) e))
+    ∙ other_x s.args.p s.args.q (λ e. c.if-p-q.false (ap (of_z w32) e))
 
-pub is-before-spec : {M : Type 1} → statement M
-is-before-spec = tie.close (tie.spec returns returns-2)
+pub is_before_spec : {M : Type 1} → statement M
+is_before_spec = tie.close (tie.spec returns-then-p-q returns-else-p-q)

@@ -3,11 +3,11 @@ use Rattle.plane.proofs.Narrow.{both, first_not, upto_read}
 use Rattle.plane.proofs.is_between.Statement.{statement}
 use Rattle.plane.proofs.is_between.Tie as tie
 
-returns : tie.Need-returns
-returns c = let f = c.before.ranges in both (upto_read f.m f.x) (upto_read f.x f.n) c.if1.true
+returns-then-m-x : tie.Need-returns-then-m-x
+returns-then-m-x c = let f = c.ranges in both (upto_read f.m f.x) (upto_read f.x f.n) c.if-m-x.true
 
-returns-2 : tie.Need-returns-2
-returns-2 c = let f = c.before.ranges in first_not _ (upto_read f.m f.x) c.if1.false
+returns-else-m-x : tie.Need-returns-else-m-x
+returns-else-m-x c = let f = c.ranges in first_not _ (upto_read f.m f.x) c.if-m-x.false
 
-pub is-between-spec : {M : Type 1} → statement M
-is-between-spec = tie.close (tie.spec returns returns-2)
+pub is_between_spec : {M : Type 1} → statement M
+is_between_spec = tie.close (tie.spec returns-then-m-x returns-else-m-x)

@@ -26,18 +26,18 @@ below (negsuc n) e = lt-leb (suc n) limit (omega (arith, leb-false n (pred limit
 back : (s : tie.Start) → to_z w32 (of_z w32 s.args.v) ≡ s.args.v
 back s = to_z-of_z s.ranges.v
 
-sub-if1 : tie.Need-overflow-sub-if1
-sub-if1 c = search rules
+overflow_sub-t-3 : tie.Need-overflow_sub-t-3
+overflow_sub-t-3 c = search rules
 
-returns : tie.Need-returns
-returns c =
+returns-then-v : tie.Need-returns-then-v
+returns-then-v c =
     let s = c.before in
-    rw (back s) (not_below s.args.v (rw (back s) at c.if1.true))
+    rw (back s) (not_below s.args.v (rw (back s) at c.if-v.true))
 
-returns-2 : tie.Need-returns-2
-returns-2 c =
+returns-else-v : tie.Need-returns-else-v
+returns-else-v c =
     let s = c.before in
-    c.if1.false ∙ sym (below s.args.v (rw (back s) at c.if1.false))
+    c.if-v.false ∙ sym (below s.args.v (rw (back s) at c.if-v.false))
 
-pub is-coordinate-spec : {M : Type 1} → statement M
-is-coordinate-spec = tie.close (tie.spec sub-if1 returns returns-2)
+pub is_coordinate_spec : {M : Type 1} → statement M
+is_coordinate_spec = tie.close (tie.spec overflow_sub-t-3 returns-then-v returns-else-v)

@@ -16,23 +16,23 @@ module _ (s : tie.Start) where
   q_held : Held s.args.q
   q_held = search rules
 
-returns : tie.Need-returns
+returns-then-p-q : tie.Need-returns-then-p-q
 unfolding is_same_point
-returns c =
+returns-then-p-q c =
     let s = c.before.before.before.before.before.before.before.before.before in
     let p = p_held s in
     let q = q_held s in
-    rw (eq_z_yes s.args.p.x s.args.q.x (bits_eq p.x_fits q.x_fits c.before.before.before.before.if1.true))
+    rw (eq_z_yes s.args.p.x s.args.q.x (bits_eq p.x_fits q.x_fits c.if-p-q.true))
     (bits_eqb p.y_fits q.y_fits)
 
-returns-2 : tie.Need-returns-2
+returns-else-p-q : tie.Need-returns-else-p-q
 unfolding is_same_point
-returns-2 c =
+returns-else-p-q c =
     let s = c.before.before.before.before.before in
     let p = p_held s in
     let q = q_held s in
-    let differ = ne_eqb (of_z w32 s.args.p.x) (of_z w32 s.args.q.x) c.if1.false in
+    let differ = ne_eqb (of_z w32 s.args.p.x) (of_z w32 s.args.q.x) c.if-p-q.false in
     rw (sym (bits_eqb p.x_fits q.x_fits), differ)
 
-pub is-same-point-spec : {M : Type 1} → statement M
-is-same-point-spec = tie.close (tie.spec returns returns-2)
+pub is_same_point_spec : {M : Type 1} → statement M
+is_same_point_spec = tie.close (tie.spec returns-then-p-q returns-else-p-q)

@@ -5,20 +5,20 @@ use Rattle.plane.specs.Plane.{is_same_segment}
 use Rattle.plane.proofs.is_same_segment.Statement.{statement}
 use Rattle.plane.proofs.is_same_segment.Tie as tie
 
-is-same-point-requires : tie.Need-is-same-point-requires
-is-same-point-requires c κs = search rules
+is_same_point-requires : tie.Need-is_same_point-requires
+is_same_point-requires c κs = search rules
 
-is-same-point-requires-2 : tie.Need-is-same-point-requires-2
-is-same-point-requires-2 c κs = search rules
+is_same_point-requires-then-is_same_point : tie.Need-is_same_point-requires-then-is_same_point
+is_same_point-requires-then-is_same_point c κs = search rules
 
-returns : tie.Need-returns
+returns-then-is_same_point : tie.Need-returns-then-is_same_point
 unfolding is_same_segment
-returns c = rw (sym c.before.before.is-same-point.ensures ∙ c.before.if1.true) c.is-same-point2.ensures
+returns-then-is_same_point c = rw (sym c.is_same_point.ensures ∙ c.if-is_same_point.true) c.is_same_point-then-is_same_point.ensures
 
-returns-2 : tie.Need-returns-2
+returns-else-is_same_point : tie.Need-returns-else-is_same_point
 unfolding is_same_segment
-returns-2 c = rw (sym c.before.is-same-point.ensures, c.if1.false)
+returns-else-is_same_point c = rw (sym c.is_same_point.ensures, c.if-is_same_point.false)
 
-pub is-same-segment-spec : {M : Type 1} → statement M
-is-same-segment-spec =
-    tie.close (tie.spec is-same-point-requires is-same-point-requires-2 returns returns-2)
+pub is_same_segment_spec : {M : Type 1} → statement M
+is_same_segment_spec =
+    tie.close (tie.spec is_same_point-requires is_same_point-requires-then-is_same_point returns-then-is_same_point returns-else-is_same_point)

@@ -27,67 +27,67 @@ placed : (h m n : ℕ) → h < 4294967296 → m < 4294967296 → n < 4294967296 
     (h * 4294967296 % 18446744073709551616 ≡ h * 4294967296) × ((m + n) * 65536 % 18446744073709551616 ≡ (m + n) * 65536)
 placed h m n p q r = (mod-eq_of_lt (omega arith), mod-eq_of_lt (omega arith))
 
+times-high-requires : tie.Need-times-high-requires
+times-high-requires c κs = search rules
+
+overflow_cast-high : tie.Need-overflow_cast-high
+overflow_cast-high c = search rules
+
 times-requires : tie.Need-times-requires
 times-requires c κs = search rules
 
-cast-high : tie.Need-overflow-cast-high
-cast-high c = search rules
+overflow_cast-middle : tie.Need-overflow_cast-middle
+overflow_cast-middle c = search rules
 
 times-requires-2 : tie.Need-times-requires-2
 times-requires-2 c κs = search rules
 
-cast-middle : tie.Need-overflow-cast-middle
-cast-middle c = search rules
+overflow_cast-middle-2 : tie.Need-overflow_cast-middle-2
+overflow_cast-middle-2 c = search rules
 
-times-requires-3 : tie.Need-times-requires-3
-times-requires-3 c κs = search rules
+overflow_add-middle : tie.Need-overflow_add-middle
+overflow_add-middle c = search rules
 
-cast-middle-2 : tie.Need-overflow-cast-middle-2
-cast-middle-2 c = search rules
+times-low-requires : tie.Need-times-low-requires
+times-low-requires c κs = search rules
 
-add-middle : tie.Need-overflow-add-middle
-add-middle c = search rules
+overflow_cast-low : tie.Need-overflow_cast-low
+overflow_cast-low c = search rules
 
-times-requires-4 : tie.Need-times-requires-4
-times-requires-4 c κs = search rules
-
-cast-low : tie.Need-overflow-cast-low
-cast-low c = search rules
-
-add-result : tie.Need-overflow-add-result
-add-result c =
+overflow_add-result : tie.Need-overflow_add-result
+overflow_add-result c =
     let s = c.before.before.before.before in
-    omega (arith, by_halves s.args.u s.args.v, small s.args.u s.args.v s.requires.0 s.requires.1, c.before.before.before.times.ensures, c.before.before.times2.ensures, c.before.times3.ensures, c.times4.ensures)
+    omega (arith, by_halves s.args.u s.args.v, small s.args.u s.args.v s.requires.0 s.requires.1, c.times-high.ensures, c.times.ensures, c.times-2.ensures, c.times-low.ensures)
 
-add-result-2 : tie.Need-overflow-add-result-2
-add-result-2 c =
+overflow_add-result-2 : tie.Need-overflow_add-result-2
+overflow_add-result-2 c =
     let s = c.before.before.before.before in
-    omega (arith, by_halves s.args.u s.args.v, small s.args.u s.args.v s.requires.0 s.requires.1, c.before.before.before.times.ensures, c.before.before.times2.ensures, c.before.times3.ensures, c.times4.ensures)
+    omega (arith, by_halves s.args.u s.args.v, small s.args.u s.args.v s.requires.0 s.requires.1, c.times-high.ensures, c.times.ensures, c.times-2.ensures, c.times-low.ensures)
 
 returns : tie.Need-returns
 returns c =
     let s = c.before.before.before.before in
     let u = s.args.u in
     let v = s.args.v in
-    let t₁ = c.before.before.before.times.ensures in
-    let t₂ = c.before.before.times2.ensures in
-    let t₃ = c.before.times3.ensures in
-    let e = placed c.before.before.before.times.result c.before.before.times2.result c.before.times3.result t₁.1 t₂.1 t₃.1 in
-    (omega (arith, by_halves u v, e.0, e.1, t₁.0, t₂.0, t₃.0, c.times4.ensures.0), omega (arith, by_halves u v, small u v s.requires.0 s.requires.1, e.0, e.1, t₁.0, t₂.0, t₃.0, c.times4.ensures.0))
+    let t₁ = c.times-high.ensures in
+    let t₂ = c.times.ensures in
+    let t₃ = c.times-2.ensures in
+    let e = placed c.times-high.result c.times.result c.times-2.result t₁.1 t₂.1 t₃.1 in
+    (omega (arith, by_halves u v, e.0, e.1, t₁.0, t₂.0, t₃.0, c.times-low.ensures.0), omega (arith, by_halves u v, small u v s.requires.0 s.requires.1, e.0, e.1, t₁.0, t₂.0, t₃.0, c.times-low.ensures.0))
 
-pub product-spec : {M : Type 1} → statement M
-product-spec =
+pub product_spec : {M : Type 1} → statement M
+product_spec =
     tie.close
     (tie.spec
+    times-high-requires
+    overflow_cast-high
     times-requires
-    cast-high
+    overflow_cast-middle
     times-requires-2
-    cast-middle
-    times-requires-3
-    cast-middle-2
-    add-middle
-    times-requires-4
-    cast-low
-    add-result
-    add-result-2
+    overflow_cast-middle-2
+    overflow_add-middle
+    times-low-requires
+    overflow_cast-low
+    overflow_add-result
+    overflow_add-result-2
     returns)

@@ -6,16 +6,16 @@ use Rattle.plane.proofs.Narrow.{both, first_not, below_read, upto_read}
 use Rattle.plane.proofs.spans.Statement.{statement}
 use Rattle.plane.proofs.spans.Tie as tie
 
-is-between-requires : tie.Need-is-between-requires
-is-between-requires c κs = search rules
+is_between-requires : tie.Need-is_between-requires
+is_between-requires c κs = search rules
 
-returns : tie.Need-returns
-returns c =
-    let f = c.before.before.ranges in
-    both (below_read f.m f.n) (c.is-between.ensures ∙ ap₂ ◌&&◌ (upto_read f.m f.x) (upto_read f.x f.n)) c.before.if1.true
+returns-then-m-n : tie.Need-returns-then-m-n
+returns-then-m-n c =
+    let f = c.ranges in
+    both (below_read f.m f.n) (c.is_between.ensures ∙ ap₂ ◌&&◌ (upto_read f.m f.x) (upto_read f.x f.n)) c.if-m-n.true
 
-returns-2 : tie.Need-returns-2
-returns-2 c = let f = c.before.ranges in first_not _ (below_read f.m f.n) c.if1.false
+returns-else-m-n : tie.Need-returns-else-m-n
+returns-else-m-n c = let f = c.ranges in first_not _ (below_read f.m f.n) c.if-m-n.false
 
-pub spans-spec : {M : Type 1} → statement M
-spans-spec = tie.close (tie.spec is-between-requires returns returns-2)
+pub spans_spec : {M : Type 1} → statement M
+spans_spec = tie.close (tie.spec is_between-requires returns-then-m-n returns-else-m-n)

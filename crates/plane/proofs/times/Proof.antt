@@ -12,11 +12,11 @@ small h k = mul-le-mul (low h) (low k)
     low : {n : ℕ} → n < 65536 → n ≤ 65535
     low h = omega (arith, h)
 
-mul-result : tie.Need-overflow-mul-result
-mul-result c = record { fits = omega (arith, small c.requires.0 c.requires.1) }
+overflow_mul-result : tie.Need-overflow_mul-result
+overflow_mul-result c = record { fits = omega (arith, small c.requires.0 c.requires.1) }
 
 returns : tie.Need-returns
 returns c = (refl, omega (arith, small c.requires.0 c.requires.1))
 
-pub times-spec : {M : Type 1} → statement M
-times-spec = tie.close (tie.spec mul-result returns)
+pub times_spec : {M : Type 1} → statement M
+times_spec = tie.close (tie.spec overflow_mul-result returns)

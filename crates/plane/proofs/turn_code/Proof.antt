@@ -9,17 +9,17 @@ use Rattle.plane.proofs.Narrow.{point_back}
 use Rattle.plane.proofs.turn_code.Statement.{statement}
 use Rattle.plane.proofs.turn_code.Tie as tie
 
-beside-box-requires : tie.Need-beside-box-requires
-beside-box-requires c κs = search rules
+beside_box-requires : tie.Need-beside_box-requires
+beside_box-requires c κs = search rules
 
-enum_told : tie.Need-enum-told
-enum_told c = search rules
+enum_told-1 : tie.Need-enum_told-1
+enum_told-1 c = search rules
 
-enum-told-2 : tie.Need-enum-told-2
-enum-told-2 c = search rules
+enum_told-in-Under : tie.Need-enum_told-in-Under
+enum_told-in-Under c = search rules
 
-enum-told-3 : tie.Need-enum-told-3
-enum-told-3 c = search rules
+enum_told-in-Neither : tie.Need-enum_told-in-Neither
+enum_told-in-Neither c = search rules
 
 -- the three points, which the calls are handed by their bits
 module _ (s : tie.Start) where
@@ -33,38 +33,38 @@ module _ (s : tie.Start) where
   p = at s.args.cx s.args.cy
 
   a_back : at (to_z w32 (of_z w32 s.args.ax)) (to_z w32 (of_z w32 s.args.ay)) ≡ a
-  a_back = point_back a (record { x_fits = s.fits.ax; y_fits = s.fits.ay })
+  a_back = point_back a (record { x_fits = s.ranges.ax; y_fits = s.ranges.ay })
 
   b_back : at (to_z w32 (of_z w32 s.args.bx)) (to_z w32 (of_z w32 s.args.by)) ≡ b
-  b_back = point_back b (record { x_fits = s.fits.bx; y_fits = s.fits.by })
+  b_back = point_back b (record { x_fits = s.ranges.bx; y_fits = s.ranges.by })
 
   p_back : at (to_z w32 (of_z w32 s.args.cx)) (to_z w32 (of_z w32 s.args.cy)) ≡ p
-  p_back = point_back p (record { x_fits = s.fits.cx; y_fits = s.fits.cy })
+  p_back = point_back p (record { x_fits = s.ranges.cx; y_fits = s.ranges.cy })
 
-told : (c : tie.After-beside-box) → let s = c.before in Told c.beside-box.result (turn (a s) (b s) (p s))
-told c = let s = c.before in rw (a_back s, b_back s, p_back s) at c.beside-box.ensures
+told : (c : tie.After-beside_box) → let s = c.before in Told c.beside_box.result (turn (a s) (b s) (p s))
+told c = let s = c.before in rw (a_back s, b_back s, p_back s) at c.beside_box.ensures
 
-turn-by-ends-requires : tie.Need-turn-by-ends-requires
-turn-by-ends-requires c κs = let s = c.before.before.before in rw (a_back s, b_back s, p_back s) s.requires
+turn_by_ends-requires : tie.Need-turn_by_ends-requires
+turn_by_ends-requires c κs = let s = c.before.before in rw (a_back s, b_back s, p_back s) s.requires
 
-returns : tie.Need-returns
-returns c = ap turn_code (sym ((told c.before.before).over c.enum_told.given.1))
+returns-in-Over : tie.Need-returns-in-Over
+returns-in-Over c = ap turn_code (sym ((told c.before).over c.in-Over.is))
 
-returns-2 : tie.Need-returns-2
-returns-2 c = ap turn_code (sym ((told c.before.before).under c.enum-told2.given.1))
+returns-in-Under : tie.Need-returns-in-Under
+returns-in-Under c = ap turn_code (sym ((told c.before).under c.in-Under.is))
 
-returns-3 : tie.Need-returns-3
-returns-3 c = let s = c.before.before.before.before in rw (a_back s, b_back s, p_back s) at c.turn-by-ends.ensures
+returns-in-Neither : tie.Need-returns-in-Neither
+returns-in-Neither c = let s = c.before.before.before in rw (a_back s, b_back s, p_back s) at c.turn_by_ends.ensures
 
-pub turn-code-spec : {M : Type 1} → statement M
-turn-code-spec =
+pub turn_code_spec : {M : Type 1} → statement M
+turn_code_spec =
     tie.close
     (tie.spec
-    beside-box-requires
-    enum_told
-    enum-told-2
-    enum-told-3
-    turn-by-ends-requires
-    returns
-    returns-2
-    returns-3)
+    beside_box-requires
+    enum_told-1
+    enum_told-in-Under
+    enum_told-in-Neither
+    turn_by_ends-requires
+    returns-in-Over
+    returns-in-Under
+    returns-in-Neither)

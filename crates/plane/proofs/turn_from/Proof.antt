@@ -8,35 +8,35 @@ use Rattle.plane.proofs.Narrow.{point_back, coded_left, coded_right, coded_strai
 use Rattle.plane.proofs.turn_from.Statement.{statement}
 use Rattle.plane.proofs.turn_from.Tie as tie
 
-module _ (c : tie.After-turn-code) where
+module _ (c : tie.After-turn_code-code) where
   abbrev s : tie.Start
   s = c.before.before.before.before.before.before.before
 
-  code_is : c.turn-code.result ≡ turn_code (turn s.args.a s.args.b s.args.c)
+  code_is : c.turn_code-code.result ≡ turn_code (turn s.args.a s.args.b s.args.c)
   code_is =
       rw (
-        point_back s.args.a (doubled_held s.args.a s.pre.0),
-        point_back s.args.b (doubled_held s.args.b s.pre.1),
-        point_back s.args.c (doubled_held s.args.c s.pre.2),
-      ) at c.turn-code.ensures
+        point_back s.args.a (doubled_held s.args.a s.requires.0),
+        point_back s.args.b (doubled_held s.args.b s.requires.1),
+        point_back s.args.c (doubled_held s.args.c s.requires.2),
+      ) at c.turn_code-code.ensures
 
-turn-code-requires : tie.Need-turn-code-requires
-turn-code-requires c κs = search rules
+turn_code-code-requires : tie.Need-turn_code-code-requires
+turn_code-code-requires c κs = search rules
 
-returns : tie.Need-returns
-returns c =
+returns-then-code-gt1 : tie.Need-returns-then-code-gt1
+returns-then-code-gt1 c =
     let d = c.before in
-    coded_left (turn (s d).args.a (s d).args.b (s d).args.c) (omega (arith, code_is d, c.if1.true))
+    coded_left (turn (s d).args.a (s d).args.b (s d).args.c) (omega (arith, code_is d, c.if-code-gt1.true))
 
-returns-2 : tie.Need-returns-2
-returns-2 c =
+returns-then-code-lt1 : tie.Need-returns-then-code-lt1
+returns-then-code-lt1 c =
     let d = c.before.before in
-    coded_right (turn (s d).args.a (s d).args.b (s d).args.c) (omega (arith, code_is d, c.if2.true))
+    coded_right (turn (s d).args.a (s d).args.b (s d).args.c) (omega (arith, code_is d, c.if-code-lt1.true))
 
-returns-3 : tie.Need-returns-3
-returns-3 c =
+returns-else-code-lt1 : tie.Need-returns-else-code-lt1
+returns-else-code-lt1 c =
     let d = c.before.before in
-    coded_straight (turn (s d).args.a (s d).args.b (s d).args.c) (omega (arith, code_is d, c.before.if1.false)) (omega (arith, code_is d, c.if2.false))
+    coded_straight (turn (s d).args.a (s d).args.b (s d).args.c) (omega (arith, code_is d, c.if-code-gt1.false)) (omega (arith, code_is d, c.if-code-lt1.false))
 
-pub turn-from-spec : {M : Type 1} → statement M
-turn-from-spec = tie.close (tie.spec turn-code-requires returns returns-2 returns-3)
+pub turn_from_spec : {M : Type 1} → statement M
+turn_from_spec = tie.close (tie.spec turn_code-code-requires returns-then-code-gt1 returns-then-code-lt1 returns-else-code-lt1)

@@ -54,83 +54,83 @@ module _ (h : Halfsegment) (t : T (segment_in_range h.segment)) where
   far_in =
       chosen h.is_left h.segment.right h.segment.left (right_in_doubled h.segment t) (left_in_doubled h.segment t)
 
-same_is : (c : tie.After-is-same-point) →
+same_is : (c : tie.After-is_same_point) →
     let s = c.before.before.before in
-    c.is-same-point.result ≡ is_same_point (dominating s.args.h) (dominating s.args.k)
+    c.is_same_point.result ≡ is_same_point (dominating s.args.h) (dominating s.args.k)
 same_is c =
-    c.is-same-point.ensures ∙ ap₂ is_same_point c.before.before.dominating-point.ensures c.before.dominating-point2.ensures
+    c.is_same_point.ensures ∙ ap₂ is_same_point c.dominating_point-p.ensures c.dominating_point-q.ensures
 
-one_point_lem : (c : tie.Else1) →
+one_point_lem : (c : tie.Else-not-is_same_point) →
     let s = c.before.before.before.before in
     is_same_point (dominating s.args.h) (dominating s.args.k) ≡ true
-one_point_lem c = sym (same_is c.before) ∙ not-false c.before.is-same-point.result c.if1.false
+one_point_lem c = sym (same_is c.before) ∙ not-false c.is_same_point.result c.if-not-is_same_point.false
 
-dominating-point-requires : tie.Need-dominating-point-requires
-dominating-point-requires c κs = search rules
+dominating_point-p-requires : tie.Need-dominating_point-p-requires
+dominating_point-p-requires c κs = search rules
 
-dominating-point-requires-2 : tie.Need-dominating-point-requires-2
-dominating-point-requires-2 c κs = search rules
+dominating_point-q-requires : tie.Need-dominating_point-q-requires
+dominating_point-q-requires c κs = search rules
 
-is-same-point-requires : tie.Need-is-same-point-requires
-is-same-point-requires c κs = search rules
+is_same_point-requires : tie.Need-is_same_point-requires
+is_same_point-requires c κs = search rules
 
-is-before-requires : tie.Need-is-before-requires
-is-before-requires c κs = search rules
+is_before-requires : tie.Need-is_before-requires
+is_before-requires c κs = search rules
 
-far-end-requires : tie.Need-far-end-requires
-far-end-requires c κs = search rules
+far_end-requires : tie.Need-far_end-requires
+far_end-requires c κs = search rules
 
-far-end-requires-2 : tie.Need-far-end-requires-2
-far-end-requires-2 c κs = search rules
+far_end-requires-else-h-k : tie.Need-far_end-requires-else-h-k
+far_end-requires-else-h-k c κs = search rules
 
-is-left-of-requires : tie.Need-is-left-of-requires
-is-left-of-requires c κs =
+is_left_of-requires : tie.Need-is_left_of-requires
+is_left_of-requires c κs =
     let d = c.before.before.before.before.before.before.before.before in
     let s = d.before in (
-      rw d.dominating-point.ensures (dominating_in s.args.h s.requires.0),
-      rw c.before.far-end.ensures (far_in s.args.h s.requires.0),
-      rw c.far-end2.ensures (far_in s.args.k s.requires.1),
+      rw d.dominating_point-p.ensures (dominating_in s.args.h s.requires.0),
+      rw c.far_end.ensures (far_in s.args.h s.requires.0),
+      rw c.far_end-else-h-k.ensures (far_in s.args.k s.requires.1),
     )
 
-returns : tie.Need-returns
-returns c =
+returns-then-not-is_same_point : tie.Need-returns-then-not-is_same_point
+returns-then-not-is_same_point c =
     let d = c.before.before in
     let s = d.before.before.before in
-    c.is-before.ensures
-    ∙ ap₂ before d.before.before.dominating-point.ensures d.before.dominating-point2.ensures
-    ∙ other_points s.args.h s.args.k (sym (same_is d) ∙ not-true d.is-same-point.result c.before.if1.true)
+    c.is_before.ensures
+    ∙ ap₂ before d.dominating_point-p.ensures d.dominating_point-q.ensures
+    ∙ other_points s.args.h s.args.k (sym (same_is d) ∙ not-true d.is_same_point.result c.if-not-is_same_point.true)
 
-returns-2 : tie.Need-returns-2
-returns-2 c =
+returns-then-h-k : tie.Need-returns-then-h-k
+returns-then-h-k c =
     let d = c.before.before.before in
     let s = d.before.before.before.before in
     let h = s.args.h in
     let k = s.args.k in
     other_side h k (one_point_lem d) k.is_left
-    (beq_other h.is_left k.is_left (not-true (beq h.is_left k.is_left) c.if2.true)) refl
+    (beq_other h.is_left k.is_left (not-true (beq h.is_left k.is_left) c.if-h-k.true)) refl
 
-returns-3 : tie.Need-returns-3
-returns-3 c =
+returns-else-h-k : tie.Need-returns-else-h-k
+returns-else-h-k c =
     let d = c.before.before.before.before.before.before in
     let s = d.before.before.before.before in
     let h = s.args.h in
     let k = s.args.k in
-    (rw (d.before.before.before.dominating-point.ensures, c.before.before.far-end.ensures, c.before.far-end2.ensures)
-    at c.is-left-of.ensures)
+    (rw (d.dominating_point-p.ensures, c.far_end.ensures, c.far_end-else-h-k.ensures)
+    at c.is_left_of.ensures)
     ∙ same_side_lem h k (one_point_lem d) k.is_left
-    (beq_same h.is_left k.is_left (not-false (beq h.is_left k.is_left) c.before.before.before.if2.false)) refl
+    (beq_same h.is_left k.is_left (not-false (beq h.is_left k.is_left) c.if-h-k.false)) refl
 
-pub comes-before-spec : {M : Type 1} → statement M
-comes-before-spec =
+pub comes_before_spec : {M : Type 1} → statement M
+comes_before_spec =
     tie.close
     (tie.spec
-    dominating-point-requires
-    dominating-point-requires-2
-    is-same-point-requires
-    is-before-requires
-    far-end-requires
-    far-end-requires-2
-    is-left-of-requires
-    returns
-    returns-2
-    returns-3)
+    dominating_point-p-requires
+    dominating_point-q-requires
+    is_same_point-requires
+    is_before-requires
+    far_end-requires
+    far_end-requires-else-h-k
+    is_left_of-requires
+    returns-then-not-is_same_point
+    returns-then-h-k
+    returns-else-h-k)

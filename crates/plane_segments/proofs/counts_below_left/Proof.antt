@@ -12,50 +12,50 @@ use Rattle.plane.proofs.Grid.{below_left_halved}
 use Rattle.plane_segments.proofs.counts_below_left.Statement.{statement}
 use Rattle.plane_segments.proofs.counts_below_left.Tie as tie
 
-doubled-requires : tie.Need-doubled-requires
-doubled-requires c κs = left_in_range c.args.s c.requires.0
+doubled-left-requires : tie.Need-doubled-left-requires
+doubled-left-requires c κs = left_in_range c.args.s c.requires.0
 
-doubled-requires-2 : tie.Need-doubled-requires-2
-doubled-requires-2 c κs = right_in_range c.before.args.s c.before.requires.0
+doubled-right-requires : tie.Need-doubled-right-requires
+doubled-right-requires c κs = right_in_range c.args.s c.requires.0
 
-is-left-of-requires : tie.Need-is-left-of-requires
-is-left-of-requires c κs = search rules
+is_left_of-requires : tie.Need-is_left_of-requires
+is_left_of-requires c κs = search rules
 
 -- the flag where the ways of the first two tests meet
-flag : (c : tie.Joined1) →
+flag : (c : tie.Joined-left-m) →
     let d = c.before.before.before.before.before in
-    let m = d.before.before.args.m in
-    c.if1.if2 ≡ (lt_z d.before.doubled.result.x m.x && le_z m.x d.doubled2.result.x)
+    let m = d.args.m in
+    c.if-left-m.if-m-right ≡ (lt_z d.doubled-left.result.x m.x && le_z m.x d.doubled-right.result.x)
 flag c =
     let d = c.before.before.before.before.before in
     let s = d.before.before in
-    let l = doubled_held d.before.doubled.result d.before.doubled.ensures.2 in
-    let r = doubled_held d.doubled2.result d.doubled2.ensures.2 in
+    let l = doubled_held d.doubled-left.result d.doubled-left.ensures.2 in
+    let r = doubled_held d.doubled-right.result d.doubled-right.ensures.2 in
     let m = doubled_held s.args.m s.requires.1 in
-    and_met (⊎_elim (λ w. inl (w.0.taken, w.5)) (λ w. inr (w.0.left, w.1)) c.if1.branch)
+    and_met (⊎_elim (λ w. inl (w.0.taken, w.5)) (λ w. inr (w.0.left, w.1)) c.if-left-m.branch)
     ∙ ap₂ ◌&&◌ (ap₂ lt_z (to_z-of_z l.x_fits) (to_z-of_z m.x_fits)) (ap₂ le_z (to_z-of_z m.x_fits) (to_z-of_z r.x_fits))
 
 -- and the definition, by the flag
-counted : (c : tie.Joined1) →
+counted : (c : tie.Joined-left-m) →
     let d = c.before.before.before.before.before in
     let s = d.before.before in
     counts_below_left (halved s.args.m) s.args.s
-    ≡ (c.if1.if2 && lt_z (pos 0) (side d.before.doubled.result d.doubled2.result s.args.m))
+    ≡ (c.if-left-m.if-m-right && lt_z (pos 0) (side d.doubled-left.result d.doubled-right.result s.args.m))
 counted c =
     let d = c.before.before.before.before.before in
     let s = d.before.before in
-    let l = d.before.doubled in
-    let r = d.doubled2 in
+    let l = d.doubled-left in
+    let r = d.doubled-right in
     rw (flag c)
     (below_left_halved s.args.s l.result r.result s.args.m
     (record { x_is = l.ensures.0; y_is = l.ensures.1 }) (record { x_is = r.ensures.0; y_is = r.ensures.1 }))
 
-returns : tie.Need-returns
-returns c = rw (counted c.before.before, c.before.if2.true) c.is-left-of.ensures
+returns-then-m-right : tie.Need-returns-then-m-right
+returns-then-m-right c = rw (counted c.before.before, c.if-m-right.true) c.is_left_of.ensures
 
-returns-2 : tie.Need-returns-2
-returns-2 c = rw (counted c.before, c.if2.false)
+returns-else-m-right : tie.Need-returns-else-m-right
+returns-else-m-right c = rw (counted c.before, c.if-m-right.false)
 
-pub counts-below-left-spec : {M : Type 1} → statement M
-counts-below-left-spec =
-    tie.close (tie.spec doubled-requires doubled-requires-2 is-left-of-requires returns returns-2)
+pub counts_below_left_spec : {M : Type 1} → statement M
+counts_below_left_spec =
+    tie.close (tie.spec doubled-left-requires doubled-right-requires is_left_of-requires returns-then-m-right returns-else-m-right)

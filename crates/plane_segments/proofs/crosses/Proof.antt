@@ -8,18 +8,18 @@ use Rattle.plane_segments.proofs.crosses.Tie as tie
 separates-requires : tie.Need-separates-requires
 separates-requires c κs = (c.requires.0, left_in_range c.args.t c.requires.1, right_in_range c.args.t c.requires.1)
 
-separates-requires-2 : tie.Need-separates-requires-2
-separates-requires-2 c κs =
+separates-requires-then-separates : tie.Need-separates-requires-then-separates
+separates-requires-then-separates c κs =
     let s = c.before.before in
     (s.requires.1, left_in_range s.args.s s.requires.0, right_in_range s.args.s s.requires.0)
 
-returns : tie.Need-returns
+returns-then-separates : tie.Need-returns-then-separates
 unfolding cross
-returns c = rw (sym c.before.before.separates.ensures ∙ c.before.if1.true) c.separates2.ensures
+returns-then-separates c = rw (sym c.separates.ensures ∙ c.if-separates.true) c.separates-then-separates.ensures
 
-returns-2 : tie.Need-returns-2
+returns-else-separates : tie.Need-returns-else-separates
 unfolding cross
-returns-2 c = rw (sym c.before.separates.ensures, c.if1.false)
+returns-else-separates c = rw (sym c.separates.ensures, c.if-separates.false)
 
-pub crosses-spec : {M : Type 1} → statement M
-crosses-spec = tie.close (tie.spec separates-requires separates-requires-2 returns returns-2)
+pub crosses_spec : {M : Type 1} → statement M
+crosses_spec = tie.close (tie.spec separates-requires separates-requires-then-separates returns-then-separates returns-else-separates)

@@ -3,13 +3,13 @@ use Rattle.plane.specs.Plane.{dominating}
 use Rattle.plane_segments.proofs.dominating_point.Statement.{statement}
 use Rattle.plane_segments.proofs.dominating_point.Tie as tie
 
-returns : tie.Need-returns
+returns-then-h : tie.Need-returns-then-h
 unfolding dominating
-returns c = rw c.before.if1.true
+returns-then-h c = rw c.if-h.true
 
-returns-2 : tie.Need-returns-2
+returns-else-h : tie.Need-returns-else-h
 unfolding dominating
-returns-2 c = rw c.before.if1.false
+returns-else-h c = rw c.if-h.false
 
-pub dominating-point-spec : {M : Type 1} → statement M
-dominating-point-spec = tie.close (tie.spec returns returns-2)
+pub dominating_point_spec : {M : Type 1} → statement M
+dominating_point_spec = tie.close (tie.spec returns-then-h returns-else-h)

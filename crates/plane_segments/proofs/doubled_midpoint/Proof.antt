@@ -12,5 +12,5 @@ returns c =
     let e = c.sum.ensures in
     (λ i. record { X = e.0 i; Y = e.1 i; W = pos 2 }, e.2)
 
-pub doubled-midpoint-spec : {M : Type 1} → statement M
-doubled-midpoint-spec = tie.close (tie.spec sum-requires returns)
+pub doubled_midpoint_spec : {M : Type 1} → statement M
+doubled_midpoint_spec = tie.close (tie.spec sum-requires returns)

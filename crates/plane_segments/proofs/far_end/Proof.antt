@@ -3,13 +3,13 @@ use Rattle.plane.specs.Plane.{far_end}
 use Rattle.plane_segments.proofs.far_end.Statement.{statement}
 use Rattle.plane_segments.proofs.far_end.Tie as tie
 
-returns : tie.Need-returns
+returns-then-h : tie.Need-returns-then-h
 unfolding far_end
-returns c = rw c.before.if1.true
+returns-then-h c = rw c.if-h.true
 
-returns-2 : tie.Need-returns-2
+returns-else-h : tie.Need-returns-else-h
 unfolding far_end
-returns-2 c = rw c.before.if1.false
+returns-else-h c = rw c.if-h.false
 
-pub far-end-spec : {M : Type 1} → statement M
-far-end-spec = tie.close (tie.spec returns returns-2)
+pub far_end_spec : {M : Type 1} → statement M
+far_end_spec = tie.close (tie.spec returns-then-h returns-else-h)

@@ -6,19 +6,19 @@ use Rattle.plane.specs.Plane.{end_within}
 use Rattle.plane_segments.proofs.has_within.Statement.{statement}
 use Rattle.plane_segments.proofs.has_within.Tie as tie
 
-is-on-requires : tie.Need-is-on-requires
-is-on-requires c κs = search rules
+is_on-requires : tie.Need-is_on-requires
+is_on-requires c κs = search rules
 
-is-end-requires : tie.Need-is-end-requires
-is-end-requires c κs = search rules
+is_end-requires : tie.Need-is_end-requires
+is_end-requires c κs = search rules
 
-returns : tie.Need-returns
+returns-then-is_on : tie.Need-returns-then-is_on
 unfolding end_within
-returns c = rw (sym c.before.before.is-on.ensures ∙ c.before.if1.true) (ap not c.is-end.ensures)
+returns-then-is_on c = rw (sym c.is_on.ensures ∙ c.if-is_on.true) (ap not c.is_end.ensures)
 
-returns-2 : tie.Need-returns-2
+returns-else-is_on : tie.Need-returns-else-is_on
 unfolding end_within
-returns-2 c = rw (sym c.before.is-on.ensures, c.if1.false)
+returns-else-is_on c = rw (sym c.is_on.ensures, c.if-is_on.false)
 
-pub has-within-spec : {M : Type 1} → statement M
-has-within-spec = tie.close (tie.spec is-on-requires is-end-requires returns returns-2)
+pub has_within_spec : {M : Type 1} → statement M
+has_within_spec = tie.close (tie.spec is_on-requires is_end-requires returns-then-is_on returns-else-is_on)

@@ -5,22 +5,22 @@ use Rattle.plane.proofs.Grid.{end_grid}
 use Rattle.plane_segments.proofs.is_end.Statement.{statement}
 use Rattle.plane_segments.proofs.is_end.Tie as tie
 
-is-same-point-requires : tie.Need-is-same-point-requires
-is-same-point-requires c κs = search rules
+is_same_point-requires : tie.Need-is_same_point-requires
+is_same_point-requires c κs = search rules
 
-is-same-point-requires-2 : tie.Need-is-same-point-requires-2
-is-same-point-requires-2 c κs = search rules
+is_same_point-requires-else-is_same_point : tie.Need-is_same_point-requires-else-is_same_point
+is_same_point-requires-else-is_same_point c κs = search rules
 
-returns : tie.Need-returns
-returns c =
+returns-then-is_same_point : tie.Need-returns-then-is_same_point
+returns-then-is_same_point c =
     let s = c.before.before in
-    rw (end_grid s.args.s s.args.p, sym c.before.is-same-point.ensures, c.if1.true)
+    rw (end_grid s.args.s s.args.p, sym c.is_same_point.ensures, c.if-is_same_point.true)
 
-returns-2 : tie.Need-returns-2
-returns-2 c =
+returns-else-is_same_point : tie.Need-returns-else-is_same_point
+returns-else-is_same_point c =
     let s = c.before.before.before in
-    rw (end_grid s.args.s s.args.p, sym c.before.before.is-same-point.ensures, c.before.if1.false)
-    c.is-same-point2.ensures
+    rw (end_grid s.args.s s.args.p, sym c.is_same_point.ensures, c.if-is_same_point.false)
+    c.is_same_point-else-is_same_point.ensures
 
-pub is-end-spec : {M : Type 1} → statement M
-is-end-spec = tie.close (tie.spec is-same-point-requires is-same-point-requires-2 returns returns-2)
+pub is_end_spec : {M : Type 1} → statement M
+is_end_spec = tie.close (tie.spec is_same_point-requires is_same_point-requires-else-is_same_point returns-then-is_same_point returns-else-is_same_point)

@@ -6,68 +6,68 @@ use Rattle.plane.proofs.Grid.{on-grid}
 use Rattle.plane_segments.proofs.is_on.Statement.{statement}
 use Rattle.plane_segments.proofs.is_on.Tie as tie
 
-turn-from-requires : tie.Need-turn-from-requires
-turn-from-requires c κs = turn-asks c.args.s c.args.p c.requires.0 c.requires.1
+turn_from-requires : tie.Need-turn_from-requires
+turn_from-requires c κs = turn-asks c.args.s c.args.p c.requires.0 c.requires.1
 
-enum_told : tie.Need-enum-told
-enum_told c = search rules
+enum_told-1 : tie.Need-enum_told-1
+enum_told-1 c = search rules
 
-enum-told-2 : tie.Need-enum-told-2
-enum-told-2 c = search rules
+enum_told-in-Straight : tie.Need-enum_told-in-Straight
+enum_told-in-Straight c = search rules
 
-is-before-requires : tie.Need-is-before-requires
-is-before-requires c κs = search rules
+is_before-requires : tie.Need-is_before-requires
+is_before-requires c κs = search rules
 
-is-before-requires-2 : tie.Need-is-before-requires-2
-is-before-requires-2 c κs = search rules
+is_before-requires-then-not-is_before : tie.Need-is_before-requires-then-not-is_before
+is_before-requires-then-not-is_before c κs = search rules
 
-enum-told-3 : tie.Need-enum-told-3
-enum-told-3 c = search rules
+enum_told-in-Right : tie.Need-enum_told-in-Right
+enum_told-in-Right c = search rules
 
-returns : tie.Need-returns
-returns c =
+returns-in-Left : tie.Need-returns-in-Left
+returns-in-Left c =
     let s = c.before.before.before in
-    rw (on-grid s.args.s s.args.p, sym c.before.before.turn-from.ensures ∙ c.enum_told.given.1)
+    rw (on-grid s.args.s s.args.p, sym c.turn_from.ensures ∙ c.in-Left.is)
 
-returns-2 : tie.Need-returns-2
-returns-2 c =
+returns-then-not-is_before : tie.Need-returns-then-not-is_before
+returns-then-not-is_before c =
     let d = c.before.before.before in
     let s = d.before.before.before in
     rw (
       on-grid s.args.s s.args.p,
-      sym d.before.before.turn-from.ensures ∙ d.enum-told2.given.1,
-      sym c.before.before.is-before.ensures,
-      c.before.if1.true,
-      sym c.is-before2.ensures,
+      sym d.turn_from.ensures ∙ d.in-Straight.is,
+      sym c.is_before.ensures,
+      c.if-not-is_before.true,
+      sym c.is_before-then-not-is_before.ensures,
     )
 
-returns-3 : tie.Need-returns-3
-returns-3 c =
+returns-else-not-is_before : tie.Need-returns-else-not-is_before
+returns-else-not-is_before c =
     let d = c.before.before in
     let s = d.before.before.before in
     rw (
       on-grid s.args.s s.args.p,
-      sym d.before.before.turn-from.ensures ∙ d.enum-told2.given.1,
-      sym c.before.is-before.ensures,
-      c.if1.false,
+      sym d.turn_from.ensures ∙ d.in-Straight.is,
+      sym c.is_before.ensures,
+      c.if-not-is_before.false,
     )
 
-returns-4 : tie.Need-returns-4
-returns-4 c =
+returns-in-Right : tie.Need-returns-in-Right
+returns-in-Right c =
     let s = c.before.before.before in
-    rw (on-grid s.args.s s.args.p, sym c.before.before.turn-from.ensures ∙ c.enum-told3.given.1)
+    rw (on-grid s.args.s s.args.p, sym c.turn_from.ensures ∙ c.in-Right.is)
 
-pub is-on-spec : {M : Type 1} → statement M
-is-on-spec =
+pub is_on_spec : {M : Type 1} → statement M
+is_on_spec =
     tie.close
     (tie.spec
-    turn-from-requires
-    enum_told
-    enum-told-2
-    is-before-requires
-    is-before-requires-2
-    enum-told-3
-    returns
-    returns-2
-    returns-3
-    returns-4)
+    turn_from-requires
+    enum_told-1
+    enum_told-in-Straight
+    is_before-requires
+    is_before-requires-then-not-is_before
+    enum_told-in-Right
+    returns-in-Left
+    returns-then-not-is_before
+    returns-else-not-is_before
+    returns-in-Right)

@@ -9,33 +9,33 @@ use Rattle.plane.proofs.Machine.{is_right, right_is, told}
 use Rattle.plane_segments.proofs.is_right_of.Statement.{statement}
 use Rattle.plane_segments.proofs.is_right_of.Tie as tie
 
-arm : (c : tie.After-turn-from) (u : Turn) → c.turn-from.result ≡ u →
-    is_right u ≡ lt_z (side c.before.args.a c.before.args.b c.before.args.c) (pos 0)
+arm : (c : tie.After-turn_from) (u : Turn) → c.turn_from.result ≡ u →
+    is_right u ≡ lt_z (side c.args.a c.args.b c.args.c) (pos 0)
 arm c u e =
-    told is_right (λ (z : ℤ). lt_z z (pos 0)) right_is c.before.args.a c.before.args.b c.before.args.c c.turn-from.ensures e
+    told is_right (λ (z : ℤ). lt_z z (pos 0)) right_is c.args.a c.args.b c.args.c c.turn_from.ensures e
 
-turn-from-requires : tie.Need-turn-from-requires
-turn-from-requires c κs = search rules
+turn_from-requires : tie.Need-turn_from-requires
+turn_from-requires c κs = search rules
 
-enum_told : tie.Need-enum-told
-enum_told c = search rules
+enum_told-1 : tie.Need-enum_told-1
+enum_told-1 c = search rules
 
-enum-told-2 : tie.Need-enum-told-2
-enum-told-2 c = search rules
+enum_told-in-Straight : tie.Need-enum_told-in-Straight
+enum_told-in-Straight c = search rules
 
-enum-told-3 : tie.Need-enum-told-3
-enum-told-3 c = search rules
+enum_told-in-Right : tie.Need-enum_told-in-Right
+enum_told-in-Right c = search rules
 
-returns : tie.Need-returns
-returns c = arm c.before.before _ c.enum_told.given.1
+returns-in-Left : tie.Need-returns-in-Left
+returns-in-Left c = arm c.before _ c.in-Left.is
 
-returns-2 : tie.Need-returns-2
-returns-2 c = arm c.before.before _ c.enum-told2.given.1
+returns-in-Straight : tie.Need-returns-in-Straight
+returns-in-Straight c = arm c.before _ c.in-Straight.is
 
-returns-3 : tie.Need-returns-3
-returns-3 c = arm c.before.before _ c.enum-told3.given.1
+returns-in-Right : tie.Need-returns-in-Right
+returns-in-Right c = arm c.before _ c.in-Right.is
 
-pub is-right-of-spec : {M : Type 1} → statement M
-is-right-of-spec =
+pub is_right_of_spec : {M : Type 1} → statement M
+is_right_of_spec =
     tie.close
-    (tie.spec turn-from-requires enum_told enum-told-2 enum-told-3 returns returns-2 returns-3)
+    (tie.spec turn_from-requires enum_told-1 enum_told-in-Straight enum_told-in-Right returns-in-Left returns-in-Straight returns-in-Right)

@@ -15,59 +15,59 @@ unfolding opposite
 by_turn a b = rw (left_is a, right_is a)
 
 -- the definition in an arm where the turn at p is u
-arm : (c : tie.After-turn-from) (u : Turn) → c.turn-from.result ≡ u →
-    let s = c.before.args.s in
-    let q = side s.left s.right c.before.args.q in
-    opposite (side s.left s.right c.before.args.p) q ≡ ((is_right u && lt_z (pos 0) q) || (left_test u && lt_z q (pos 0)))
+arm : (c : tie.After-turn_from) (u : Turn) → c.turn_from.result ≡ u →
+    let s = c.args.s in
+    let q = side s.left s.right c.args.q in
+    opposite (side s.left s.right c.args.p) q ≡ ((is_right u && lt_z (pos 0) q) || (left_test u && lt_z q (pos 0)))
 unfolding turn
 arm c u e =
-    let s = c.before.args.s in
-    let q = side s.left s.right c.before.args.q in
-    by_turn (side s.left s.right c.before.args.p) q
-    ∙ ap (λ (t : Turn). (is_right t && lt_z (pos 0) q) || (left_test t && lt_z q (pos 0))) (sym c.turn-from.ensures ∙ e)
+    let s = c.args.s in
+    let q = side s.left s.right c.args.q in
+    by_turn (side s.left s.right c.args.p) q
+    ∙ ap (λ (t : Turn). (is_right t && lt_z (pos 0) q) || (left_test t && lt_z q (pos 0))) (sym c.turn_from.ensures ∙ e)
 
-turn-from-requires : tie.Need-turn-from-requires
-turn-from-requires c κs = turn-asks c.args.s c.args.p c.requires.0 c.requires.1
+turn_from-requires : tie.Need-turn_from-requires
+turn_from-requires c κs = turn-asks c.args.s c.args.p c.requires.0 c.requires.1
 
-enum_told : tie.Need-enum-told
-enum_told c = search rules
+enum_told-1 : tie.Need-enum_told-1
+enum_told-1 c = search rules
 
-is-right-of-requires : tie.Need-is-right-of-requires
-is-right-of-requires c κs =
+is_right_of-requires : tie.Need-is_right_of-requires
+is_right_of-requires c κs =
     let s = c.before.before.before in
     turn-asks s.args.s s.args.q s.requires.0 s.requires.2
 
-enum-told-2 : tie.Need-enum-told-2
-enum-told-2 c = search rules
+enum_told-in-Straight : tie.Need-enum_told-in-Straight
+enum_told-in-Straight c = search rules
 
-enum-told-3 : tie.Need-enum-told-3
-enum-told-3 c = search rules
+enum_told-in-Right : tie.Need-enum_told-in-Right
+enum_told-in-Right c = search rules
 
-is-left-of-requires : tie.Need-is-left-of-requires
-is-left-of-requires c κs =
+is_left_of-requires : tie.Need-is_left_of-requires
+is_left_of-requires c κs =
     let s = c.before.before.before in
     turn-asks s.args.s s.args.q s.requires.0 s.requires.2
 
-returns : tie.Need-returns
-returns c = c.is-right-of.ensures ∙ sym (arm c.before.before.before _ c.before.enum_told.given.1)
+returns-in-Left : tie.Need-returns-in-Left
+returns-in-Left c = c.is_right_of.ensures ∙ sym (arm c.before.before.before.before _ c.in-Left.is)
 
-returns-2 : tie.Need-returns-2
-returns-2 c = sym (arm c.before.before _ c.enum-told2.given.1)
+returns-in-Straight : tie.Need-returns-in-Straight
+returns-in-Straight c = sym (arm c.before _ c.in-Straight.is)
 
-returns-3 : tie.Need-returns-3
-returns-3 c =
-    c.is-left-of.ensures ∙ sym (or-false _) ∙ sym (arm c.before.before.before _ c.before.enum-told3.given.1)
+returns-in-Right : tie.Need-returns-in-Right
+returns-in-Right c =
+    c.is_left_of.ensures ∙ sym (or-false _) ∙ sym (arm c.before.before.before.before _ c.in-Right.is)
 
-pub separates-spec : {M : Type 1} → statement M
-separates-spec =
+pub separates_spec : {M : Type 1} → statement M
+separates_spec =
     tie.close
     (tie.spec
-    turn-from-requires
-    enum_told
-    is-right-of-requires
-    enum-told-2
-    enum-told-3
-    is-left-of-requires
-    returns
-    returns-2
-    returns-3)
+    turn_from-requires
+    enum_told-1
+    is_right_of-requires
+    enum_told-in-Straight
+    enum_told-in-Right
+    is_left_of-requires
+    returns-in-Left
+    returns-in-Straight
+    returns-in-Right)

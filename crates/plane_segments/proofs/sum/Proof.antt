@@ -5,13 +5,13 @@ use Rattle.plane.proofs.Machine.{within_x, within_y, is_within, total_fits, tota
 use Rattle.plane_segments.proofs.sum.Statement.{statement}
 use Rattle.plane_segments.proofs.sum.Tie as tie
 
-add-t3 : tie.Need-overflow-add-t3
-add-t3 c =
+overflow_add-result : tie.Need-overflow_add-result
+overflow_add-result c =
     let s = c.before.before.before.before in
     total_fits s.args.p.x s.args.q.x (within_x limit s.args.p s.requires.0) (within_x limit s.args.q s.requires.1)
 
-add-t4 : tie.Need-overflow-add-t4
-add-t4 c =
+overflow_add-result-2 : tie.Need-overflow_add-result-2
+overflow_add-result-2 c =
     let s = c.before.before.before.before.before.before.before.before in
     total_fits s.args.p.y s.args.q.y (within_y limit s.args.p s.requires.0) (within_y limit s.args.q s.requires.1)
 
@@ -29,5 +29,5 @@ returns c =
       is_within (2 * limit) _ (total_small p.x q.x px qx) (total_small p.y q.y py qy),
     )
 
-pub sum-spec : {M : Type 1} → statement M
-sum-spec = tie.close (tie.spec add-t3 add-t4 returns)
+pub sum_spec : {M : Type 1} → statement M
+sum_spec = tie.close (tie.spec overflow_add-result overflow_add-result-2 returns)

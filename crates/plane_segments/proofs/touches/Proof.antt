@@ -27,59 +27,59 @@ other s t e =
     rw e (paired (cross s t) (end_within s t.left) (end_within s t.right) (end_within t s.left) (end_within t s.right))
 
 -- the flag where the ways of the first two tests meet
-flag : (c : tie.Joined2) →
-    let s = c.before.before.before.before.args.s in
-    let t = c.before.before.before.before.args.t in
-    c.if2.if3 ≡ (cross s t || (end_within s t.left || end_within s t.right))
+flag : (c : tie.Joined-crosses) →
+    let s = c.args.s in
+    let t = c.args.t in
+    c.if-crosses.if-has_end_within ≡ (cross s t || (end_within s t.left || end_within s t.right))
 flag c =
     or_met
     (⊎_elim
-    (λ w. inl (sym c.before.crosses.ensures ∙ w.0.taken, w.1 ∙ c.before.crosses.ensures))
-    (λ w. inr (sym c.before.crosses.ensures ∙ w.0.left, w.2 ∙ w.1.ensures))
-    c.if2.branch)
+    (λ w. inl (sym c.crosses.ensures ∙ w.0.taken, w.1 ∙ c.crosses.ensures))
+    (λ w. inr (sym c.crosses.ensures ∙ w.0.left, w.2 ∙ w.1.ensures))
+    c.if-crosses.branch)
 
-is-same-segment-requires : tie.Need-is-same-segment-requires
-is-same-segment-requires c κs = search rules
+is_same_segment-requires : tie.Need-is_same_segment-requires
+is_same_segment-requires c κs = search rules
 
-returns : tie.Need-returns
-returns c =
+returns-then-is_same_segment : tie.Need-returns-then-is_same_segment
+returns-then-is_same_segment c =
     let s = c.before.before in
-    sym (same s.args.s s.args.t (sym c.before.is-same-segment.ensures ∙ c.if1.true))
+    sym (same s.args.s s.args.t (sym c.is_same_segment.ensures ∙ c.if-is_same_segment.true))
 
 crosses-requires : tie.Need-crosses-requires
 crosses-requires c κs = search rules
 
-has-end-within-requires : tie.Need-has-end-within-requires
-has-end-within-requires c κs = search rules
+has_end_within-requires : tie.Need-has_end_within-requires
+has_end_within-requires c κs = search rules
 
-has-end-within-requires-2 : tie.Need-has-end-within-requires-2
-has-end-within-requires-2 c κs = search rules
+has_end_within-requires-else-has_end_within : tie.Need-has_end_within-requires-else-has_end_within
+has_end_within-requires-else-has_end_within c κs = search rules
 
 -- the definition by the flag
-touched : (c : tie.Joined2) →
-    let s = c.before.before.before.before.args.s in
-    let t = c.before.before.before.before.args.t in
-    touch s t ≡ (c.if2.if3 || (end_within t s.left || end_within t s.right))
+touched : (c : tie.Joined-crosses) →
+    let s = c.args.s in
+    let t = c.args.t in
+    touch s t ≡ (c.if-crosses.if-has_end_within || (end_within t s.left || end_within t s.right))
 touched c =
     let d = c.before.before in
-    let s = d.before.before.args.s in
-    let t = d.before.before.args.t in
-    rw (flag c) (other s t (sym d.before.is-same-segment.ensures ∙ d.if1.false))
+    let s = d.args.s in
+    let t = d.args.t in
+    rw (flag c) (other s t (sym d.is_same_segment.ensures ∙ d.if-is_same_segment.false))
 
-returns-2 : tie.Need-returns-2
-returns-2 c = rw (touched c.before, c.if3.true)
+returns-then-has_end_within : tie.Need-returns-then-has_end_within
+returns-then-has_end_within c = rw (touched c.before, c.if-has_end_within.true)
 
-returns-3 : tie.Need-returns-3
-returns-3 c = rw (touched c.before.before, c.before.if3.false) c.has-end-within2.ensures
+returns-else-has_end_within : tie.Need-returns-else-has_end_within
+returns-else-has_end_within c = rw (touched c.before.before, c.if-has_end_within.false) c.has_end_within-else-has_end_within.ensures
 
-pub touches-spec : {M : Type 1} → statement M
-touches-spec =
+pub touches_spec : {M : Type 1} → statement M
+touches_spec =
     tie.close
     (tie.spec
-    is-same-segment-requires
-    returns
+    is_same_segment-requires
+    returns-then-is_same_segment
     crosses-requires
-    has-end-within-requires
-    has-end-within-requires-2
-    returns-2
-    returns-3)
+    has_end_within-requires
+    has_end_within-requires-else-has_end_within
+    returns-then-has_end_within
+    returns-else-has_end_within)

@@ -3,47 +3,47 @@ use Rattle.std.proofs.Common.{◌≡◌, ◌-◌, ◌≤◌, length, sym, arith,
 use Rattle.test_notation.proofs.write.Statement.{statement}
 use Rattle.test_notation.proofs.write.Tie as tie
 
-abbrev invariant_loop : tie.invariant-loop
+abbrev invariant_loop : tie.invariant-loop-i
 invariant_loop out₀ text w₀ i₀ out w i = (i ≤ length text) × (length out ≡ length out₀)
 
-abbrev decreases_loop : tie.decreases-loop
+abbrev decreases_loop : tie.decreases-loop-i
 decreases_loop out₀ text w₀ i₀ out w i = length text - i
 
-between-requires : tie.Need-between-requires invariant_loop decreases_loop
-between-requires c κs = search rules
+between-w-requires : tie.Need-between-w-requires invariant_loop decreases_loop
+between-w-requires c κs = search rules
 
-loop-holds : tie.Need-loop-init invariant_loop decreases_loop
-loop-holds c = omega arith
+loop-i-init : tie.Need-loop-i-init invariant_loop decreases_loop
+loop-i-init c = omega arith
 
-shared-slice-read-read : tie.Need-shared-slice-read-read invariant_loop decreases_loop
-shared-slice-read-read c = omega arith
+bounds-text-i : tie.Need-bounds-text-i invariant_loop decreases_loop
+bounds-text-i c = omega arith
 
-read-requires : tie.Need-read-requires invariant_loop decreases_loop
-read-requires c κs = search rules
+read-w-requires : tie.Need-read-w-requires invariant_loop decreases_loop
+read-w-requires c κs = search rules
 
-add-i : tie.Need-overflow-add-i invariant_loop decreases_loop
-add-i c = omega arith
+overflow_add-i : tie.Need-overflow_add-i invariant_loop decreases_loop
+overflow_add-i c = omega arith
 
-loop-less : tie.Need-loop-smaller invariant_loop decreases_loop
-loop-less c = omega arith
+loop-i-smaller : tie.Need-loop-i-smaller invariant_loop decreases_loop
+loop-i-smaller c = omega arith
 
-loop-again : tie.Need-loop-preserved invariant_loop decreases_loop
-loop-again c = omega arith
+loop-i-preserved : tie.Need-loop-i-preserved invariant_loop decreases_loop
+loop-i-preserved c = omega arith
 
-ended-requires : tie.Need-ended-requires invariant_loop decreases_loop
-ended-requires c κs = search rules
+ended-last-requires : tie.Need-ended-last-requires invariant_loop decreases_loop
+ended-last-requires c κs = search rules
 
-same_length : tie.Need-same-length invariant_loop decreases_loop
-same_length c = search rules
+shape_of-out-then-last-out : tie.Need-shape_of-out-then-last-out invariant_loop decreases_loop
+shape_of-out-then-last-out c = search rules
+
+returns-then-last-out : tie.Need-returns-then-last-out invariant_loop decreases_loop
+returns-then-last-out c = (search rules, sym (length-take-le _ _ (search rules)))
+
+shape_of-out : tie.Need-shape_of-out invariant_loop decreases_loop
+shape_of-out c = search rules
 
 returns : tie.Need-returns invariant_loop decreases_loop
 returns c = (search rules, sym (length-take-le _ _ (search rules)))
-
-same-length-2 : tie.Need-same-length-2 invariant_loop decreases_loop
-same-length-2 c = search rules
-
-returns-2 : tie.Need-returns-2 invariant_loop decreases_loop
-returns-2 c = (search rules, sym (length-take-le _ _ (search rules)))
 
 pub write_spec : {M : Type 1} → statement M
 write_spec =
@@ -51,15 +51,15 @@ write_spec =
     (tie.spec
     invariant_loop
     decreases_loop
-    between-requires
-    loop-holds
-    shared-slice-read-read
-    read-requires
-    add-i
-    loop-less
-    loop-again
-    ended-requires
-    same_length
-    returns
-    same-length-2
-    returns-2)
+    between-w-requires
+    loop-i-init
+    bounds-text-i
+    read-w-requires
+    overflow_add-i
+    loop-i-smaller
+    loop-i-preserved
+    ended-last-requires
+    shape_of-out-then-last-out
+    returns-then-last-out
+    shape_of-out
+    returns)

@@ -14,7 +14,7 @@ signed-requires c κs = search rules
 
 returns : tie.Need-returns
 unfolding coordinate
-returns c = to_z-of_z (search rules) ∙ c.signed.ensures ∙ ap signed c.before.word.ensures
+returns c = to_z-of_z (search rules) ∙ c.signed.ensures ∙ ap signed c.word.ensures
 
-pub coordinate-spec : {M : Type 1} → statement M
-coordinate-spec = tie.close (tie.spec word-requires signed-requires returns)
+pub coordinate_spec : {M : Type 1} → statement M
+coordinate_spec = tie.close (tie.spec word-requires signed-requires returns)

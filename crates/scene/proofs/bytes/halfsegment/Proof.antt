@@ -6,18 +6,18 @@ use borrow.Author.Rules.{rules}
 use Rattle.scene.proofs.bytes.halfsegment.Statement.{statement}
 use Rattle.scene.proofs.bytes.halfsegment.Tie as tie
 
-segment-requires : tie.Need-segment-requires
-segment-requires c κs = search rules
+segment-segment-requires : tie.Need-segment-segment-requires
+segment-segment-requires c κs = search rules
 
-add-is-left : tie.Need-overflow-add-is-left
-add-is-left c = search rules
+overflow_add-is_left : tie.Need-overflow_add-is_left
+overflow_add-is_left c = search rules
 
-shared-slice-read-is-left : tie.Need-shared-slice-read-is-left
-shared-slice-read-is-left c = search rules
+bounds-s-at : tie.Need-bounds-s-at
+bounds-s-at c = search rules
 
 returns : tie.Need-returns
-returns c = λ i. record { segment = c.before.segment.ensures i; is_left = eqb (get_or c.before.before.before.args.s.now (c.before.before.before.args.at + 17) 0) 1 }
+returns c = λ i. record { segment = c.segment-segment.ensures i; is_left = eqb (get_or c.args.s.now (c.args.at + 17) 0) 1 }
 
-pub halfsegment-spec : {M : Type 1} → statement M
-halfsegment-spec =
-    tie.close (tie.spec segment-requires add-is-left shared-slice-read-is-left returns)
+pub halfsegment_spec : {M : Type 1} → statement M
+halfsegment_spec =
+    tie.close (tie.spec segment-segment-requires overflow_add-is_left bounds-s-at returns)

@@ -6,21 +6,21 @@ use borrow.Author.Rules.{rules}
 use Rattle.scene.proofs.bytes.point_from.Statement.{statement}
 use Rattle.scene.proofs.bytes.point_from.Tie as tie
 
-coordinate-requires : tie.Need-coordinate-requires
-coordinate-requires c κs = search rules
+coordinate-x-requires : tie.Need-coordinate-x-requires
+coordinate-x-requires c κs = search rules
 
-add-coordinate : tie.Need-overflow-add-coordinate
-add-coordinate c = search rules
+overflow_add-at : tie.Need-overflow_add-at
+overflow_add-at c = search rules
 
-coordinate-requires-2 : tie.Need-coordinate-requires-2
-coordinate-requires-2 c κs = search rules
+coordinate-y-requires : tie.Need-coordinate-y-requires
+coordinate-y-requires c κs = search rules
 
 returns : tie.Need-returns
 returns c = λ i. record {
-  x = (to_z-of_z {w = w32} {z = c.before.coordinate.result} (search rules) ∙ c.before.coordinate.ensures) i;
-  y = (to_z-of_z {w = w32} {z = c.coordinate2.result} (search rules) ∙ c.coordinate2.ensures) i;
+  x = (to_z-of_z {w = w32} {z = c.coordinate-x.result} (search rules) ∙ c.coordinate-x.ensures) i;
+  y = (to_z-of_z {w = w32} {z = c.coordinate-y.result} (search rules) ∙ c.coordinate-y.ensures) i;
 }
 
-pub point-from-spec : {M : Type 1} → statement M
-point-from-spec =
-    tie.close (tie.spec coordinate-requires add-coordinate coordinate-requires-2 returns)
+pub point_from_spec : {M : Type 1} → statement M
+point_from_spec =
+    tie.close (tie.spec coordinate-x-requires overflow_add-at coordinate-y-requires returns)

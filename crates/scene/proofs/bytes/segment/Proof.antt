@@ -3,22 +3,22 @@ use borrow.Author.Rules.{rules}
 use Rattle.scene.proofs.bytes.segment.Statement.{statement}
 use Rattle.scene.proofs.bytes.segment.Tie as tie
 
-add-point-from : tie.Need-overflow-add-point-from
-add-point-from c = search rules
+overflow_add-at : tie.Need-overflow_add-at
+overflow_add-at c = search rules
 
-point-from-requires : tie.Need-point-from-requires
-point-from-requires c κs = search rules
+point_from-left-requires : tie.Need-point_from-left-requires
+point_from-left-requires c κs = search rules
 
-add-point-from-2 : tie.Need-overflow-add-point-from-2
-add-point-from-2 c = search rules
+overflow_add-at-2 : tie.Need-overflow_add-at-2
+overflow_add-at-2 c = search rules
 
-point-from-requires-2 : tie.Need-point-from-requires-2
-point-from-requires-2 c κs = search rules
+point_from-right-requires : tie.Need-point_from-right-requires
+point_from-right-requires c κs = search rules
 
 returns : tie.Need-returns
-returns c = λ i. record { left = c.before.point-from.ensures i; right = c.point-from2.ensures i }
+returns c = λ i. record { left = c.point_from-left.ensures i; right = c.point_from-right.ensures i }
 
-pub segment-spec : {M : Type 1} → statement M
-segment-spec =
+pub segment_spec : {M : Type 1} → statement M
+segment_spec =
     tie.close
-    (tie.spec add-point-from point-from-requires add-point-from-2 point-from-requires-2 returns)
+    (tie.spec overflow_add-at point_from-left-requires overflow_add-at-2 point_from-right-requires returns)

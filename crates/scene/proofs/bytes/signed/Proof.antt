@@ -29,29 +29,29 @@ module _ (n : ℕ) (high : 2 ^ 31 ≤ n) (fits : n < 2 ^ 32) where
   unfolding signed
   is_signed = rw (as_64, le-ltb n (2 ^ 31) high)
 
-cast-result : tie.Need-overflow-cast-result
-cast-result c = search rules
+overflow_cast-result : tie.Need-overflow_cast-result
+overflow_cast-result c = search rules
 
-cast-result-2 : tie.Need-overflow-cast-result-2
-cast-result-2 c = search rules
+overflow_cast-result-else-n-lt2147483648 : tie.Need-overflow_cast-result-else-n-lt2147483648
+overflow_cast-result-else-n-lt2147483648 c = search rules
 
-sub-result : tie.Need-overflow-sub-result
-sub-result c = fits_64 c.before.args.n (search rules) (search rules)
+overflow_sub-result : tie.Need-overflow_sub-result
+overflow_sub-result c = fits_64 c.args.n (search rules) (search rules)
 
-cast-result-3 : tie.Need-overflow-cast-result-3
-cast-result-3 c = rw (to_z-of_z (fits_64 c.before.args.n (search rules) (search rules))) (fits_32 c.before.args.n (search rules) (search rules))
+overflow_cast-result-else-n-lt2147483648-2 : tie.Need-overflow_cast-result-else-n-lt2147483648-2
+overflow_cast-result-else-n-lt2147483648-2 c = rw (to_z-of_z (fits_64 c.args.n (search rules) (search rules))) (fits_32 c.args.n (search rules) (search rules))
 
-returns : tie.Need-returns
+returns-then-n-lt2147483648 : tie.Need-returns-then-n-lt2147483648
 unfolding signed
-returns c = rw (lt-ltb c.before.args.n (2 ^ 31) (search rules))
+returns-then-n-lt2147483648 c = rw (lt-ltb c.args.n (2 ^ 31) (search rules))
 
-returns-2 : tie.Need-returns-2
-returns-2 c =
-    let n = c.before.args.n in
+returns-else-n-lt2147483648 : tie.Need-returns-else-n-lt2147483648
+returns-else-n-lt2147483648 c =
+    let n = c.args.n in
     let high : 2 ^ 31 ≤ n = search rules in
     let fits : n < 2 ^ 32 = search rules in
     rw (to_z-of_z (fits_64 n high fits), to_z-of_z (fits_32 n high fits)) (is_signed n high fits)
 
-pub signed-spec : {M : Type 1} → statement M
-signed-spec =
-    tie.close (tie.spec cast-result cast-result-2 sub-result cast-result-3 returns returns-2)
+pub signed_spec : {M : Type 1} → statement M
+signed_spec =
+    tie.close (tie.spec overflow_cast-result overflow_cast-result-else-n-lt2147483648 overflow_sub-result overflow_cast-result-else-n-lt2147483648-2 returns-then-n-lt2147483648 returns-else-n-lt2147483648)

@@ -4,14 +4,14 @@ use borrow.Author.Rules.{rules}
 use Rattle.scene.proofs.order.given_first.Statement.{statement}
 use Rattle.scene.proofs.order.given_first.Tie as tie
 
-is-turned-requires : tie.Need-is-turned-requires
-is-turned-requires c κs = search rules
+is_turned-requires : tie.Need-is_turned-requires
+is_turned-requires c κs = search rules
 
-returns : tie.Need-returns
-returns c = let d = c.before in rw (sym d.before.is_turned.ensures ∙ d.if1.true)
+returns-then-is_turned : tie.Need-returns-then-is_turned
+returns-then-is_turned c = let d = c.before in rw (sym d.is_turned.ensures ∙ d.if-is_turned.true)
 
-returns-2 : tie.Need-returns-2
-returns-2 c = let d = c.before in rw (sym d.before.is_turned.ensures ∙ d.if1.false)
+returns-else-is_turned : tie.Need-returns-else-is_turned
+returns-else-is_turned c = let d = c.before in rw (sym d.is_turned.ensures ∙ d.if-is_turned.false)
 
-pub given-first-spec : {M : Type 1} → statement M
-given-first-spec = tie.close (tie.spec is-turned-requires returns returns-2)
+pub given_first_spec : {M : Type 1} → statement M
+given_first_spec = tie.close (tie.spec is_turned-requires returns-then-is_turned returns-else-is_turned)

@@ -4,31 +4,31 @@ use Rattle.scene.specs.Read.{kind_of}
 use Rattle.scene.proofs.records.kind.Statement.{statement}
 use Rattle.scene.proofs.records.kind.Tie as tie
 
-returns : tie.Need-returns
+returns-in-84 : tie.Need-returns-in-84
 unfolding kind_of
-returns c = rw c.match.keys1
+returns-in-84 c = rw c.in-84.is
 
-returns-2 : tie.Need-returns-2
+returns-in-80 : tie.Need-returns-in-80
 unfolding kind_of
-returns-2 c = rw c.match.keys2
+returns-in-80 c = rw c.in-80.is
 
-returns-3 : tie.Need-returns-3
+returns-in-76 : tie.Need-returns-in-76
 unfolding kind_of
-returns-3 c = rw c.match.keys3
+returns-in-76 c = rw c.in-76.is
 
-returns-4 : tie.Need-returns-4
+returns-in-82 : tie.Need-returns-in-82
 unfolding kind_of
-returns-4 c = rw c.match.keys4
+returns-in-82 c = rw c.in-82.is
 
-returns-5 : tie.Need-returns-5
+returns-in-69 : tie.Need-returns-in-69
 unfolding kind_of
-returns-5 c = rw c.match.keys5
+returns-in-69 c = rw c.in-69.is
 
-returns-6 : tie.Need-returns-6
+returns-in_default : tie.Need-returns-in_default
 unfolding kind_of
-returns-6 c =
-    let b = c.before.args.b in
-    let not = c.match.rest in
+returns-in_default c =
+    let b = c.args.b in
+    let not = c.in-84.rest in
     rw (
       ne_eqb b 84 not.0.0.0.0.1,
       ne_eqb b 80 not.0.0.0.1,
@@ -37,5 +37,5 @@ returns-6 c =
       ne_eqb b 69 not.1,
     )
 
-pub kind-spec : {M : Type 1} → statement M
-kind-spec = tie.close (tie.spec returns returns-2 returns-3 returns-4 returns-5 returns-6)
+pub kind_spec : {M : Type 1} → statement M
+kind_spec = tie.close (tie.spec returns-in-84 returns-in-80 returns-in-76 returns-in-82 returns-in-69 returns-in_default)

@@ -6,20 +6,20 @@ use borrow.Author.Rules.{rules}
 use Rattle.scene.proofs.records.place.Statement.{statement}
 use Rattle.scene.proofs.records.place.Tie as tie
 
-add-result : tie.Need-overflow-add-result
-add-result c = search rules
+overflow_add-result : tie.Need-overflow_add-result
+overflow_add-result c = search rules
 
 size-requires : tie.Need-size-requires
 size-requires c κs = search rules
 
-mul-result : tie.Need-overflow-mul-result
-mul-result c = rw c.size.ensures (record { fits = omega arith })
+overflow_mul-result : tie.Need-overflow_mul-result
+overflow_mul-result c = rw c.size.ensures (record { fits = omega arith })
 
-add-result-2 : tie.Need-overflow-add-result-2
-add-result-2 c = rw c.size.ensures (record { fits = omega arith })
+overflow_add-result-2 : tie.Need-overflow_add-result-2
+overflow_add-result-2 c = rw c.size.ensures (record { fits = omega arith })
 
 returns : tie.Need-returns
-returns c = ap (λ (n : ℕ). c.before.before.args.l.start + 2 + c.before.before.args.i * n) c.size.ensures
+returns c = ap (λ (n : ℕ). c.args.l.start + 2 + c.args.i * n) c.size.ensures
 
-pub place-spec : {M : Type 1} → statement M
-place-spec = tie.close (tie.spec add-result size-requires mul-result add-result-2 returns)
+pub place_spec : {M : Type 1} → statement M
+place_spec = tie.close (tie.spec overflow_add-result size-requires overflow_mul-result overflow_add-result-2 returns)

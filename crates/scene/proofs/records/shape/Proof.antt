@@ -4,17 +4,17 @@ use Rattle.scene.specs.Read.{shape_of}
 use Rattle.scene.proofs.records.shape.Statement.{statement}
 use Rattle.scene.proofs.records.shape.Tie as tie
 
-returns : tie.Need-returns
+returns-in-1 : tie.Need-returns-in-1
 unfolding shape_of
-returns c = rw c.match.keys1
+returns-in-1 c = rw c.in-1.is
 
-returns-2 : tie.Need-returns-2
+returns-in-2 : tie.Need-returns-in-2
 unfolding shape_of
-returns-2 c = rw c.match.keys2
+returns-in-2 c = rw c.in-2.is
 
-returns-3 : tie.Need-returns-3
+returns-in_default : tie.Need-returns-in_default
 unfolding shape_of
-returns-3 c = rw (ne_eqb c.before.args.n 1 c.match.rest.0.1, ne_eqb c.before.args.n 2 c.match.rest.1)
+returns-in_default c = rw (ne_eqb c.args.n 1 c.in-1.rest.0.1, ne_eqb c.args.n 2 c.in-1.rest.1)
 
-pub shape-spec : {M : Type 1} → statement M
-shape-spec = tie.close (tie.spec returns returns-2 returns-3)
+pub shape_spec : {M : Type 1} → statement M
+shape_spec = tie.close (tie.spec returns-in-1 returns-in-2 returns-in_default)

@@ -3,23 +3,23 @@ use borrow.Author.Rules.{rules}
 use Rattle.scene.proofs.records.size.Statement.{statement}
 use Rattle.scene.proofs.records.size.Tie as tie
 
-enum_told : tie.Need-enum-told
-enum_told c = search rules
+enum_told-1 : tie.Need-enum_told-1
+enum_told-1 c = search rules
 
-enum-told-2 : tie.Need-enum-told-2
-enum-told-2 c = search rules
+enum_told-in-Line : tie.Need-enum_told-in-Line
+enum_told-in-Line c = search rules
 
-enum-told-3 : tie.Need-enum-told-3
-enum-told-3 c = search rules
+enum_told-in-Region : tie.Need-enum_told-in-Region
+enum_told-in-Region c = search rules
 
-returns : tie.Need-returns
-returns c = rw c.enum_told.given.1
+returns-in-Points : tie.Need-returns-in-Points
+returns-in-Points c = rw c.in-Points.is
 
-returns-2 : tie.Need-returns-2
-returns-2 c = rw c.enum-told2.given.1
+returns-in-Line : tie.Need-returns-in-Line
+returns-in-Line c = rw c.in-Line.is
 
-returns-3 : tie.Need-returns-3
-returns-3 c = rw c.enum-told3.given.1
+returns-in-Region : tie.Need-returns-in-Region
+returns-in-Region c = rw c.in-Region.is
 
-pub size-spec : {M : Type 1} → statement M
-size-spec = tie.close (tie.spec enum_told enum-told-2 enum-told-3 returns returns-2 returns-3)
+pub size_spec : {M : Type 1} → statement M
+size_spec = tie.close (tie.spec enum_told-1 enum_told-in-Line enum_told-in-Region returns-in-Points returns-in-Line returns-in-Region)
