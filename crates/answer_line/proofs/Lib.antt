@@ -4,3 +4,4 @@ pub mod Written
 pub mod Cells
 pub mod Line
 pub mod FirstBytes
+pub mod Examples

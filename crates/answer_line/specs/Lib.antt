@@ -1,3 +1,2 @@
 -- The specification of the line that answers a scene.
 pub mod Line
-pub mod Examples

@@ -10,3 +10,4 @@ pub mod Bounds
 pub mod Adding
 pub mod Walking
 pub mod Answered
+pub mod Examples

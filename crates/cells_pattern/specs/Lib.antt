@@ -2,4 +2,3 @@
 pub mod Pattern
 pub mod Related
 pub mod Asked
-pub mod Examples

@@ -1,5 +1,7 @@
 // The conditions 10 to 15 by their numbers, as tests of one element, and the earliest element at fault under each. A file for each condition:
 // order 10, partners 11, touch 12 and 15, ends 13, interior 14.
+#![tactic(auto)]
+
 ghost use Rattle.std.specs.Prelude.{◌≡◌, ◌<◌};
 ghost use Rattle.scene.specs.Read.{IsObject};
 ghost use Rattle.check_conditions.specs.Faults.{is_at_fault, fault_under};

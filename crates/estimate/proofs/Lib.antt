@@ -1,2 +1,3 @@
 -- How far the estimate lies from the side value.
 pub mod Bound
+pub mod Examples

@@ -1,3 +1,2 @@
 -- The estimate of a side value, and examples of it.
 pub mod Estimate
-pub mod Examples

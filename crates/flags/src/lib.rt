@@ -1,4 +1,6 @@
 // Flags as the bits of a number.
+#![tactic(auto)]
+
 ghost use Rattle.std.specs.Prelude.{◌≡◌, [], ◌∷◌, ◌<◌};
 ghost use Rattle.whole.specs.Count.{bit};
 ghost use Rattle.flags.specs.Flags.{pack};

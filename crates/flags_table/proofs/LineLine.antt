@@ -20,7 +20,7 @@ use Rattle.scene_keys.specs.Keyed.{element_point}
 use Rattle.flags_meetings.specs.Met.{degree, is_inner, meetings}
 use Rattle.flags_meetings.proofs.PointKinds.{Kind, none, bound, inner, kind_of, not_there}
 use Rattle.flags_classes.specs.Classed.{classes_of_f, classes_of_g}
-use Rattle.flags_table.specs.Table.{flags_of_fBy, flags_of_gBy}
+use Rattle.flags_table.specs.Table.{flags_of_f_by, flags_of_g_by}
 use Rattle.flags_table.proofs.Ends.{bound_degree, end_degree, own_degree, end_elements, on_degree}
 use Rattle.flags_table.proofs.Meeting.{at_either, bound_alone}
 use Rattle.flags_table.proofs.Classing.{unshared_some, shared_some}
@@ -73,7 +73,7 @@ module _ {s : List ℕ} {sc : Scene} (notes : List ℕ) (o : SoundScene s sc) (f
       end_elements o.f_sound has_f (λ t v. is_bound (segments s sc.f) v && is_bound (segments s sc.g) v) (λ i. is_boundary (degree s sc.f (element_point s sc.f i)) && is_boundary (degree s sc.g (element_point s sc.f i)))
       (λ i h t m e. ap₂ ◌&&◌ (bound_degree o.f_sound has_f (element_point s sc.f i)) (bound_degree o.g_sound has_g (element_point s sc.f i)))
 
-  pub line_line_f : flags_of_f (line (segments s sc.f)) (line (segments s sc.g)) ≡ flags_of_fBy Line Line (meetings s sc notes) (classes_of_f s sc notes)
+  pub line_line_f : flags_of_f (line (segments s sc.f)) (line (segments s sc.g)) ≡ flags_of_f_by Line Line (meetings s sc notes) (classes_of_f s sc notes)
   line_line_f =
       let on = on_interior o.f_sound o.g_sound has_f has_g (across o) in
       let off = disjoint o.f_sound o.g_sound has_f has_g (across o) ∙ sym (bound_alone s sc notes) in
@@ -82,7 +82,7 @@ module _ {s : List ℕ} {sc : Scene} (notes : List ℕ) (o : SoundScene s sc) (f
       λ j. sym shared j ∷ interior j ∷ sym unshared j ∷ on j ∷ both_bound j ∷ off j ∷ []
 
   -- an end of G's boundary in F's interior is the point of an element of F, too
-  pub line_line_g : flags_of_g (line (segments s sc.f)) (line (segments s sc.g)) ≡ flags_of_gBy Line Line (meetings s sc notes) (classes_of_g s sc notes)
+  pub line_line_g : flags_of_g (line (segments s sc.f)) (line (segments s sc.g)) ≡ flags_of_g_by Line Line (meetings s sc notes) (classes_of_g s sc notes)
   line_line_g =
       let unshared = unshared_some s sc.g sc.f (λ j. get_or notes (1024 + j) 0) in
       λ j. sym unshared j ∷ on j ∷ off j ∷ []

@@ -20,7 +20,7 @@ use Rattle.scene_keys.specs.Keyed.{element_point}
 use Rattle.flags_meetings.specs.Met.{degree, is_inner, meetings}
 use Rattle.flags_meetings.proofs.PointKinds.{Kind, none, bound, inner, kind_of}
 use Rattle.flags_classes.specs.Classed.{is_shared, classes_of_f, classes_of_g}
-use Rattle.flags_table.specs.Table.{flags_of_fBy, flags_of_gBy}
+use Rattle.flags_table.specs.Table.{flags_of_f_by, flags_of_g_by}
 use Rattle.flags_table.proofs.Ends.{bound_degree, own_degree, end_elements, on_degree, joins_degree}
 use Rattle.flags_table.proofs.Noting.{knows_f, middle_inside, middle_outside, end_one, end_not_nought}
 use Rattle.flags_table.proofs.Meeting.{bound_meets, inner_meets}
@@ -120,11 +120,11 @@ module _ {s : List ℕ} {sc : Scene} {notes : List ℕ} (o : SoundScene s sc) (n
       go false bound y = refl
       go false inner y = refl
 
-  pub line_region_f : flags_of_f (line F) (region (edges s sc.g)) ≡ flags_of_fBy Line Region (meetings s sc notes) (classes_of_f s sc notes)
+  pub line_region_f : flags_of_f (line F) (region (edges s sc.g)) ≡ flags_of_f_by Line Region (meetings s sc notes) (classes_of_f s sc notes)
   line_region_f =
       ap (λ l. seg_inside F l ∷ seg_shared F l ∷ seg_outside F l ∷ poi_joins F l ∷ bound_inside_test F l ∷ bound_joins F l ∷ bound_outside_test F l ∷ []) (outline_edges s sc.g)
       ∙ (λ j. seg_inside_lem j ∷ sym (shared_some s sc.f sc.g note) j ∷ seg_outside_lem j ∷ poi_joins_lem j ∷ bound_inside_lem j ∷ bound_joins_lem j ∷ bound_outside_lem j ∷ [])
 
-  pub line_region_g : flags_of_g (line F) (region (edges s sc.g)) ≡ flags_of_gBy Line Region (meetings s sc notes) (classes_of_g s sc notes)
+  pub line_region_g : flags_of_g (line F) (region (edges s sc.g)) ≡ flags_of_g_by Line Region (meetings s sc notes) (classes_of_g s sc notes)
   line_region_g =
       ap (λ l. seg_unshared l F ∷ []) (outline_edges s sc.g) ∙ (λ j. sym (unshared_some s sc.g sc.f (λ j. get_or notes (1024 + j) 0)) j ∷ [])

@@ -19,7 +19,7 @@ use Rattle.scene_keys.specs.Keyed.{element_point}
 use Rattle.flags_meetings.specs.Met.{degree, meetings}
 use Rattle.flags_meetings.proofs.PointKinds.{Kind, none, bound, inner, kind_of}
 use Rattle.flags_classes.specs.Classed.{classes_of_f, classes_of_g}
-use Rattle.flags_table.specs.Table.{flags_of_fBy, flags_of_gBy}
+use Rattle.flags_table.specs.Table.{flags_of_f_by, flags_of_g_by}
 use Rattle.flags_table.proofs.Degrees.{point_absent, own_point, some_points}
 use Rattle.flags_table.proofs.Ends.{bound_degree, end_elements}
 use Rattle.flags_table.proofs.Noting.{point_on}
@@ -79,10 +79,10 @@ module _ {s : List ℕ} {sc : Scene} {notes : List ℕ} (o : SoundScene s sc) (n
   on_bound =
       some_points o.f_sound f (is_bound G) _ (λ i h. ap₂ ◌&&◌ (sym (single i h)) (bound_is (p i)))
 
-  pub points_line_f : flags_of_f (points (points_of s sc.f)) (line G) ≡ flags_of_fBy Points Line (meetings s sc notes) (classes_of_f s sc notes)
+  pub points_line_f : flags_of_f (points (points_of s sc.f)) (line G) ≡ flags_of_f_by Points Line (meetings s sc notes) (classes_of_f s sc notes)
   points_line_f = λ j. off j ∷ on_interior j ∷ on_bound j ∷ []
 
-  pub points_line_g : flags_of_g (points (points_of s sc.f)) (line G) ≡ flags_of_gBy Points Line (meetings s sc notes) (classes_of_g s sc notes)
+  pub points_line_g : flags_of_g (points (points_of s sc.f)) (line G) ≡ flags_of_g_by Points Line (meetings s sc notes) (classes_of_g s sc notes)
   points_line_g = λ j. bare j ∷ []
     where
       bare : bound_poi_disjoint (points_of s sc.f) G ≡ (meetings s sc notes).bound_of_g

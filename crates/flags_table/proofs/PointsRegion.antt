@@ -20,7 +20,7 @@ use Rattle.scene_keys.specs.Keyed.{element_point}
 use Rattle.flags_meetings.specs.Met.{degree, meetings}
 use Rattle.flags_meetings.proofs.PointKinds.{Kind, none, bound, inner, kind_of, not_there}
 use Rattle.flags_classes.specs.Classed.{classes_of_f}
-use Rattle.flags_table.specs.Table.{flags_of_fBy}
+use Rattle.flags_table.specs.Table.{flags_of_f_by}
 use Rattle.flags_table.proofs.Degrees.{own_point, some_points}
 use Rattle.flags_table.proofs.Noting.{point_on, point_inside}
 use Rattle.flags_table.proofs.Sizes.{Size, nought, one, more, size_of}
@@ -75,7 +75,7 @@ module _ {s : List ℕ} {sc : Scene} {notes : List ℕ} (o : SoundScene s sc) (n
       go bound n = refl
       go inner n = refl
 
-  pub points_region_f : flags_of_f (points (points_of s sc.f)) (region (edges s sc.g)) ≡ flags_of_fBy Points Region (meetings s sc notes) (classes_of_f s sc notes)
+  pub points_region_f : flags_of_f (points (points_of s sc.f)) (region (edges s sc.g)) ≡ flags_of_f_by Points Region (meetings s sc notes) (classes_of_f s sc notes)
   points_region_f =
       ap (λ l. poi_inside (points_of s sc.f) l ∷ poi_on_outline (points_of s sc.f) l ∷ poi_outside (points_of s sc.f) l ∷ []) (outline_edges s sc.g)
       ∙ (λ j. within j ∷ on_it j ∷ outer j ∷ [])

@@ -14,7 +14,7 @@ use Rattle.flags.specs.Flags.{pack, has_bit}
 use Rattle.flags.proofs.Bits.{no_bit, pack_bit, and_bit, same_number}
 use Rattle.flags_meetings.specs.declared.Meetings.{Meetings}
 use Rattle.flags_classes.specs.declared.Classes.{Classes}
-use Rattle.flags_table.specs.Table.{flags_of_fBy, flags_of_gBy}
+use Rattle.flags_table.specs.Table.{flags_of_f_by, flags_of_g_by}
 use Rattle.flags_table.specs.Walks.{off_classes_f, off_classes_g, wants_some, wants_other}
 
 -- ---- one flag
@@ -30,7 +30,7 @@ ReadOff flags these k =
     → ((get_or these k false ≡ true) × (get_or (flags m c) k false ≡ get_or (flags n c) k false))
     ⊎ ((get_or these k false ≡ false) × (get_or (flags m c) k false ≡ get_or (flags m d) k false))
 
-read_off_f : (f g : Shape) (k : ℕ) → ReadOff (flags_of_fBy f g) (off_classes_f f g) k
+read_off_f : (f g : Shape) (k : ℕ) → ReadOff (flags_of_f_by f g) (off_classes_f f g) k
 read_off_f Points Points k m n c d = inr (refl, refl)
 read_off_f Points Line k m n c d = inr (refl, refl)
 read_off_f Points Region k m n c d = inr (refl, refl)
@@ -54,7 +54,7 @@ read_off_f Region Region (suc (suc (suc (suc (suc zero))))) m n c d = inl (refl,
 read_off_f Region Region (suc (suc (suc (suc (suc (suc zero)))))) m n c d = inl (refl, refl)
 read_off_f Region Region (suc (suc (suc (suc (suc (suc (suc k))))))) m n c d = inr (refl, refl)
 
-read_off_g : (f g : Shape) (k : ℕ) → ReadOff (flags_of_gBy f g) (off_classes_g f g) k
+read_off_g : (f g : Shape) (k : ℕ) → ReadOff (flags_of_g_by f g) (off_classes_g f g) k
 read_off_g Points Points k m n c d = inr (refl, refl)
 read_off_g Points Line k m n c d = inr (refl, refl)
 read_off_g Points Region k m n c d = inr (refl, refl)
@@ -115,9 +115,9 @@ module _ (flags : Flags) (these : List Bool) (read_off : (k : ℕ) → ReadOff f
 
 module _ (f g : Shape) (want : ℕ) {m n : Meetings} {c d : Classes} where
   pub wanted_of_f : (wants_other (off_classes_f f g) want ≡ true → n ≡ m) → (wants_some (off_classes_f f g) want ≡ true → d ≡ c)
-      → bit_and (pack (flags_of_fBy f g n d)) want ≡ bit_and (pack (flags_of_fBy f g m c)) want
-  wanted_of_f = same_wanted (flags_of_fBy f g) (off_classes_f f g) (read_off_f f g) want
+      → bit_and (pack (flags_of_f_by f g n d)) want ≡ bit_and (pack (flags_of_f_by f g m c)) want
+  wanted_of_f = same_wanted (flags_of_f_by f g) (off_classes_f f g) (read_off_f f g) want
 
   pub wanted_of_g : (wants_other (off_classes_g f g) want ≡ true → n ≡ m) → (wants_some (off_classes_g f g) want ≡ true → d ≡ c)
-      → bit_and (pack (flags_of_gBy f g n d)) want ≡ bit_and (pack (flags_of_gBy f g m c)) want
-  wanted_of_g = same_wanted (flags_of_gBy f g) (off_classes_g f g) (read_off_g f g) want
+      → bit_and (pack (flags_of_g_by f g n d)) want ≡ bit_and (pack (flags_of_g_by f g m c)) want
+  wanted_of_g = same_wanted (flags_of_g_by f g) (off_classes_g f g) (read_off_g f g) want

@@ -21,7 +21,7 @@ use Rattle.cells_matrix.proofs.Common.{across_swap}
 use Rattle.scene_keys.specs.Keyed.{element_point}
 use Rattle.flags_meetings.specs.Met.{degree, meetings}
 use Rattle.flags_classes.specs.Classed.{is_shared, some_left, classes_of_f, classes_of_g}
-use Rattle.flags_table.specs.Table.{flags_of_fBy, flags_of_gBy}
+use Rattle.flags_table.specs.Table.{flags_of_f_by, flags_of_g_by}
 use Rattle.flags_table.proofs.Ends.{own_degree, end_elements, joins_degree}
 use Rattle.flags_table.proofs.Noting.{Knows, knows_f, knows_g, middle_on, middle_inside, middle_outside}
 use Rattle.flags_table.proofs.Meeting.{meets}
@@ -92,13 +92,13 @@ module _ {s : List ℕ} {sc : Scene} {notes : List ℕ} (o : SoundScene s sc) (n
       (λ i h t m e. joins_degree o.g_sound is_g (element_point s sc.f i) t ∙ sym (ap (λ b. b && ltb 0 (degree s sc.g (element_point s sc.f i))) (own_degree o.f_sound has_f (element_point s sc.f i) t m e)))
       ∙ sym (meets s sc notes)
 
-  pub region_region_f : flags_of_f (region F) (region G) ≡ flags_of_fBy Region Region (meetings s sc notes) (classes_of_f s sc notes)
+  pub region_region_f : flags_of_f (region F) (region G) ≡ flags_of_f_by Region Region (meetings s sc notes) (classes_of_f s sc notes)
   region_region_f =
       let outer = outside_on o.f_sound o.g_sound has_f is_g (across o) (knows_f n has_f) in
       let inner = inside_on o.f_sound o.g_sound has_f is_g (across o) (knows_f n has_f) in
       λ j. outer (λ b. b) j ∷ outer not j ∷ inner (λ b. b) j ∷ inner not j ∷ above j ∷ below j ∷ either_side j ∷ common_end j ∷ []
 
-  pub region_region_g : flags_of_g (region F) (region G) ≡ flags_of_gBy Region Region (meetings s sc notes) (classes_of_g s sc notes)
+  pub region_region_g : flags_of_g (region F) (region G) ≡ flags_of_g_by Region Region (meetings s sc notes) (classes_of_g s sc notes)
   region_region_g =
       let outer = outside_on o.g_sound o.f_sound has_g is_f (across_swap (across o)) (knows_g n has_g) in
       let inner = inside_on o.g_sound o.f_sound has_g is_f (across_swap (across o)) (knows_g n has_g) in

@@ -17,23 +17,23 @@ shared c = c.both_above || c.both_below || c.opposite
 abbrev pub unshared : Classes → Bool
 unshared c = c.above_outside || c.below_outside || c.above_inside || c.below_inside
 
-abbrev pub flags_of_fBy : Shape → Shape → Meetings → Classes → List Bool
-flags_of_fBy Points Points m c =
+abbrev pub flags_of_f_by : Shape → Shape → Meetings → Classes → List Bool
+flags_of_f_by Points Points m c =
     alone m  -- poi_disjoint
     ∷ m.bound_bound  -- poi_shared
     ∷ []
-flags_of_fBy Points Line m c =
+flags_of_f_by Points Line m c =
     (m.bound_outside || m.bound_inside)  -- poi_disjoint
     ∷ (m.bound_on || m.bound_inner)  -- poi_on_interior
     ∷ m.bound_bound  -- poi_on_bound
     ∷ []
-flags_of_fBy Points Region m c =
+flags_of_f_by Points Region m c =
     m.bound_inside  -- poi_inside
     ∷ (m.bound_on || m.bound_bound || m.bound_inner)  -- poi_on_bound
     ∷ m.bound_outside  -- poi_outside
     ∷ []
-flags_of_fBy Line Points m c = []
-flags_of_fBy Line Line m c =
+flags_of_f_by Line Points m c = []
+flags_of_f_by Line Line m c =
     shared c  -- seg_shared
     ∷ m.inner_inner  -- interior_poi_shared
     ∷ unshared c  -- seg_unshared
@@ -41,7 +41,7 @@ flags_of_fBy Line Line m c =
     ∷ m.bound_bound  -- bound_shared
     ∷ alone m  -- bound_disjoint
     ∷ []
-flags_of_fBy Line Region m c =
+flags_of_f_by Line Region m c =
     (c.above_inside || c.below_inside)  -- seg_inside
     ∷ shared c  -- seg_shared
     ∷ (c.above_outside || c.below_outside)  -- seg_outside
@@ -50,9 +50,9 @@ flags_of_fBy Line Region m c =
     ∷ (m.bound_bound || m.bound_inner)  -- bound_shared
     ∷ m.bound_outside  -- bound_disjoint
     ∷ []
-flags_of_fBy Region Points m c = []
-flags_of_fBy Region Line m c = []
-flags_of_fBy Region Region m c =
+flags_of_f_by Region Points m c = []
+flags_of_f_by Region Line m c = []
+flags_of_f_by Region Region m c =
     c.above_outside  -- (0/1)
     ∷ c.below_outside  -- (1/0)
     ∷ c.above_inside  -- (1/2)
@@ -63,26 +63,26 @@ flags_of_fBy Region Region m c =
     ∷ (m.bound_bound || m.bound_inner || m.inner_bound || m.inner_inner)  -- bound_poi_shared
     ∷ []
 
-abbrev pub flags_of_gBy : Shape → Shape → Meetings → Classes → List Bool
-flags_of_gBy Points Points m c =
+abbrev pub flags_of_g_by : Shape → Shape → Meetings → Classes → List Bool
+flags_of_g_by Points Points m c =
     m.bound_of_g  -- poi_disjoint
     ∷ []
-flags_of_gBy Points Line m c =
+flags_of_g_by Points Line m c =
     m.bound_of_g  -- bound_poi_disjoint
     ∷ []
-flags_of_gBy Points Region m c = []
-flags_of_gBy Line Points m c = []
-flags_of_gBy Line Line m c =
+flags_of_g_by Points Region m c = []
+flags_of_g_by Line Points m c = []
+flags_of_g_by Line Line m c =
     unshared c  -- seg_unshared
     ∷ m.inner_bound  -- bound_on_interior
     ∷ m.bound_of_g  -- bound_disjoint
     ∷ []
-flags_of_gBy Line Region m c =
+flags_of_g_by Line Region m c =
     unshared c  -- seg_unshared
     ∷ []
-flags_of_gBy Region Points m c = []
-flags_of_gBy Region Line m c = []
-flags_of_gBy Region Region m c =
+flags_of_g_by Region Points m c = []
+flags_of_g_by Region Line m c = []
+flags_of_g_by Region Region m c =
     c.above_outside  -- (0/1)
     ∷ c.below_outside  -- (1/0)
     ∷ c.above_inside  -- (1/2)

@@ -3,7 +3,7 @@ ghost use Rattle.std.specs.Prelude.{◌≡◌};
 ghost use Rattle.flags_meetings.specs.declared.Meetings.{Meetings};
 ghost use Rattle.flags_classes.specs.declared.Classes.{Classes};
 ghost use Rattle.flags.specs.Flags.{pack};
-ghost use Rattle.flags_table.specs.Table.{alone, shared, unshared, flags_of_fBy, flags_of_gBy};
+ghost use Rattle.flags_table.specs.Table.{alone, shared, unshared, flags_of_f_by, flags_of_g_by};
 
 use flags_classes::Classes;
 use flags_meetings::Meetings;
@@ -35,7 +35,7 @@ fn unshared(c: Classes) -> bool
 // ---- the flags of F, for each pair of types
 
 fn points_points_f(m: Meetings) -> u16
-    ensures { (c : Classes) → result ≡ pack (flags_of_fBy Shape.Points Shape.Points m c) }
+    ensures { (c : Classes) → result ≡ pack (flags_of_f_by Shape.Points Shape.Points m c) }
 {
     flags::packed_four(
         alone(m), // poi_disjoint
@@ -46,7 +46,7 @@ fn points_points_f(m: Meetings) -> u16
 }
 
 fn points_line_f(m: Meetings) -> u16
-    ensures { (c : Classes) → result ≡ pack (flags_of_fBy Shape.Points Shape.Line m c) }
+    ensures { (c : Classes) → result ≡ pack (flags_of_f_by Shape.Points Shape.Line m c) }
 {
     flags::packed_four(
         m.bound_outside | m.bound_inside, // poi_disjoint
@@ -57,7 +57,7 @@ fn points_line_f(m: Meetings) -> u16
 }
 
 fn points_region_f(m: Meetings) -> u16
-    ensures { (c : Classes) → result ≡ pack (flags_of_fBy Shape.Points Shape.Region m c) }
+    ensures { (c : Classes) → result ≡ pack (flags_of_f_by Shape.Points Shape.Region m c) }
 {
     flags::packed_four(
         m.bound_inside, // poi_inside
@@ -68,7 +68,7 @@ fn points_region_f(m: Meetings) -> u16
 }
 
 fn line_line_f(m: Meetings, c: Classes) -> u16
-    ensures { result ≡ pack (flags_of_fBy Shape.Line Shape.Line m c) }
+    ensures { result ≡ pack (flags_of_f_by Shape.Line Shape.Line m c) }
 {
     flags::packed_eight(
         shared(c), // seg_shared
@@ -83,7 +83,7 @@ fn line_line_f(m: Meetings, c: Classes) -> u16
 }
 
 fn line_region_f(m: Meetings, c: Classes) -> u16
-    ensures { result ≡ pack (flags_of_fBy Shape.Line Shape.Region m c) }
+    ensures { result ≡ pack (flags_of_f_by Shape.Line Shape.Region m c) }
 {
     flags::packed_eight(
         c.above_inside | c.below_inside, // seg_inside
@@ -98,7 +98,7 @@ fn line_region_f(m: Meetings, c: Classes) -> u16
 }
 
 fn region_region_f(m: Meetings, c: Classes) -> u16
-    ensures { result ≡ pack (flags_of_fBy Shape.Region Shape.Region m c) }
+    ensures { result ≡ pack (flags_of_f_by Shape.Region Shape.Region m c) }
 {
     flags::packed_eight(
         c.above_outside, // (0/1)
@@ -115,7 +115,7 @@ fn region_region_f(m: Meetings, c: Classes) -> u16
 // ---- the flags of G
 
 fn points_points_g(m: Meetings) -> u16
-    ensures { (c : Classes) → result ≡ pack (flags_of_gBy Shape.Points Shape.Points m c) }
+    ensures { (c : Classes) → result ≡ pack (flags_of_g_by Shape.Points Shape.Points m c) }
 {
     flags::packed_four(
         m.bound_of_g, // poi_disjoint
@@ -126,7 +126,7 @@ fn points_points_g(m: Meetings) -> u16
 }
 
 fn points_line_g(m: Meetings) -> u16
-    ensures { (c : Classes) → result ≡ pack (flags_of_gBy Shape.Points Shape.Line m c) }
+    ensures { (c : Classes) → result ≡ pack (flags_of_g_by Shape.Points Shape.Line m c) }
 {
     flags::packed_four(
         m.bound_of_g, // bound_poi_disjoint
@@ -137,7 +137,7 @@ fn points_line_g(m: Meetings) -> u16
 }
 
 fn line_line_g(m: Meetings, c: Classes) -> u16
-    ensures { result ≡ pack (flags_of_gBy Shape.Line Shape.Line m c) }
+    ensures { result ≡ pack (flags_of_g_by Shape.Line Shape.Line m c) }
 {
     flags::packed_four(
         unshared(c), // seg_unshared
@@ -148,7 +148,7 @@ fn line_line_g(m: Meetings, c: Classes) -> u16
 }
 
 fn line_region_g(c: Classes) -> u16
-    ensures { (m : Meetings) → result ≡ pack (flags_of_gBy Shape.Line Shape.Region m c) }
+    ensures { (m : Meetings) → result ≡ pack (flags_of_g_by Shape.Line Shape.Region m c) }
 {
     flags::packed_four(
         unshared(c), // seg_unshared
@@ -159,7 +159,7 @@ fn line_region_g(c: Classes) -> u16
 }
 
 fn region_region_g(c: Classes) -> u16
-    ensures { (m : Meetings) → result ≡ pack (flags_of_gBy Shape.Region Shape.Region m c) }
+    ensures { (m : Meetings) → result ≡ pack (flags_of_g_by Shape.Region Shape.Region m c) }
 {
     flags::packed_four(
         c.above_outside, // (0/1)
@@ -173,7 +173,7 @@ fn region_region_g(c: Classes) -> u16
 
 // The vector of F with every flag, by the meetings of both objects and the classes of F. A pair with F's type above G's has no flags.
 pub fn flags_of_f(f: Shape, g: Shape, m: Meetings, c: Classes) -> u16
-    ensures { result ≡ pack (flags_of_fBy f g m c) }
+    ensures { result ≡ pack (flags_of_f_by f g m c) }
 {
     match f {
         Shape::Points => match g {
@@ -196,7 +196,7 @@ pub fn flags_of_f(f: Shape, g: Shape, m: Meetings, c: Classes) -> u16
 
 // The vector of G with every flag, by the meetings of both objects and the classes of G.
 pub fn flags_of_g(f: Shape, g: Shape, m: Meetings, c: Classes) -> u16
-    ensures { result ≡ pack (flags_of_gBy f g m c) }
+    ensures { result ≡ pack (flags_of_g_by f g m c) }
 {
     match f {
         Shape::Points => match g {

@@ -24,7 +24,7 @@ use Rattle.flags_meetings.specs.declared.Meetings.{Meetings}
 use Rattle.flags_meetings.specs.Met.{meetings}
 use Rattle.flags_classes.specs.declared.Classes.{Classes}
 use Rattle.flags_classes.specs.Classed.{classes_of_f, classes_of_g}
-use Rattle.flags_table.specs.Table.{flags_of_fBy, flags_of_gBy}
+use Rattle.flags_table.specs.Table.{flags_of_f_by, flags_of_g_by}
 use Rattle.flags_table.specs.Walks.{off_classes_f, off_classes_g, wants_some, wants_other, reads_meetings, reads_classes}
 use Rattle.flags_table.proofs.Theorem.{flags_of_f_lem, flags_of_g_lem}
 use Rattle.flags_table.proofs.ReadOff.{wanted_of_f, wanted_of_g}
@@ -51,14 +51,14 @@ module _ {s : List ℕ} {sc : Scene} {notes : List ℕ} (o : SoundScene s sc) (n
   abbrev G : Shape
   G = sc.g.shape
 
-  pub vector_f : only masks.f (pack (flags_of_fBy F G met of_f_lem)) ≡ (scene_vectors s sc masks).f
+  pub vector_f : only masks.f (pack (flags_of_f_by F G met of_f_lem)) ≡ (scene_vectors s sc masks).f
   unfolding vector_of_f
   vector_f =
       wanted_of_f F G masks.f (λ e. where-met (or_left (wants_other (off_classes_f F G) masks.f) (wants_other (off_classes_g F G) masks.g) (is_true _ e)))
       (λ e. (where-classed (or_left (wants_some (off_classes_f F G) masks.f) (wants_some (off_classes_g F G) masks.g) (is_true _ e))).0)
       ∙ ap (λ l. only masks.f (pack l)) (sym (flags_of_f_lem o noted))
 
-  pub vector_g : only masks.g (pack (flags_of_gBy F G met of_g_lem)) ≡ (scene_vectors s sc masks).g
+  pub vector_g : only masks.g (pack (flags_of_g_by F G met of_g_lem)) ≡ (scene_vectors s sc masks).g
   unfolding vector_of_g
   vector_g =
       wanted_of_g F G masks.g (λ e. where-met (or_right (wants_other (off_classes_f F G) masks.f) (wants_other (off_classes_g F G) masks.g) (is_true _ e)))

@@ -8,7 +8,7 @@ ghost use Rattle.flags_meetings.specs.Met.{meetings};
 ghost use Rattle.flags_classes.specs.Classed.{classes_of_f, classes_of_g};
 ghost use Rattle.flags.specs.Flags.{pack};
 ghost use Rattle.flags_masks.specs.Wanted.{only};
-ghost use Rattle.flags_table.specs.Table.{flags_of_fBy, flags_of_gBy};
+ghost use Rattle.flags_table.specs.Table.{flags_of_f_by, flags_of_g_by};
 ghost use Rattle.flags_table.specs.Walks.{reads_meetings, reads_classes};
 ghost use Rattle.flags_vectors.specs.Vectors.{scene_vectors, given_vectors, these, check_vectors, answer_of, vectors_of, vectors_values, NoFlagWrong};
 
@@ -58,7 +58,7 @@ fn wanted_classes(s: &[u8], scene: Scene, masks: FlagMasks, notes: &[u8]) -> Cla
 
 // The flags that are wanted of F, and of G: an object of which none is wanted has none looked up.
 fn wanted_of_f(f: Shape, g: Shape, m: Meetings, c: Classes, mask: u16) -> u16
-    ensures { result ≡ only mask (pack (flags_of_fBy f g m c)) }
+    ensures { result ≡ only mask (pack (flags_of_f_by f g m c)) }
 {
     if mask == 0 {
         return 0;
@@ -67,7 +67,7 @@ fn wanted_of_f(f: Shape, g: Shape, m: Meetings, c: Classes, mask: u16) -> u16
 }
 
 fn wanted_of_g(f: Shape, g: Shape, m: Meetings, c: Classes, mask: u16) -> u16
-    ensures { result ≡ only mask (pack (flags_of_gBy f g m c)) }
+    ensures { result ≡ only mask (pack (flags_of_g_by f g m c)) }
 {
     if mask == 0 {
         return 0;

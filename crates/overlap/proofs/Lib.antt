@@ -14,3 +14,4 @@ pub mod Noted
 pub mod Checked
 pub mod Filled
 pub mod Classes
+pub mod Examples

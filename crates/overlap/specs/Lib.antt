@@ -5,4 +5,3 @@ pub mod Walked
 pub mod Rules
 pub mod Overlap
 pub mod Classes
-pub mod Examples

@@ -16,3 +16,4 @@ pub mod Narrow
 pub mod Grid
 pub mod Order
 pub mod Accepted
+pub mod Examples

@@ -1,3 +1,2 @@
 -- The plane's specification.
 pub mod Plane
-pub mod Examples

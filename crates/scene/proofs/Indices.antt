@@ -39,7 +39,7 @@ module _ (f : ℕ → Bool) where
       go true e m later = ⊎_elim (λ q. (subst (λ (k : ℕ). k ∈ (j ∷ is)) (sym q) here, ap f q ∙ e)) (λ k. (there (later k).0, (later k).1)) (in_cons m)
       go false e m later = (there (later m).0, (later m).1)
 
-  pub in_keep : {is : List ℕ} {i : ℕ} → i ∈ is → f i ≡ true → i ∈ keep f is
+  pub in_keep : {i : ℕ} {is : List ℕ} → i ∈ is → f i ≡ true → i ∈ keep f is
   in_keep {i = i} (here {l = is}) e = subst (λ (b : Bool). i ∈ cond b (i ∷ keep f is) (keep f is)) (sym e) here
   in_keep {i = i} (there {b = j} {l = is} m) e = go (f j) (in_keep m e)
     where

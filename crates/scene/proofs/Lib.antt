@@ -8,3 +8,4 @@ pub mod Moved
 pub mod Prefix
 pub mod Standing
 pub mod SideBySide
+pub mod Examples

@@ -2,4 +2,3 @@
 pub mod Read
 pub mod Inner
 pub mod Conditions
-pub mod Examples

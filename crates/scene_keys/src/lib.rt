@@ -1,5 +1,7 @@
 // The points of an object's elements as numbers, their keys: those of points and the dominating points of halfsegments, in the order of points. A
 // comparison is then one test, and the end of an object needs none.
+#![tactic(auto)]
+
 ghost use Rattle.std.specs.Prelude.{◌≡◌, ◌+◌, ◌*◌, ◌≤◌, T, nat_abs, length};
 ghost use Rattle.plane.specs.Plane.{limit, in_range, dominating};
 ghost use Rattle.scene.specs.Read.{halfsegment_at, size, place, IsObject};

@@ -1,4 +1,6 @@
 // The refusals 1 to 7, found record by record.
+#![tactic(auto)]
+
 ghost use Rattle.std.specs.Prelude.{◌≡◌, ◌+◌, ◌≤◌, Bool, length};
 ghost use Rattle.scene.specs.Read.{size, record_at, starts_object, stands_in, most, elements_from, read_object, read_scene, read_alone};
 ghost use Rattle.scene.specs.Inner.{fields_at, segment_fields};

@@ -1,5 +1,7 @@
 // Searches over the segments of an object in the bytes. Each walks the records by offset, once, or until no later one can count, and reads the left
 // halfsegments.
+#![tactic(auto)]
+
 ghost use Rattle.std.specs.Prelude.{◌≡◌, ◌*◌, ◌≤◌, T};
 ghost use Rattle.whole.specs.Count.{count};
 ghost use Rattle.plane.specs.Plane.{limit, within, segment_in_range, ordered, grid, halved, midpoint, is_end, ends_at, counts_below, counts_below_left, touch};

@@ -142,7 +142,7 @@ halves_in (t ∷ l) {h} m = ⊎_elim (λ e. of e) (λ k. ⊎_elim (λ e. of e) (
     of : {d : Bool} → h ≡ half_of d t → h.segment ∈ (t ∷ l)
     of e = subst (λ (u : Segment). u ∈ (t ∷ l)) (sym (ap (λ (k : Halfsegment). k.segment) e)) here
 
-in_halves : {l : List Segment} (d : Bool) {t : Segment} → t ∈ l → half_of d t ∈ halves_of l
+in_halves : (d : Bool) {t : Segment} {l : List Segment} → t ∈ l → half_of d t ∈ halves_of l
 in_halves true here = here
 in_halves false here = there here
 in_halves d (there m) = there (there (in_halves d m))

@@ -7,3 +7,4 @@ pub mod Compared
 pub mod Arranging
 pub mod Judged
 pub mod Taken
+pub mod Examples

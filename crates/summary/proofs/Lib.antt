@@ -10,3 +10,4 @@ pub mod Found
 pub mod Theorem
 pub mod Bytes
 pub mod Near
+pub mod Examples

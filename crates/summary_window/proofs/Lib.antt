@@ -3,3 +3,4 @@ pub mod First
 pub mod Rows
 pub mod Points
 pub mod Told
+pub mod Examples

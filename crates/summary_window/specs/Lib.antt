@@ -1,3 +1,2 @@
 -- The window over summaries, and examples of it.
 pub mod Window
-pub mod Examples

@@ -56,6 +56,7 @@ module _ {A : Type 0} {R : A → A → Type 0} where
   sorted_drop (c ∷ l) a m (sorted_cons first rest) = sorted_cons (λ b k. first b (in_between l a m k)) (sorted_drop l a m rest)
 
   sorted_before : (l : List A) (a : A) (m : List A) → Sorted R (l ++ (a ∷ m)) → (b : A) → b ∈ l → R b a
+  sorted_before [] a m s b k = elim k [ ]
   sorted_before (c ∷ l) a m (sorted_cons first rest) b here = first a (at_between l a m)
   sorted_before (c ∷ l) a m (sorted_cons first rest) b (there k) = sorted_before l a m rest b k
 

@@ -1,5 +1,7 @@
 // Reads quadruples of points from standard input, eight coordinates each as a scene has them, and writes for each two letters: how the path through the first three turns, and how the path
 // through the first two turns to the midpoint of the other two, which is asked with doubled coordinates. L left, S straight, R right; and ? twice where a point is out of range.
+#![tactic(auto)]
+
 ghost use Rattle.std.specs.Prelude.{◌≡◌, ◌+◌, ◌*◌, ◌≤◌, T, length};
 ghost use Rattle.io.specs.Counts.{IsPrefixLen};
 ghost use Rattle.plane.specs.Plane.{in_range};

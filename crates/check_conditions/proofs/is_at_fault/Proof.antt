@@ -6,63 +6,63 @@ use Rattle.scene_segments.proofs.Walk.{few_elements}
 use Rattle.check_conditions.proofs.is_at_fault.Statement.{statement}
 use Rattle.check_conditions.proofs.is_at_fault.Tie as tie
 
-is-misplaced-requires : tie.Need-is-misplaced-requires
-is-misplaced-requires c κs = search rules
+is_misplaced-requires : tie.Need-is_misplaced-requires
+is_misplaced-requires c κs = search rules
 
-is-unpaired-requires : tie.Need-is-unpaired-requires
-is-unpaired-requires c κs = search rules
+is_unpaired-requires : tie.Need-is_unpaired-requires
+is_unpaired-requires c κs = search rules
 
-add-is-touching : tie.Need-overflow-add-is-touching
-add-is-touching c = let z = c.before.before in omega (arith, few_elements z.args.s.now z.args.l z.requires.0)
+overflow_add-i : tie.Need-overflow_add-i
+overflow_add-i c = let z = c.before.before in omega (arith, few_elements z.args.s.now z.args.l z.requires.0)
 
-is-touching-requires : tie.Need-is-touching-requires
-is-touching-requires c κs = let z = c.before.before in (z.requires.0, z.requires.0, omega arith, z.requires.2)
+is_touching-requires : tie.Need-is_touching-requires
+is_touching-requires c κs = let z = c.before.before in (z.requires.0, z.requires.0, omega arith, z.requires.2)
 
-ends-oddly-requires : tie.Need-ends-oddly-requires
-ends-oddly-requires c κs = search rules
+ends_oddly-requires : tie.Need-ends_oddly-requires
+ends_oddly-requires c κs = search rules
 
-has-wrong-ia-requires : tie.Need-has-wrong-ia-requires
-has-wrong-ia-requires c κs = search rules
+has_wrong_ia-requires : tie.Need-has_wrong_ia-requires
+has_wrong_ia-requires c κs = search rules
 
-is-touching-requires-2 : tie.Need-is-touching-requires-2
-is-touching-requires-2 c κs = let z = c.before.before in (z.requires.0, z.requires.1, omega arith, z.requires.2)
+is_touching-requires-in_default : tie.Need-is_touching-requires-in_default
+is_touching-requires-in_default c κs = let z = c.before.before in (z.requires.0, z.requires.1, omega arith, z.requires.2)
 
-returns : tie.Need-returns
-returns c = rw c.before.match.keys1 c.is-misplaced.ensures
+returns-in-10 : tie.Need-returns-in-10
+returns-in-10 c = rw c.in-10.is c.is_misplaced.ensures
 
-returns-2 : tie.Need-returns-2
-returns-2 c = rw c.before.match.keys2 c.is-unpaired.ensures
+returns-in-11 : tie.Need-returns-in-11
+returns-in-11 c = rw c.in-11.is c.is_unpaired.ensures
 
-returns-3 : tie.Need-returns-3
-returns-3 c = rw c.before.match.keys3 c.is-touching.ensures
+returns-in-12 : tie.Need-returns-in-12
+returns-in-12 c = rw c.in-12.is c.is_touching.ensures
 
-returns-4 : tie.Need-returns-4
-returns-4 c = rw c.before.match.keys4 c.ends-oddly.ensures
+returns-in-13 : tie.Need-returns-in-13
+returns-in-13 c = rw c.in-13.is c.ends_oddly.ensures
 
-returns-5 : tie.Need-returns-5
-returns-5 c = rw c.before.match.keys5 c.has-wrong-ia.ensures
+returns-in-14 : tie.Need-returns-in-14
+returns-in-14 c = rw c.in-14.is c.has_wrong_ia.ensures
 
-returns-6 : tie.Need-returns-6
-returns-6 c =
-    let n = c.before.before.before.args.number in
-    let none = c.before.match.rest in
+returns-in_default : tie.Need-returns-in_default
+returns-in_default c =
+    let n = c.args.number in
+    let none = c.in_default.in_default-own.rest in
     rw (ne_eqb n 10 none.0.0.0.0.1, ne_eqb n 11 none.0.0.0.1, ne_eqb n 12 none.0.0.1, ne_eqb n 13 none.0.1, ne_eqb n 14 none.1)
-    c.is-touching2.ensures
+    c.is_touching-in_default.ensures
 
-pub is-at-fault-spec : {M : Type 1} → statement M
-is-at-fault-spec =
+pub is_at_fault_spec : {M : Type 1} → statement M
+is_at_fault_spec =
     tie.close
     (tie.spec
-    is-misplaced-requires
-    is-unpaired-requires
-    add-is-touching
-    is-touching-requires
-    ends-oddly-requires
-    has-wrong-ia-requires
-    is-touching-requires-2
-    returns
-    returns-2
-    returns-3
-    returns-4
-    returns-5
-    returns-6)
+    is_misplaced-requires
+    is_unpaired-requires
+    overflow_add-i
+    is_touching-requires
+    ends_oddly-requires
+    has_wrong_ia-requires
+    is_touching-requires-in_default
+    returns-in-10
+    returns-in-11
+    returns-in-12
+    returns-in-13
+    returns-in-14
+    returns-in_default)

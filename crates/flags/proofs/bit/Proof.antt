@@ -12,11 +12,11 @@ small : (b : Bool) → bool_byte b < 2
 small true = omega arith
 small false = omega arith
 
-cast-result : tie.Need-overflow-cast-result
-cast-result c = search rules
+overflow_cast-result : tie.Need-overflow_cast-result
+overflow_cast-result c = search rules
 
 returns : tie.Need-returns
 returns c = (refl, small c.args.b)
 
-pub bit-spec : {M : Type 1} → statement M
-bit-spec = tie.close (tie.spec cast-result returns)
+pub bit_spec : {M : Type 1} → statement M
+bit_spec = tie.close (tie.spec overflow_cast-result returns)

@@ -63,7 +63,7 @@ same_is c =
 one_point_lem : (c : tie.Else-not-is_same_point) →
     let s = c.before.before.before.before in
     is_same_point (dominating s.args.h) (dominating s.args.k) ≡ true
-one_point_lem c = sym (same_is c.before) ∙ not-false c.is_same_point.result c.if-not-is_same_point.false
+one_point_lem c = sym (same_is c.before) ∙ not-false c.is_same_point.result c.if-not-is_same_point.false-raw
 
 dominating_point-p-requires : tie.Need-dominating_point-p-requires
 dominating_point-p-requires c κs = search rules
@@ -98,7 +98,7 @@ returns-then-not-is_same_point c =
     let s = d.before.before.before in
     c.is_before.ensures
     ∙ ap₂ before d.dominating_point-p.ensures d.dominating_point-q.ensures
-    ∙ other_points s.args.h s.args.k (sym (same_is d) ∙ not-true d.is_same_point.result c.if-not-is_same_point.true)
+    ∙ other_points s.args.h s.args.k (sym (same_is d) ∙ not-true d.is_same_point.result c.if-not-is_same_point.true-raw)
 
 returns-then-h-k : tie.Need-returns-then-h-k
 returns-then-h-k c =

@@ -25,14 +25,14 @@ is_left_of-requires c κs = search rules
 flag : (c : tie.Joined-left-m) →
     let d = c.before.before.before.before.before in
     let m = d.args.m in
-    c.if-left-m.if-m-right ≡ (le_z d.doubled-left.result.x m.x && lt_z m.x d.doubled-right.result.x)
+    c.if-left-m.value ≡ (le_z d.doubled-left.result.x m.x && lt_z m.x d.doubled-right.result.x)
 flag c =
     let d = c.before.before.before.before.before in
     let s = d.before.before in
     let l = doubled_held d.doubled-left.result d.doubled-left.ensures.2 in
     let r = doubled_held d.doubled-right.result d.doubled-right.ensures.2 in
     let m = doubled_held s.args.m s.requires.1 in
-    and_met (⊎_elim (λ w. inl (w.0.taken, w.5)) (λ w. inr (w.0.left, w.1)) c.if-left-m.branch)
+    and_met (⊎_elim (λ w. inl (w.if-left-m.true, w.value-is)) (λ w. inr (w.if-left-m.false, w.value-is)) c.if-left-m.branch-raw)
     ∙ ap₂ ◌&&◌ (ap₂ le_z (to_z-of_z l.x_fits) (to_z-of_z m.x_fits)) (ap₂ lt_z (to_z-of_z m.x_fits) (to_z-of_z r.x_fits))
 
 -- and the definition, by the flag
@@ -40,7 +40,7 @@ counted : (c : tie.Joined-left-m) →
     let d = c.before.before.before.before.before in
     let s = d.before.before in
     counts_below (halved s.args.m) s.args.s
-    ≡ (c.if-left-m.if-m-right && lt_z (pos 0) (side d.doubled-left.result d.doubled-right.result s.args.m))
+    ≡ (c.if-left-m.value && lt_z (pos 0) (side d.doubled-left.result d.doubled-right.result s.args.m))
 counted c =
     let d = c.before.before.before.before.before in
     let s = d.before.before in

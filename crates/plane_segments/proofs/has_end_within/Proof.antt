@@ -13,10 +13,10 @@ has_within-requires-else-has_within c κs =
     (s.requires.0, right_in_range s.args.t s.requires.1)
 
 returns-then-has_within : tie.Need-returns-then-has_within
-returns-then-has_within c = rw (sym c.has-Within.ensures, c.if-has_within.true)
+returns-then-has_within c = rw (sym c.has_within.ensures, c.if-has_within.true)
 
 returns-else-has_within : tie.Need-returns-else-has_within
-returns-else-has_within c = rw (sym c.has-Within.ensures ∙ c.if-has_within.false) c.has_within-else-has_within.ensures
+returns-else-has_within c = rw (sym c.has_within.ensures ∙ c.if-has_within.false) c.has_within-else-has_within.ensures
 
 pub has_end_within_spec : {M : Type 1} → statement M
 has_end_within_spec =

@@ -37,7 +37,7 @@ returns-then-not-is_before c =
       on-grid s.args.s s.args.p,
       sym d.turn_from.ensures ∙ d.in-Straight.is,
       sym c.is_before.ensures,
-      c.if-not-is_before.true,
+      c.if-not-is_before.true-raw,
       sym c.is_before-then-not-is_before.ensures,
     )
 
@@ -49,7 +49,7 @@ returns-else-not-is_before c =
       on-grid s.args.s s.args.p,
       sym d.turn_from.ensures ∙ d.in-Straight.is,
       sym c.is_before.ensures,
-      c.if-not-is_before.false,
+      c.if-not-is_before.false-raw,
     )
 
 returns-in-Right : tie.Need-returns-in-Right

@@ -30,13 +30,13 @@ other s t e =
 flag : (c : tie.Joined-crosses) →
     let s = c.args.s in
     let t = c.args.t in
-    c.if-crosses.if-has_end_within ≡ (cross s t || (end_within s t.left || end_within s t.right))
+    c.if-crosses.value ≡ (cross s t || (end_within s t.left || end_within s t.right))
 flag c =
     or_met
     (⊎_elim
-    (λ w. inl (sym c.crosses.ensures ∙ w.0.taken, w.1 ∙ c.crosses.ensures))
-    (λ w. inr (sym c.crosses.ensures ∙ w.0.left, w.2 ∙ w.1.ensures))
-    c.if-crosses.branch)
+    (λ w. inl (sym c.crosses.ensures ∙ w.if-crosses.true, w.value-is ∙ c.crosses.ensures))
+    (λ w. inr (sym c.crosses.ensures ∙ w.if-crosses.false, w.value-is ∙ w.has_end_within.ensures))
+    c.if-crosses.branch-raw)
 
 is_same_segment-requires : tie.Need-is_same_segment-requires
 is_same_segment-requires c κs = search rules
@@ -59,7 +59,7 @@ has_end_within-requires-else-has_end_within c κs = search rules
 touched : (c : tie.Joined-crosses) →
     let s = c.args.s in
     let t = c.args.t in
-    touch s t ≡ (c.if-crosses.if-has_end_within || (end_within t s.left || end_within t s.right))
+    touch s t ≡ (c.if-crosses.value || (end_within t s.left || end_within t s.right))
 touched c =
     let d = c.before.before in
     let s = d.args.s in

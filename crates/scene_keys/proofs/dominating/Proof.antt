@@ -27,20 +27,20 @@ chosen s at false = ap (point_from s) right
 abbrev right : tie.Start → Bool
 right c = not (eqb (byte c.args.s.now (c.args.at + 17)) 1)
 
-add-is-right : tie.Need-overflow-add-is-right
-add-is-right c = search rules
+overflow_add-is_right : tie.Need-overflow_add-is_right
+overflow_add-is_right c = search rules
 
-shared-slice-read-is-right : tie.Need-shared-slice-read-is-right
-shared-slice-read-is-right c = search rules
+bounds-s-at : tie.Need-bounds-s-at
+bounds-s-at c = search rules
 
-cast-point : tie.Need-overflow-cast-point
-cast-point c = search rules
+overflow_cast-is_right : tie.Need-overflow_cast-is_right
+overflow_cast-is_right c = search rules
 
-mul-point : tie.Need-overflow-mul-point
-mul-point c = omega (arith, byte_small (right c.before.before))
+overflow_mul-is_right : tie.Need-overflow_mul-is_right
+overflow_mul-is_right c = omega (arith, byte_small (right c.before.before))
 
-add-point : tie.Need-overflow-add-point
-add-point c = omega (arith, byte_small (right c.before.before))
+overflow_add-at : tie.Need-overflow_add-at
+overflow_add-at c = omega (arith, byte_small (right c.before.before))
 
 point-requires : tie.Need-point-requires
 point-requires c κs = omega (arith, byte_small (right c.before.before))
@@ -49,14 +49,14 @@ returns : tie.Need-returns
 unfolding dominating
 returns c = let z = c.before.before.before in c.point.ensures ∙ chosen z.args.s.now z.args.at (eqb (byte z.args.s.now (z.args.at + 17)) 1)
 
-pub dominating-spec : {M : Type 1} → statement M
-dominating-spec =
+pub dominating_spec : {M : Type 1} → statement M
+dominating_spec =
     tie.close
     (tie.spec
-    add-is-right
-    shared-slice-read-is-right
-    cast-point
-    mul-point
-    add-point
+    overflow_add-is_right
+    bounds-s-at
+    overflow_cast-is_right
+    overflow_mul-is_right
+    overflow_add-at
     point-requires
     returns)

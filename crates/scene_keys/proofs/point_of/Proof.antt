@@ -4,43 +4,43 @@ use borrow.Author.Rules.{rules}
 use Rattle.scene_keys.proofs.point_of.Statement.{statement}
 use Rattle.scene_keys.proofs.point_of.Tie as tie
 
-enum_told : tie.Need-enum-told
-enum_told c = search rules
+enum_told-1 : tie.Need-enum_told-1
+enum_told-1 c = search rules
 
 point-requires : tie.Need-point-requires
-point-requires c κs = let z = c.before.before.before in rw c.enum_told.given.1 at z.requires
+point-requires c κs = let z = c.before.before in rw c.in-Points.is at z.requires
 
-enum-told-2 : tie.Need-enum-told-2
-enum-told-2 c = search rules
+enum_told-in-Line : tie.Need-enum_told-in-Line
+enum_told-in-Line c = search rules
 
 dominating-requires : tie.Need-dominating-requires
-dominating-requires c κs = let z = c.before.before.before in rw c.enum-told2.given.1 at z.requires
+dominating-requires c κs = let z = c.before.before in rw c.in-Line.is at z.requires
 
-enum-told-3 : tie.Need-enum-told-3
-enum-told-3 c = search rules
+enum_told-in-Region : tie.Need-enum_told-in-Region
+enum_told-in-Region c = search rules
 
-dominating-requires-2 : tie.Need-dominating-requires-2
-dominating-requires-2 c κs = let z = c.before.before.before in omega (arith, rw c.enum-told3.given.1 at z.requires)
+dominating-requires-in-Region : tie.Need-dominating-requires-in-Region
+dominating-requires-in-Region c κs = let z = c.before.before in omega (arith, rw c.in-Region.is at z.requires)
 
-returns : tie.Need-returns
-returns c = rw c.before.enum_told.given.1 c.point.ensures
+returns-in-Points : tie.Need-returns-in-Points
+returns-in-Points c = rw c.in-Points.is c.point.ensures
 
-returns-2 : tie.Need-returns-2
-returns-2 c = rw c.before.enum-told2.given.1 c.dominating.ensures
+returns-in-Line : tie.Need-returns-in-Line
+returns-in-Line c = rw c.in-Line.is c.dominating.ensures
 
-returns-3 : tie.Need-returns-3
-returns-3 c = rw c.before.enum-told3.given.1 c.dominating2.ensures
+returns-in-Region : tie.Need-returns-in-Region
+returns-in-Region c = rw c.in-Region.is c.dominating-in-Region.ensures
 
-pub point-of-spec : {M : Type 1} → statement M
-point-of-spec =
+pub point_of_spec : {M : Type 1} → statement M
+point_of_spec =
     tie.close
     (tie.spec
-    enum_told
+    enum_told-1
     point-requires
-    enum-told-2
+    enum_told-in-Line
     dominating-requires
-    enum-told-3
-    dominating-requires-2
-    returns
-    returns-2
-    returns-3)
+    enum_told-in-Region
+    dominating-requires-in-Region
+    returns-in-Points
+    returns-in-Line
+    returns-in-Region)

@@ -33,20 +33,20 @@ module _ (c : tie.Start) where
   sum_is : to_z w64 (of_z w64 (wide c.args.v +ℤ pos limit)) ≡ pos (raised c.args.v)
   sum_is = to_z-of_z sum_fits ∙ ap (λ z. z +ℤ pos limit) wide_is ∙ raised_is c.args.v c.requires
 
-cast-result : tie.Need-overflow-cast-result
-cast-result c = rw (to_z-of_z c.ranges.v) (fits c)
+overflow_cast-result : tie.Need-overflow_cast-result
+overflow_cast-result c = rw (to_z-of_z c.ranges.v) (fits c)
 
-cast-result-2 : tie.Need-overflow-cast-result-2
-cast-result-2 c = search rules
+overflow_cast-result-2 : tie.Need-overflow_cast-result-2
+overflow_cast-result-2 c = search rules
 
-add-result : tie.Need-overflow-add-result
-add-result c = sum_fits c
+overflow_add-result : tie.Need-overflow_add-result
+overflow_add-result c = sum_fits c
 
-cast-result-3 : tie.Need-overflow-cast-result-3
-cast-result-3 c = subst (λ z. T (non_neg z) × Fits w64 (nat_abs z)) (sym (sum_is c)) (tt, omega (arith, raised_most c.args.v c.requires))
+overflow_cast-result-3 : tie.Need-overflow_cast-result-3
+overflow_cast-result-3 c = subst (λ z. T (non_neg z) × Fits w64 (nat_abs z)) (sym (sum_is c)) (tt, omega (arith, raised_most c.args.v c.requires))
 
 returns : tie.Need-returns
 returns c = (ap nat_abs (sum_is c), subst (λ z. nat_abs z ≤ 2 * limit) (sym (sum_is c)) (raised_most c.args.v c.requires))
 
-pub raised-spec : {M : Type 1} → statement M
-raised-spec = tie.close (tie.spec cast-result cast-result-2 add-result cast-result-3 returns)
+pub raised_spec : {M : Type 1} → statement M
+raised_spec = tie.close (tie.spec overflow_cast-result overflow_cast-result-2 overflow_add-result overflow_cast-result-3 returns)

@@ -31,23 +31,23 @@ module _ (c : tie.After-kind) where
   kind_is k e = sym c.kind.ensures ∙ e
 
   begins : entry.args.at < length bytes
-  begins = c.before.before.if1.false
+  begins = c.if-s-at.false
 
   other_kind : (k : Kind) → c.kind.result ≡ k → stands_in entry.args.k k ≡ false → answer ≡ Bad (refusal 2 entry.args.at)
   other_kind k e n = not_allowed bytes entry.args.at (stands_in entry.args.k) entry.args.full k begins (kind_is k e) n
 
 -- and once its element was found to be of the object's type
-module _ (c : tie.Else2) where
+module _ (c : tie.Else-shape_number) where
   abbrev known : tie.After-kind
-  known = c.before.before.before.before.before.before
+  known = c.before.before.before.before
 
   abbrev z : tie.Start
   z = entry known
 
   same_type : kind_at (bytes known) z.args.at ≡ Element z.args.k
   same_type =
-      kind_is known (Element c.before.before.before.before.e.given.0.0) c.before.before.before.before.e.given.1
-      ∙ ap Element (same_shape _ _ (sym c.before.before.shape-number.ensures ∙ c.if2.false ∙ c.before.shape-number2.ensures))
+      kind_is known (Element c.in-Element.e) c.in-Element.is
+      ∙ ap Element (same_shape _ _ (sym c.shape_number.ensures ∙ c.if-shape_number.false ∙ c.shape_number-in-Element.ensures))
 
   allowed : stands_in z.args.k (Element z.args.k) ≡ true
   allowed = eq-eqb (shape_number z.args.k) (shape_number z.args.k) refl
@@ -55,125 +55,123 @@ module _ (c : tie.Else2) where
 bad-requires : tie.Need-bad-requires
 bad-requires c κs = search rules
 
-returns : tie.Need-returns
-returns c =
+returns-then-s-at : tie.Need-returns-then-s-at
+returns-then-s-at c =
     let z = c.before.before.before in
-    c.bad.ensures ∙ sym (no_byte z.args.s.now z.args.at (stands_in z.args.k) z.args.full c.before.if1.true)
+    c.bad.ensures ∙ sym (no_byte z.args.s.now z.args.at (stands_in z.args.k) z.args.full c.if-s-at.true)
 
-shared-slice-read-kind : tie.Need-shared-slice-read-kind
-shared-slice-read-kind c = search rules
+bounds-s-at : tie.Need-bounds-s-at
+bounds-s-at c = search rules
 
 kind-requires : tie.Need-kind-requires
 kind-requires c κs = search rules
 
-enum-known-e : tie.Need-enum-known-e
-enum-known-e c = search rules
+enum_known-e : tie.Need-enum_known-e
+enum_known-e c = search rules
 
-shape-number-requires : tie.Need-shape-number-requires
-shape-number-requires c κs = search rules
+shape_number-requires : tie.Need-shape_number-requires
+shape_number-requires c κs = search rules
 
-shape-number-requires-2 : tie.Need-shape-number-requires-2
-shape-number-requires-2 c κs = search rules
+shape_number-requires-in-Element : tie.Need-shape_number-requires-in-Element
+shape_number-requires-in-Element c κs = search rules
 
-bad-requires-2 : tie.Need-bad-requires-2
-bad-requires-2 c κs = search rules
+bad-requires-then-shape_number : tie.Need-bad-requires-then-shape_number
+bad-requires-then-shape_number c κs = search rules
 
-returns-2 : tie.Need-returns-2
-returns-2 c =
-    let n = c.before.before.before in
-    let e = n.before.before.e.given in
-    c.bad2.ensures
-    ∙ sym (other_kind n.before.before.before.before (Element e.0.0) e.1
-    (ne_eqb _ _ (λ q. c.before.if2.true (n.shape-number.ensures ∙ q ∙ sym c.before.before.shape-number2.ensures))))
+returns-then-shape_number : tie.Need-returns-then-shape_number
+returns-then-shape_number c =
+    c.bad-then-shape_number.ensures
+    ∙ sym (other_kind c.before.before.before.before.before (Element c.in-Element.e) c.in-Element.is
+    (ne_eqb _ _ (λ q. c.if-shape_number.true (c.shape_number.ensures ∙ q ∙ sym c.shape_number-in-Element.ensures))))
 
-bad-requires-3 : tie.Need-bad-requires-3
-bad-requires-3 c κs = search rules
+bad-requires-then-full : tie.Need-bad-requires-then-full
+bad-requires-then-full c κs = search rules
 
-returns-3 : tie.Need-returns-3
-returns-3 c =
+returns-then-full : tie.Need-returns-then-full
+returns-then-full c =
     let d = c.before.before in
-    c.bad3.ensures
+    c.bad-then-full.ensures
     ∙ sym (no_room (bytes (known d)) (z d).args.at (stands_in (z d).args.k) (z d).args.full (Element (z d).args.k) (begins (known d)) (same_type d) (allowed d)
-    (ap not c.before.if3.true))
+    (ap not c.if-full.true))
 
-sub-if4 : tie.Need-overflow-sub-if4
-sub-if4 c = search rules
+overflow_sub-s : tie.Need-overflow_sub-s
+overflow_sub-s c = search rules
 
 size-requires : tie.Need-size-requires
 size-requires c κs = search rules
 
-bad-requires-4 : tie.Need-bad-requires-4
-bad-requires-4 c κs = search rules
+bad-requires-then-s-at-2 : tie.Need-bad-requires-then-s-at-2
+bad-requires-then-s-at-2 c κs = search rules
 
-returns-4 : tie.Need-returns-4
-returns-4 c =
+returns-then-s-at-2 : tie.Need-returns-then-s-at-2
+returns-then-s-at-2 c =
     let d = c.before.before.before.before in
-    c.bad4.ensures
+    c.bad-then-s-at-2.ensures
     ∙ sym (cut_body (bytes (known d)) (z d).args.at (stands_in (z d).args.k) (z d).args.full (Element (z d).args.k) (begins (known d)) (same_type d) (allowed d)
-    (ap not c.before.before.before.if3.false) (omega (arith, c.before.before.size.ensures)))
+    (ap not c.if-full.false) (omega (arith, c.size.ensures)))
 
 fields-requires : tie.Need-fields-requires
 fields-requires c κs = search rules
 
-enum_told : tie.Need-enum-told
-enum_told c = search rules
+enum_told-1 : tie.Need-enum_told-1
+enum_told-1 c = search rules
 
-enum-told-2 : tie.Need-enum-told-2
-enum-told-2 c = search rules
+enum_told-in-Start : tie.Need-enum_told-in-Start
+enum_told-in-Start c = search rules
 
-bad-requires-5 : tie.Need-bad-requires-5
-bad-requires-5 c κs = search rules
+bad-requires-in-Start : tie.Need-bad-requires-in-Start
+bad-requires-in-Start c κs = search rules
 
-enum-told-3 : tie.Need-enum-told-3
-enum-told-3 c = search rules
+enum_told-in-Unknown : tie.Need-enum_told-in-Unknown
+enum_told-in-Unknown c = search rules
 
-bad-requires-6 : tie.Need-bad-requires-6
-bad-requires-6 c κs = search rules
+bad-requires-in-Unknown : tie.Need-bad-requires-in-Unknown
+bad-requires-in-Unknown c κs = search rules
 
-returns-5 : tie.Need-returns-5
-returns-5 c =
+returns-else-s-at-2 : tie.Need-returns-else-s-at-2
+returns-else-s-at-2 c =
     let d = c.before.before.before.before in
     c.fields.ensures
     ∙ sym (whole_body (bytes (known d)) (z d).args.at (stands_in (z d).args.k) (z d).args.full (Element (z d).args.k) (begins (known d)) (same_type d) (allowed d)
-    (ap not c.before.before.before.if3.false) (omega (arith, c.before.before.size.ensures, begins (known d))))
+    (ap not c.if-full.false) (omega (arith, c.size.ensures, begins (known d))))
 
-returns-6 : tie.Need-returns-6
-returns-6 c =
-    let d = c.before.before in
-    sym (whole_body (bytes d) (entry d).args.at (stands_in (entry d).args.k) (entry d).args.full End (begins d) (kind_is d End c.enum_told.given.1) refl refl (omega (arith, begins d)))
+returns-in-End : tie.Need-returns-in-End
+returns-in-End c =
+    let d = c.before in
+    sym (whole_body (bytes d) (entry d).args.at (stands_in (entry d).args.k) (entry d).args.full End (begins d) (kind_is d End c.in-End.is) refl refl (omega (arith, begins d)))
 
-returns-7 : tie.Need-returns-7
-returns-7 c = c.bad5.ensures ∙ sym (other_kind c.before.before.before Start c.before.enum-told2.given.1 refl)
+returns-in-Start : tie.Need-returns-in-Start
+returns-in-Start c = c.bad-in-Start.ensures ∙ sym (other_kind c.before.before Start c.in-Start.is refl)
 
-returns-8 : tie.Need-returns-8
-returns-8 c = c.bad6.ensures ∙ sym (other_kind c.before.before.before Unknown c.before.enum-told3.given.1 refl)
+returns-in-Unknown : tie.Need-returns-in-Unknown
+returns-in-Unknown c = c.bad-in-Unknown.ensures ∙ sym (other_kind c.before.before Unknown c.in-Unknown.is refl)
 
-pub element-record-spec : {M : Type 1} → statement M
-element-record-spec =
+pub element_record_spec : {M : Type 1} → statement M
+element_record_spec =
     tie.close
     (tie.spec
     bad-requires
-    returns
-    shared-slice-read-kind
+    returns-then-s-at
+    bounds-s-at
     kind-requires
-    enum-known-e
-    shape-number-requires
-    shape-number-requires-2
-    bad-requires-2
-    returns-2
-    bad-requires-3
-    returns-3
-    sub-if4
+    enum_known-e
+    shape_number-requires
+    shape_number-requires-in-Element
+    bad-requires-then-shape_number
+    returns-then-shape_number
+    bad-requires-then-full
+    returns-then-full
+    overflow_sub-s
     size-requires
-    bad-requires-4
-    returns-4
+    bad-requires-then-s-at-2
+    returns-then-s-at-2
     fields-requires
-    enum_told
-    enum-told-2
-    bad-requires-5
-    enum-told-3
-    bad-requires-6
-    returns-5
-    returns-6
-    returns-7
-    returns-8)
+    enum_told-1
+    enum_told-in-Start
+    bad-requires-in-Start
+    enum_told-in-Unknown
+    bad-requires-in-Unknown
+    returns-else-s-at-2
+    returns-in-End
+    returns-in-Start
+    returns-in-Unknown)

@@ -60,61 +60,59 @@ module _ (s : List ℕ) (k : Shape) (start n : ℕ) (counted : Faultless s k (st
   taken j e = sym (passed_over n (le_refl n) ∙ ends_here s k start n counted.few j e (is_end_lem j e))
 
 -- the record after them, once it was read
-module _ (c : tie.After-element-record) where
+module _ (c : tie.After-element_record) where
   abbrev z : tie.Start
   z = c.before.before.before.before
 
   abbrev n : ℕ
-  n = c.before.before.count.result
+  n = c.count-count.result
 
   counted : Faultless z.args.s.now z.args.k (z.args.start + 2) n
-  counted = c.before.before.count.ensures
+  counted = c.count-count.ensures
 
-  next_is : (r : Record) → c.element-record.result ≡ r → record_of z.args.s.now z.args.k z.args.start n ≡ r
+  next_is : (r : Record) → c.element_record.result ≡ r → record_of z.args.s.now z.args.k z.args.start n ≡ r
   next_is r e =
-      ap (λ (at : ℕ). record_at z.args.s.now at (stands_in z.args.k) (eqb n most)) (sym c.before.place.ensures)
-      ∙ sym c.element-record.ensures
+      ap (λ (at : ℕ). record_at z.args.s.now at (stands_in z.args.k) (eqb n most)) (sym c.place.ensures)
+      ∙ sym c.element_record.ensures
       ∙ e
 
-add-count : tie.Need-overflow-add-count
-add-count c = search rules
+overflow_add-start : tie.Need-overflow_add-start
+overflow_add-start c = search rules
 
-count-requires : tie.Need-count-requires
-count-requires c κs = search rules
+count-count-requires : tie.Need-count-count-requires
+count-count-requires c κs = search rules
 
 place-requires : tie.Need-place-requires
 place-requires c κs = search rules
 
-element-record-requires : tie.Need-element-record-requires
-element-record-requires c κs = search rules
+element_record-requires : tie.Need-element_record-requires
+element_record-requires c κs = search rules
 
-enum-known-r : tie.Need-enum-known-r
-enum-known-r c = search rules
+enum_known-r : tie.Need-enum_known-r
+enum_known-r c = search rules
 
-enum_told : tie.Need-enum-told
-enum_told c = search rules
+enum_told-1 : tie.Need-enum_told-1
+enum_told-1 c = search rules
 
-returns : tie.Need-returns
-returns c =
-    let d = c.before.before.before in
-    let r = c.before.r.given in
-    refused (z d).args.s.now (z d).args.k (z d).args.start (n d) (counted d) r.0.0 (next_is d (Bad r.0.0) r.1)
+returns-in-Bad : tie.Need-returns-in-Bad
+returns-in-Bad c =
+    let d = c.before in
+    refused (z d).args.s.now (z d).args.k (z d).args.start (n d) (counted d) c.in-Bad.r (next_is d (Bad c.in-Bad.r) c.in-Bad.is)
 
-returns-2 : tie.Need-returns-2
-returns-2 c =
-    let d = c.before.before in
-    let j = c.enum_told.given in
-    taken (z d).args.s.now (z d).args.k (z d).args.start (n d) (counted d) j.0.0 (next_is d (Good j.0.0) j.1)
+returns-in-Good : tie.Need-returns-in-Good
+returns-in-Good c =
+    let d = c.before in
+    taken (z d).args.s.now (z d).args.k (z d).args.start (n d) (counted d) c.in-Good.field-0 (next_is d (Good c.in-Good.field-0) c.in-Good.is)
 
-pub elements-spec : {M : Type 1} → statement M
-elements-spec =
+pub elements_spec : {M : Type 1} → statement M
+elements_spec =
     tie.close
     (tie.spec
-    add-count
-    count-requires
+    overflow_add-start
+    count-count-requires
     place-requires
-    element-record-requires
-    enum-known-r
-    enum_told
-    returns
-    returns-2)
+    element_record-requires
+    enum_known-r
+    enum_told-1
+    returns-in-Bad
+    returns-in-Good)

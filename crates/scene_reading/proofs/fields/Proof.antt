@@ -67,149 +67,149 @@ module _ (s : List ℕ) (at : ℕ) where
       region_rest : byte s (at + 18) ≤ 1 → rest k ≡ answer k
       region_rest g = rest_there e (rw (le-leb (byte s (at + 17)) 1 h, le-leb (byte s (at + 18)) 1 g))
 
-enum_told : tie.Need-enum-told
-enum_told c = search rules
+enum_told-1 : tie.Need-enum_told-1
+enum_told-1 c = search rules
 
 point-requires : tie.Need-point-requires
 point-requires c κs =
-    let z = c.before.before.before in
-    there z.args.s.now z.args.at c.enum_told.given.1 z.requires
+    let z = c.before.before in
+    there z.args.s.now z.args.at c.in-Points.is z.requires
 
-is-in-range-requires : tie.Need-is-in-range-requires
-is-in-range-requires c κs = search rules
+is_in_range-requires : tie.Need-is_in_range-requires
+is_in_range-requires c κs = search rules
 
 bad-requires : tie.Need-bad-requires
 bad-requires c κs = search rules
 
-enum-told-2 : tie.Need-enum-told-2
-enum-told-2 c = search rules
+enum_told-in-Line : tie.Need-enum_told-in-Line
+enum_told-in-Line c = search rules
 
-add-if2 : tie.Need-overflow-add-if2
-add-if2 c = search rules
+overflow_add-at : tie.Need-overflow_add-at
+overflow_add-at c = search rules
 
-shared-slice-read-if2 : tie.Need-shared-slice-read-if2
-shared-slice-read-if2 c =
-    let z = c.before.before.before.before in
-    omega (arith, there z.args.s.now z.args.at c.before.enum-told2.given.1 z.requires)
+bounds-s-at : tie.Need-bounds-s-at
+bounds-s-at c =
+    let z = c.before.before.before in
+    omega (arith, there z.args.s.now z.args.at c.in-Line.is z.requires)
 
-bad-requires-2 : tie.Need-bad-requires-2
-bad-requires-2 c κs = search rules
+bad-requires-then-s-at-gt1 : tie.Need-bad-requires-then-s-at-gt1
+bad-requires-then-s-at-gt1 c κs = search rules
 
 segment-requires : tie.Need-segment-requires
 segment-requires c κs =
-    let z = c.before.before.before.before.before in
-    there z.args.s.now z.args.at c.before.before.enum-told2.given.1 z.requires
-
-segment-fields-requires : tie.Need-segment-fields-requires
-segment-fields-requires c κs = search rules
-
-enum-told-3 : tie.Need-enum-told-3
-enum-told-3 c = search rules
-
-add-if3 : tie.Need-overflow-add-if3
-add-if3 c = search rules
-
-shared-slice-read-if3 : tie.Need-shared-slice-read-if3
-shared-slice-read-if3 c =
     let z = c.before.before.before.before in
-    omega (arith, there z.args.s.now z.args.at c.before.enum-told3.given.1 z.requires)
+    there z.args.s.now z.args.at c.in-Line.is z.requires
 
-bad-requires-3 : tie.Need-bad-requires-3
-bad-requires-3 c κs = search rules
+segment_fields-requires : tie.Need-segment_fields-requires
+segment_fields-requires c κs = search rules
 
-returns : tie.Need-returns
-returns c =
+enum_told-in-Region : tie.Need-enum_told-in-Region
+enum_told-in-Region c = search rules
+
+overflow_add-at-in-Region : tie.Need-overflow_add-at-in-Region
+overflow_add-at-in-Region c = search rules
+
+bounds-s-at-in-Region : tie.Need-bounds-s-at-in-Region
+bounds-s-at-in-Region c =
+    let z = c.before.before.before in
+    omega (arith, there z.args.s.now z.args.at c.in-Region.is z.requires)
+
+bad-requires-then-s-at-gt1-2 : tie.Need-bad-requires-then-s-at-gt1-2
+bad-requires-then-s-at-gt1-2 c κs = search rules
+
+returns-then-s-at-gt1-2 : tie.Need-returns-then-s-at-gt1-2
+returns-then-s-at-gt1-2 c =
+    let z = c.before.before.before.before.before in
+    c.bad-then-s-at-gt1-2.ensures ∙ region_flag z.args.s.now z.args.at c.in-Region.is c.if-s-at-gt1-2.true
+
+overflow_add-at-in-Region-2 : tie.Need-overflow_add-at-in-Region-2
+overflow_add-at-in-Region-2 c = search rules
+
+bounds-s-at-in-Region-2 : tie.Need-bounds-s-at-in-Region-2
+bounds-s-at-in-Region-2 c =
+    let z = c.before.before.before.before.before in
+    omega (arith, there z.args.s.now z.args.at c.in-Region.is z.requires)
+
+bad-requires-then-s-at-gt1-3 : tie.Need-bad-requires-then-s-at-gt1-3
+bad-requires-then-s-at-gt1-3 c κs = search rules
+
+segment-requires-else-s-at-gt1-3 : tie.Need-segment-requires-else-s-at-gt1-3
+segment-requires-else-s-at-gt1-3 c κs =
     let z = c.before.before.before.before.before.before in
-    c.bad3.ensures ∙ region_flag z.args.s.now z.args.at c.before.before.before.enum-told3.given.1 c.before.if3.true
+    omega (arith, there z.args.s.now z.args.at c.in-Region.is z.requires)
 
-add-if4 : tie.Need-overflow-add-if4
-add-if4 c = search rules
+segment_fields-requires-else-s-at-gt1-3 : tie.Need-segment_fields-requires-else-s-at-gt1-3
+segment_fields-requires-else-s-at-gt1-3 c κs = search rules
 
-shared-slice-read-if4 : tie.Need-shared-slice-read-if4
-shared-slice-read-if4 c =
-    let z = c.before.before.before.before.before.before in
-    omega (arith, there z.args.s.now z.args.at c.before.before.before.enum-told3.given.1 z.requires)
-
-bad-requires-4 : tie.Need-bad-requires-4
-bad-requires-4 c κs = search rules
-
-segment-requires-2 : tie.Need-segment-requires-2
-segment-requires-2 c κs =
-    let z = c.before.before.before.before.before.before.before in
-    omega (arith, there z.args.s.now z.args.at c.before.before.before.before.enum-told3.given.1 z.requires)
-
-segment-fields-requires-2 : tie.Need-segment-fields-requires-2
-segment-fields-requires-2 c κs = search rules
-
-returns-2 : tie.Need-returns-2
-returns-2 c =
-    let z = c.before.before.before.before.before.before in
+returns-then-is_in_range : tie.Need-returns-then-is_in_range
+returns-then-is_in_range c =
+    let z = c.before.before.before.before.before in
     let point = c.before.before in
-    point_good z.args.s.now z.args.at point.before.enum_told.given.1 point.point.result point.point.ensures
-    (sym c.before.is_in_range.ensures ∙ c.if1.true)
+    point_good z.args.s.now z.args.at point.in-Points.is point.point.result point.point.ensures
+    (sym c.is_in_range.ensures ∙ c.if-is_in_range.true)
 
-returns-3 : tie.Need-returns-3
-returns-3 c =
-    let z = c.before.before.before.before.before.before.before in
+returns-else-is_in_range : tie.Need-returns-else-is_in_range
+returns-else-is_in_range c =
+    let z = c.before.before.before.before.before.before in
     let point = c.before.before.before in
     c.bad.ensures
-    ∙ point_outside z.args.s.now z.args.at point.before.enum_told.given.1 point.point.result point.point.ensures
-    (sym c.before.before.is_in_range.ensures ∙ c.before.if1.false)
+    ∙ point_outside z.args.s.now z.args.at point.in-Points.is point.point.result point.point.ensures
+    (sym c.is_in_range.ensures ∙ c.if-is_in_range.false)
 
-returns-4 : tie.Need-returns-4
-returns-4 c =
+returns-then-s-at-gt1 : tie.Need-returns-then-s-at-gt1
+returns-then-s-at-gt1 c =
+    let z = c.before.before.before.before.before in
+    c.bad-then-s-at-gt1.ensures ∙ line_flag z.args.s.now z.args.at c.in-Line.is c.if-s-at-gt1.true
+
+returns-else-s-at-gt1 : tie.Need-returns-else-s-at-gt1
+returns-else-s-at-gt1 c =
     let z = c.before.before.before.before.before.before in
-    c.bad2.ensures ∙ line_flag z.args.s.now z.args.at c.before.before.before.enum-told2.given.1 c.before.if2.true
+    c.segment_fields.ensures
+    ∙ ap (λ (t : Segment). segment_fields t z.args.at z.args.k) c.segment.ensures
+    ∙ line_rest z.args.s.now z.args.at c.in-Line.is c.if-s-at-gt1.false
 
-returns-5 : tie.Need-returns-5
-returns-5 c =
+returns-then-s-at-gt1-3 : tie.Need-returns-then-s-at-gt1-3
+returns-then-s-at-gt1-3 c =
     let z = c.before.before.before.before.before.before.before in
-    c.segment-fields.ensures
-    ∙ ap (λ (t : Segment). segment_fields t z.args.at z.args.k) c.before.segment.ensures
-    ∙ line_rest z.args.s.now z.args.at c.before.before.before.before.enum-told2.given.1 c.before.before.if2.false
+    c.bad-then-s-at-gt1-3.ensures
+    ∙ region_ia z.args.s.now z.args.at c.in-Region.is c.if-s-at-gt1-2.false
+    c.if-s-at-gt1-3.true
 
-returns-6 : tie.Need-returns-6
-returns-6 c =
+returns-else-s-at-gt1-3 : tie.Need-returns-else-s-at-gt1-3
+returns-else-s-at-gt1-3 c =
     let z = c.before.before.before.before.before.before.before.before in
-    c.bad4.ensures
-    ∙ region_ia z.args.s.now z.args.at c.before.before.before.before.before.enum-told3.given.1 c.before.before.before.if3.false
-    c.before.if4.true
+    c.segment_fields-else-s-at-gt1-3.ensures
+    ∙ ap (λ (t : Segment). segment_fields t z.args.at z.args.k) c.segment-else-s-at-gt1-3.ensures
+    ∙ region_rest z.args.s.now z.args.at c.in-Region.is
+    c.if-s-at-gt1-2.false c.if-s-at-gt1-3.false
 
-returns-7 : tie.Need-returns-7
-returns-7 c =
-    let z = c.before.before.before.before.before.before.before.before.before in
-    c.segment-fields2.ensures
-    ∙ ap (λ (t : Segment). segment_fields t z.args.at z.args.k) c.before.segment2.ensures
-    ∙ region_rest z.args.s.now z.args.at c.before.before.before.before.before.before.enum-told3.given.1
-    c.before.before.before.before.if3.false c.before.before.if4.false
-
-pub fields-spec : {M : Type 1} → statement M
-fields-spec =
+pub fields_spec : {M : Type 1} → statement M
+fields_spec =
     tie.close
     (tie.spec
-    enum_told
+    enum_told-1
     point-requires
-    is-in-range-requires
+    is_in_range-requires
     bad-requires
-    enum-told-2
-    add-if2
-    shared-slice-read-if2
-    bad-requires-2
+    enum_told-in-Line
+    overflow_add-at
+    bounds-s-at
+    bad-requires-then-s-at-gt1
     segment-requires
-    segment-fields-requires
-    enum-told-3
-    add-if3
-    shared-slice-read-if3
-    bad-requires-3
-    returns
-    add-if4
-    shared-slice-read-if4
-    bad-requires-4
-    segment-requires-2
-    segment-fields-requires-2
-    returns-2
-    returns-3
-    returns-4
-    returns-5
-    returns-6
-    returns-7)
+    segment_fields-requires
+    enum_told-in-Region
+    overflow_add-at-in-Region
+    bounds-s-at-in-Region
+    bad-requires-then-s-at-gt1-2
+    returns-then-s-at-gt1-2
+    overflow_add-at-in-Region-2
+    bounds-s-at-in-Region-2
+    bad-requires-then-s-at-gt1-3
+    segment-requires-else-s-at-gt1-3
+    segment_fields-requires-else-s-at-gt1-3
+    returns-then-is_in_range
+    returns-else-is_in_range
+    returns-then-s-at-gt1
+    returns-else-s-at-gt1
+    returns-then-s-at-gt1-3
+    returns-else-s-at-gt1-3)

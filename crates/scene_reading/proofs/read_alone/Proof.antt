@@ -30,52 +30,52 @@ module _ (s : List ℕ) where
     more_bytes h = rw (e, lt-leb (length s) (after l) h)
 
 -- the object that was read
-module _ (c : tie.After-l) where
+module _ (c : tie.In-Taken) where
   abbrev bytes : List ℕ
-  bytes = c.before.before.before.before.args.s.now
+  bytes = c.args.s.now
 
   abbrev l : Layout
-  l = c.l.given.0.0
+  l = c.in-Taken.l
 
   is_read : read_object bytes 0 ≡ CheckedObject.Taken l
-  is_read = sym c.before.before.read-object.ensures ∙ c.l.given.1
+  is_read = sym c.read_object.ensures ∙ c.in-Taken.is
 
-read-object-requires : tie.Need-read-object-requires
-read-object-requires c κs = search rules
+read_object-requires : tie.Need-read_object-requires
+read_object-requires c κs = search rules
 
-enum-known-r : tie.Need-enum-known-r
-enum-known-r c = search rules
+enum_known-r : tie.Need-enum_known-r
+enum_known-r c = search rules
 
-enum-known-l : tie.Need-enum-known-l
-enum-known-l c = search rules
+enum_known-l : tie.Need-enum_known-l
+enum_known-l c = search rules
 
-after-requires : tie.Need-after-requires
-after-requires c κs = omega (arith, (taken_object (bytes c.before) 0 (l c.before) (is_read c.before)).ends)
+after-end-requires : tie.Need-after-end-requires
+after-end-requires c κs = omega (arith, (taken_object (bytes c) 0 (l c) (is_read c)).ends)
 
-returns : tie.Need-returns
-returns c =
-    let d = c.before.before.before in
-    not_read d.before.before.args.s.now c.before.r.given.0.0 (sym d.read-object.ensures ∙ c.before.r.given.1)
+returns-in-Refused : tie.Need-returns-in-Refused
+returns-in-Refused c =
+    let d = c.before in
+    not_read d.args.s.now c.in-Refused.r (sym d.read_object.ensures ∙ c.in-Refused.is)
 
-returns-2 : tie.Need-returns-2
-returns-2 c =
-    let d = c.before.before.before in
-    all_read (bytes d) (l d) (is_read d) (omega (arith, c.before.after.ensures, c.if1.true))
+returns-then-s-end : tie.Need-returns-then-s-end
+returns-then-s-end c =
+    let d = c.before.before in
+    all_read (bytes d) (l d) (is_read d) (omega (arith, c.after-end.ensures, c.if-s-end.true))
 
-returns-3 : tie.Need-returns-3
-returns-3 c =
-    let d = c.before.before.before in
-    ap (λ (p : ℕ). CheckedObject.Refused (refusal 7 p)) c.before.after.ensures
-    ∙ more_bytes (bytes d) (l d) (is_read d) (omega (arith, c.before.after.ensures, c.if1.false))
+returns-else-s-end : tie.Need-returns-else-s-end
+returns-else-s-end c =
+    let d = c.before.before in
+    ap (λ (p : ℕ). CheckedObject.Refused (refusal 7 p)) c.after-end.ensures
+    ∙ more_bytes (bytes d) (l d) (is_read d) (omega (arith, c.after-end.ensures, c.if-s-end.false))
 
-pub read-alone-spec : {M : Type 1} → statement M
-read-alone-spec =
+pub read_alone_spec : {M : Type 1} → statement M
+read_alone_spec =
     tie.close
     (tie.spec
-    read-object-requires
-    enum-known-r
-    enum-known-l
-    after-requires
-    returns
-    returns-2
-    returns-3)
+    read_object-requires
+    enum_known-r
+    enum_known-l
+    after-end-requires
+    returns-in-Refused
+    returns-then-s-end
+    returns-else-s-end)

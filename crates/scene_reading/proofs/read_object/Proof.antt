@@ -26,27 +26,27 @@ module _ (s : List ℕ) (at : ℕ) where
   begun_with j e = rw e
 
 -- where an object begins
-module _ (c : tie.After-enum-told) where
-  begun_by : record_at c.before.before.before.before.args.s.now c.before.before.before.before.args.at starts_object false ≡ Good c.enum_told.given.0.0
-  begun_by = sym c.before.before.type-record.ensures ∙ c.enum_told.given.1
+module _ (c : tie.In-Good) where
+  begun_by : record_at c.args.s.now c.args.at starts_object false ≡ Good c.in-Good.field-0
+  begun_by = sym c.type_record.ensures ∙ c.in-Good.is
 
-  there : c.before.before.before.before.args.at + 2 ≤ length c.before.before.before.before.args.s.now
-  there = type_record c.before.before.before.before.args.s.now c.before.before.before.before.args.at c.enum_told.given.0.0 begun_by
+  there : c.args.at + 2 ≤ length c.args.s.now
+  there = type_record c.args.s.now c.args.at c.in-Good.field-0 begun_by
 
-type-record-requires : tie.Need-type-record-requires
-type-record-requires c κs = search rules
+type_record-requires : tie.Need-type_record-requires
+type_record-requires c κs = search rules
 
-enum-known-r : tie.Need-enum-known-r
-enum-known-r c = search rules
+enum_known-r : tie.Need-enum_known-r
+enum_known-r c = search rules
 
-enum_told : tie.Need-enum-told
-enum_told c = search rules
+enum_told-1 : tie.Need-enum_told-1
+enum_told-1 c = search rules
 
-add-shape : tie.Need-overflow-add-shape
-add-shape c = omega (arith, there c)
+overflow_add-at : tie.Need-overflow_add-at
+overflow_add-at c = omega (arith, there c)
 
-shared-slice-read-shape : tie.Need-shared-slice-read-shape
-shared-slice-read-shape c = omega (arith, there c.before)
+bounds-s-at : tie.Need-bounds-s-at
+bounds-s-at c = omega (arith, there c.before)
 
 shape-requires : tie.Need-shape-requires
 shape-requires c κs = search rules
@@ -54,29 +54,29 @@ shape-requires c κs = search rules
 elements-requires : tie.Need-elements-requires
 elements-requires c κs = there c.before.before
 
-returns : tie.Need-returns
-returns c =
-    let z = c.before.before.before.before.before in
-    not_begun z.args.s.now z.args.at c.before.r.given.0.0 (sym c.before.before.before.type-record.ensures ∙ c.before.r.given.1)
+returns-in-Bad : tie.Need-returns-in-Bad
+returns-in-Bad c =
+    let z = c.before.before.before in
+    not_begun z.args.s.now z.args.at c.in-Bad.r (sym c.type_record.ensures ∙ c.in-Bad.is)
 
-returns-2 : tie.Need-returns-2
-returns-2 c =
+returns-in-Good : tie.Need-returns-in-Good
+returns-in-Good c =
     let d = c.before.before.before in
-    let z = d.before.before.before.before in
+    let z = d.before.before.before in
     c.elements.ensures
-    ∙ ap (λ (k : Shape). rest z.args.s.now k z.args.at 0) c.before.shape.ensures
-    ∙ begun_with z.args.s.now z.args.at d.enum_told.given.0.0 (begun_by d)
+    ∙ ap (λ (k : Shape). rest z.args.s.now k z.args.at 0) c.shape.ensures
+    ∙ begun_with z.args.s.now z.args.at d.in-Good.field-0 (begun_by d)
 
-pub read-object-spec : {M : Type 1} → statement M
-read-object-spec =
+pub read_object_spec : {M : Type 1} → statement M
+read_object_spec =
     tie.close
     (tie.spec
-    type-record-requires
-    enum-known-r
-    enum_told
-    add-shape
-    shared-slice-read-shape
+    type_record-requires
+    enum_known-r
+    enum_told-1
+    overflow_add-at
+    bounds-s-at
     shape-requires
     elements-requires
-    returns
-    returns-2)
+    returns-in-Bad
+    returns-in-Good)

@@ -36,98 +36,98 @@ module _ (s : List ℕ) where
       more_bytes h = rw (e, q, lt-leb (length s) (after b) h)
 
 -- the first object as it was read
-module _ (c : tie.After-a) where
+module _ (c : tie.In-Taken) where
   abbrev bytes : List ℕ
-  bytes = c.before.before.before.before.args.s.now
+  bytes = c.args.s.now
 
   abbrev a : Layout
-  a = c.a.given.0.0
+  a = c.in-Taken.a
 
   a_read : read_object bytes 0 ≡ CheckedObject.Taken a
-  a_read = sym c.before.before.read-object.ensures ∙ c.a.given.1
+  a_read = sym c.read_object.ensures ∙ c.in-Taken.is
 
 -- what was read where it ends
-module _ (c : tie.After-read-object2) where
-  abbrev of_a : tie.After-a
-  of_a = c.before.before.before
+module _ (c : tie.After-read_object-in-Taken) where
+  abbrev of_a : tie.In-Taken
+  of_a = c.before.before
 
-  second : (o : CheckedObject) → c.read-object2.result ≡ o → read_object (bytes of_a) (after (a of_a)) ≡ o
-  second o e = ap (λ (p : ℕ). read_object (bytes of_a) p) (sym c.before.after.ensures) ∙ sym c.read-object2.ensures ∙ e
+  second : (o : CheckedObject) → c.read_object-in-Taken.result ≡ o → read_object (bytes of_a) (after (a of_a)) ≡ o
+  second o e = ap (λ (p : ℕ). read_object (bytes of_a) p) (sym c.after.ensures) ∙ sym c.read_object-in-Taken.ensures ∙ e
 
-module _ (c : tie.After-b) where
+module _ (c : tie.In-Taken-read_object) where
   abbrev b : Layout
-  b = c.b.given.0.0
+  b = c.in-Taken-read_object.b
 
-  abbrev first : tie.After-a
-  first = of_a c.before.before
+  abbrev first : tie.In-Taken
+  first = of_a c.before
 
   b_read : read_object (bytes first) (after (a first)) ≡ CheckedObject.Taken b
-  b_read = second c.before.before (CheckedObject.Taken b) c.b.given.1
+  b_read = second c.before (CheckedObject.Taken b) c.in-Taken-read_object.is
 
-read-object-requires : tie.Need-read-object-requires
-read-object-requires c κs = search rules
+read_object-requires : tie.Need-read_object-requires
+read_object-requires c κs = search rules
 
-enum-known-r : tie.Need-enum-known-r
-enum-known-r c = search rules
+enum_known-r : tie.Need-enum_known-r
+enum_known-r c = search rules
 
-enum-known-a : tie.Need-enum-known-a
-enum-known-a c = search rules
+enum_known-a : tie.Need-enum_known-a
+enum_known-a c = search rules
 
 after-requires : tie.Need-after-requires
-after-requires c κs = omega (arith, (taken_object (bytes c.before) 0 (a c.before) (a_read c.before)).ends)
+after-requires c κs = omega (arith, (taken_object (bytes c) 0 (a c) (a_read c)).ends)
 
-read-object-requires-2 : tie.Need-read-object-requires-2
-read-object-requires-2 c κs = search rules
+read_object-requires-in-Taken : tie.Need-read_object-requires-in-Taken
+read_object-requires-in-Taken c κs = search rules
 
-enum-known-r-2 : tie.Need-enum-known-r-2
-enum-known-r-2 c = search rules
+enum_known-r-in-Refused-read_object-2 : tie.Need-enum_known-r-in-Refused-read_object-2
+enum_known-r-in-Refused-read_object-2 c = search rules
 
-enum-known-b : tie.Need-enum-known-b
-enum-known-b c = search rules
+enum_known-b : tie.Need-enum_known-b
+enum_known-b c = search rules
 
-after-requires-2 : tie.Need-after-requires-2
-after-requires-2 c κs = omega (arith, (taken_object (bytes (first c.before)) (after (a (first c.before))) (b c.before) (b_read c.before)).ends)
+after-end-requires : tie.Need-after-end-requires
+after-end-requires c κs = omega (arith, (taken_object (bytes (first c)) (after (a (first c))) (b c) (b_read c)).ends)
 
 arranged-requires : tie.Need-arranged-requires
 arranged-requires c κs = search rules
 
-returns : tie.Need-returns
-returns c =
-    let d = c.before.before.before in
-    no_first d.before.before.args.s.now c.before.r.given.0.0 (sym d.read-object.ensures ∙ c.before.r.given.1)
+returns-in-Refused : tie.Need-returns-in-Refused
+returns-in-Refused c =
+    let d = c.before in
+    no_first d.args.s.now c.in-Refused.r (sym d.read_object.ensures ∙ c.in-Refused.is)
 
-returns-2 : tie.Need-returns-2
-returns-2 c =
-    let d = c.before.before.before in
-    let r = c.before.r2.given.0.0 in
-    no_second (bytes (of_a d)) (a (of_a d)) (a_read (of_a d)) r (second d (CheckedObject.Refused r) c.before.r2.given.1)
+returns-in-Refused-read_object : tie.Need-returns-in-Refused-read_object
+returns-in-Refused-read_object c =
+    let d = c.before in
+    let r = c.in-Refused-read_object.r in
+    no_second (bytes (of_a d)) (a (of_a d)) (a_read (of_a d)) r (second d (CheckedObject.Refused r) c.in-Refused-read_object.is)
 
-returns-3 : tie.Need-returns-3
-returns-3 c =
-    let d = c.before.before.before.before in
+returns-then-s-end : tie.Need-returns-then-s-end
+returns-then-s-end c =
+    let d = c.before.before.before in
     ap CheckedScene.Taken c.arranged.ensures
-    ∙ all_read (bytes (first d)) (a (first d)) (a_read (first d)) (b d) (b_read d) (omega (arith, c.before.before.after2.ensures, c.before.if1.true))
+    ∙ all_read (bytes (first d)) (a (first d)) (a_read (first d)) (b d) (b_read d) (omega (arith, c.after-end.ensures, c.if-s-end.true))
 
-returns-4 : tie.Need-returns-4
-returns-4 c =
-    let d = c.before.before.before in
-    ap (λ (p : ℕ). CheckedScene.Refused (refusal 7 p)) c.before.after2.ensures
-    ∙ more_bytes (bytes (first d)) (a (first d)) (a_read (first d)) (b d) (b_read d) (omega (arith, c.before.after2.ensures, c.if1.false))
+returns-else-s-end : tie.Need-returns-else-s-end
+returns-else-s-end c =
+    let d = c.before.before in
+    ap (λ (p : ℕ). CheckedScene.Refused (refusal 7 p)) c.after-end.ensures
+    ∙ more_bytes (bytes (first d)) (a (first d)) (a_read (first d)) (b d) (b_read d) (omega (arith, c.after-end.ensures, c.if-s-end.false))
 
-pub read-scene-spec : {M : Type 1} → statement M
-read-scene-spec =
+pub read_scene_spec : {M : Type 1} → statement M
+read_scene_spec =
     tie.close
     (tie.spec
-    read-object-requires
-    enum-known-r
-    enum-known-a
+    read_object-requires
+    enum_known-r
+    enum_known-a
     after-requires
-    read-object-requires-2
-    enum-known-r-2
-    enum-known-b
-    after-requires-2
+    read_object-requires-in-Taken
+    enum_known-r-in-Refused-read_object-2
+    enum_known-b
+    after-end-requires
     arranged-requires
-    returns
-    returns-2
-    returns-3
-    returns-4)
+    returns-in-Refused
+    returns-in-Refused-read_object
+    returns-then-s-end
+    returns-else-s-end)

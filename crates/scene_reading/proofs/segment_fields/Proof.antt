@@ -29,64 +29,64 @@ module _ (t : Segment) (at : ℕ) (k : Shape) where
       all_good : ordered t ≡ true → Good (Element k) ≡ segment_fields t at k
       all_good e = rw (a, b, e)
 
-is-in-range-requires : tie.Need-is-in-range-requires
-is-in-range-requires c κs = search rules
+is_in_range-requires : tie.Need-is_in_range-requires
+is_in_range-requires c κs = search rules
 
 bad-requires : tie.Need-bad-requires
 bad-requires c κs = search rules
 
+returns-then-not-is_in_range : tie.Need-returns-then-not-is_in_range
+returns-then-not-is_in_range c =
+    let a = c.args in
+    c.bad.ensures ∙ left_outside a.segment a.at a.k (refuted c.is_in_range.ensures c.if-not-is_in_range.true-raw)
+
+is_in_range-requires-2 : tie.Need-is_in_range-requires-2
+is_in_range-requires-2 c κs = search rules
+
+bad-requires-then-not-is_in_range-2 : tie.Need-bad-requires-then-not-is_in_range-2
+bad-requires-then-not-is_in_range-2 c κs = search rules
+
+returns-then-not-is_in_range-2 : tie.Need-returns-then-not-is_in_range-2
+returns-then-not-is_in_range-2 c =
+    let a = c.args in
+    c.bad-then-not-is_in_range-2.ensures
+    ∙ right_outside a.segment a.at a.k (upheld c.is_in_range.ensures c.if-not-is_in_range.false-raw)
+    (refuted c.is_in_range-2.ensures c.if-not-is_in_range-2.true-raw)
+
+is_before-requires : tie.Need-is_before-requires
+is_before-requires c κs = search rules
+
+bad-requires-then-not-is_before : tie.Need-bad-requires-then-not-is_before
+bad-requires-then-not-is_before c κs = search rules
+
+returns-then-not-is_before : tie.Need-returns-then-not-is_before
+unfolding ordered
+returns-then-not-is_before c =
+    let a = c.args in
+    c.bad-then-not-is_before.ensures
+    ∙ unordered a.segment a.at a.k (upheld c.is_in_range.ensures c.if-not-is_in_range.false-raw)
+    (upheld c.is_in_range-2.ensures c.if-not-is_in_range-2.false-raw)
+    (refuted c.is_before.ensures c.if-not-is_before.true-raw)
+
 returns : tie.Need-returns
+unfolding ordered
 returns c =
-    let a = c.before.before.before.args in
-    c.bad.ensures ∙ left_outside a.segment a.at a.k (refuted c.before.before.is_in_range.ensures c.before.if1.true)
+    let a = c.args in
+    all_good a.segment a.at a.k (upheld c.is_in_range.ensures c.if-not-is_in_range.false-raw)
+    (upheld c.is_in_range-2.ensures c.if-not-is_in_range-2.false-raw)
+    (upheld c.is_before.ensures c.if-not-is_before.false-raw)
 
-is-in-range-requires-2 : tie.Need-is-in-range-requires-2
-is-in-range-requires-2 c κs = search rules
-
-bad-requires-2 : tie.Need-bad-requires-2
-bad-requires-2 c κs = search rules
-
-returns-2 : tie.Need-returns-2
-returns-2 c =
-    let a = c.before.before.before.before.before.args in
-    c.bad2.ensures
-    ∙ right_outside a.segment a.at a.k (upheld c.before.before.before.before.is_in_range.ensures c.before.before.before.if1.false)
-    (refuted c.before.before.is-in-range2.ensures c.before.if2.true)
-
-is-before-requires : tie.Need-is-before-requires
-is-before-requires c κs = search rules
-
-bad-requires-3 : tie.Need-bad-requires-3
-bad-requires-3 c κs = search rules
-
-returns-3 : tie.Need-returns-3
-unfolding ordered
-returns-3 c =
-    let a = c.before.before.before.before.before.before.before.args in
-    c.bad3.ensures
-    ∙ unordered a.segment a.at a.k (upheld c.before.before.before.before.before.before.is_in_range.ensures c.before.before.before.before.before.if1.false)
-    (upheld c.before.before.before.before.is-in-range2.ensures c.before.before.before.if2.false)
-    (refuted c.before.before.is-before.ensures c.before.if3.true)
-
-returns-4 : tie.Need-returns-4
-unfolding ordered
-returns-4 c =
-    let a = c.before.before.before.before.before.before.args in
-    all_good a.segment a.at a.k (upheld c.before.before.before.before.before.is_in_range.ensures c.before.before.before.before.if1.false)
-    (upheld c.before.before.before.is-in-range2.ensures c.before.before.if2.false)
-    (upheld c.before.is-before.ensures c.if3.false)
-
-pub segment-fields-spec : {M : Type 1} → statement M
-segment-fields-spec =
+pub segment_fields_spec : {M : Type 1} → statement M
+segment_fields_spec =
     tie.close
     (tie.spec
-    is-in-range-requires
+    is_in_range-requires
     bad-requires
-    returns
-    is-in-range-requires-2
-    bad-requires-2
-    returns-2
-    is-before-requires
-    bad-requires-3
-    returns-3
-    returns-4)
+    returns-then-not-is_in_range
+    is_in_range-requires-2
+    bad-requires-then-not-is_in_range-2
+    returns-then-not-is_in_range-2
+    is_before-requires
+    bad-requires-then-not-is_before
+    returns-then-not-is_before
+    returns)

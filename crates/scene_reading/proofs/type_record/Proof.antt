@@ -20,10 +20,10 @@ use Rattle.scene_reading.proofs.type_record.Tie as tie
 -- what is known of the record once its kind byte was read
 module _ (c : tie.After-kind) where
   abbrev at : ℕ
-  at = c.before.before.before.before.args.at
+  at = c.args.at
 
   abbrev bytes : List ℕ
-  bytes = c.before.before.before.before.args.s.now
+  bytes = c.args.s.now
 
   abbrev answer : Record
   answer = record_at bytes at starts_object false
@@ -32,7 +32,7 @@ module _ (c : tie.After-kind) where
   kind_is k e = sym c.kind.ensures ∙ e
 
   begins : at < length bytes
-  begins = c.before.before.if1.false
+  begins = c.if-s-at.false
 
   other_kind : (k : Kind) → c.kind.result ≡ k → starts_object k ≡ false → answer ≡ Bad (refusal 2 at)
   other_kind k e n = not_allowed bytes at starts_object false k begins (kind_is k e) n
@@ -57,111 +57,111 @@ module _ (c : tie.After-kind) where
 bad-requires : tie.Need-bad-requires
 bad-requires c κs = search rules
 
-returns : tie.Need-returns
-returns c =
+returns-then-s-at : tie.Need-returns-then-s-at
+returns-then-s-at c =
     let z = c.before.before.before in
-    c.bad.ensures ∙ sym (no_byte z.args.s.now z.args.at starts_object false c.before.if1.true)
+    c.bad.ensures ∙ sym (no_byte z.args.s.now z.args.at starts_object false c.if-s-at.true)
 
-shared-slice-read-kind : tie.Need-shared-slice-read-kind
-shared-slice-read-kind c = search rules
+bounds-s-at : tie.Need-bounds-s-at
+bounds-s-at c = search rules
 
 kind-requires : tie.Need-kind-requires
 kind-requires c κs = search rules
 
-enum_told : tie.Need-enum-told
-enum_told c = search rules
+enum_told-1 : tie.Need-enum_told-1
+enum_told-1 c = search rules
 
-sub-if2 : tie.Need-overflow-sub-if2
-sub-if2 c = search rules
+overflow_sub-s : tie.Need-overflow_sub-s
+overflow_sub-s c = search rules
 
-bad-requires-2 : tie.Need-bad-requires-2
-bad-requires-2 c κs = search rules
+bad-requires-then-s-at-lt2 : tie.Need-bad-requires-then-s-at-lt2
+bad-requires-then-s-at-lt2 c κs = search rules
 
-returns-2 : tie.Need-returns-2
-returns-2 c =
+returns-then-s-at-lt2 : tie.Need-returns-then-s-at-lt2
+returns-then-s-at-lt2 c =
     let d = c.before.before in
-    c.bad2.ensures ∙ sym (cut d.before.before d.enum_told.given.1 (omega (arith, begins d.before.before)))
+    c.bad-then-s-at-lt2.ensures ∙ sym (cut d.before d.in-Start.is (omega (arith, begins d.before)))
 
-add-n : tie.Need-overflow-add-n
-add-n c = search rules
+overflow_add-n : tie.Need-overflow_add-n
+overflow_add-n c = search rules
 
-shared-slice-read-n : tie.Need-shared-slice-read-n
-shared-slice-read-n c = search rules
+bounds-s-at-in-Start : tie.Need-bounds-s-at-in-Start
+bounds-s-at-in-Start c = search rules
 
-bad-requires-3 : tie.Need-bad-requires-3
-bad-requires-3 c κs = search rules
+bad-requires-then-n-lt1 : tie.Need-bad-requires-then-n-lt1
+bad-requires-then-n-lt1 c κs = search rules
 
-returns-3 : tie.Need-returns-3
-returns-3 c =
+returns-then-n-lt1 : tie.Need-returns-then-n-lt1
+returns-then-n-lt1 c =
     let d = c.before.before.before.before in
-    c.bad3.ensures ∙ sym (below d.before.before d.enum_told.given.1 (omega (arith, begins d.before.before)) c.before.if3.true)
+    c.bad-then-n-lt1.ensures ∙ sym (below d.before d.in-Start.is (omega (arith, begins d.before)) c.if-n-lt1.true)
 
-bad-requires-4 : tie.Need-bad-requires-4
-bad-requires-4 c κs = search rules
+bad-requires-then-n-gt3 : tie.Need-bad-requires-then-n-gt3
+bad-requires-then-n-gt3 c κs = search rules
 
-returns-4 : tie.Need-returns-4
-returns-4 c =
+returns-then-n-gt3 : tie.Need-returns-then-n-gt3
+returns-then-n-gt3 c =
     let d = c.before.before.before.before.before in
-    c.bad4.ensures
-    ∙ sym (above d.before.before d.enum_told.given.1 (omega (arith, begins d.before.before)) c.before.before.if3.false c.before.if4.true)
+    c.bad-then-n-gt3.ensures
+    ∙ sym (above d.before d.in-Start.is (omega (arith, begins d.before)) c.if-n-lt1.false c.if-n-gt3.true)
 
-enum-told-2 : tie.Need-enum-told-2
-enum-told-2 c = search rules
+enum_told-in-Element : tie.Need-enum_told-in-Element
+enum_told-in-Element c = search rules
 
-bad-requires-5 : tie.Need-bad-requires-5
-bad-requires-5 c κs = search rules
+bad-requires-in-Element : tie.Need-bad-requires-in-Element
+bad-requires-in-Element c κs = search rules
 
-enum-told-3 : tie.Need-enum-told-3
-enum-told-3 c = search rules
+enum_told-in-End : tie.Need-enum_told-in-End
+enum_told-in-End c = search rules
 
-bad-requires-6 : tie.Need-bad-requires-6
-bad-requires-6 c κs = search rules
+bad-requires-in-End : tie.Need-bad-requires-in-End
+bad-requires-in-End c κs = search rules
 
-enum-told-4 : tie.Need-enum-told-4
-enum-told-4 c = search rules
+enum_told-in-Unknown : tie.Need-enum_told-in-Unknown
+enum_told-in-Unknown c = search rules
 
-bad-requires-7 : tie.Need-bad-requires-7
-bad-requires-7 c κs = search rules
+bad-requires-in-Unknown : tie.Need-bad-requires-in-Unknown
+bad-requires-in-Unknown c κs = search rules
 
-returns-5 : tie.Need-returns-5
-returns-5 c =
+returns-else-n-gt3 : tie.Need-returns-else-n-gt3
+returns-else-n-gt3 c =
     let d = c.before.before.before.before in
-    sym (good d.before.before d.enum_told.given.1 (omega (arith, begins d.before.before)) c.before.if3.false c.if4.false)
+    sym (good d.before d.in-Start.is (omega (arith, begins d.before)) c.if-n-lt1.false c.if-n-gt3.false)
 
-returns-6 : tie.Need-returns-6
-returns-6 c = c.bad5.ensures ∙ sym (other_kind c.before.before.before (Element c.before.enum-told2.given.0.0) c.before.enum-told2.given.1 refl)
+returns-in-Element : tie.Need-returns-in-Element
+returns-in-Element c = c.bad-in-Element.ensures ∙ sym (other_kind c.before.before (Element c.in-Element.field-0) c.in-Element.is refl)
 
-returns-7 : tie.Need-returns-7
-returns-7 c = c.bad6.ensures ∙ sym (other_kind c.before.before.before End c.before.enum-told3.given.1 refl)
+returns-in-End : tie.Need-returns-in-End
+returns-in-End c = c.bad-in-End.ensures ∙ sym (other_kind c.before.before End c.in-End.is refl)
 
-returns-8 : tie.Need-returns-8
-returns-8 c = c.bad7.ensures ∙ sym (other_kind c.before.before.before Unknown c.before.enum-told4.given.1 refl)
+returns-in-Unknown : tie.Need-returns-in-Unknown
+returns-in-Unknown c = c.bad-in-Unknown.ensures ∙ sym (other_kind c.before.before Unknown c.in-Unknown.is refl)
 
-pub type-record-spec : {M : Type 1} → statement M
-type-record-spec =
+pub type_record_spec : {M : Type 1} → statement M
+type_record_spec =
     tie.close
     (tie.spec
     bad-requires
-    returns
-    shared-slice-read-kind
+    returns-then-s-at
+    bounds-s-at
     kind-requires
-    enum_told
-    sub-if2
-    bad-requires-2
-    returns-2
-    add-n
-    shared-slice-read-n
-    bad-requires-3
-    returns-3
-    bad-requires-4
-    returns-4
-    enum-told-2
-    bad-requires-5
-    enum-told-3
-    bad-requires-6
-    enum-told-4
-    bad-requires-7
-    returns-5
-    returns-6
-    returns-7
-    returns-8)
+    enum_told-1
+    overflow_sub-s
+    bad-requires-then-s-at-lt2
+    returns-then-s-at-lt2
+    overflow_add-n
+    bounds-s-at-in-Start
+    bad-requires-then-n-lt1
+    returns-then-n-lt1
+    bad-requires-then-n-gt3
+    returns-then-n-gt3
+    enum_told-in-Element
+    bad-requires-in-Element
+    enum_told-in-End
+    bad-requires-in-End
+    enum_told-in-Unknown
+    bad-requires-in-Unknown
+    returns-else-n-gt3
+    returns-in-Element
+    returns-in-End
+    returns-in-Unknown)

@@ -25,116 +25,116 @@ all : (s : List ℕ) (l : Layout) (t : Segment) → count_below s l t ≡ rest s
 unfolding count_below
 all s l t = ap (count_until (left_passes s l (beyond t)) (left_passes s l (is_below t))) (all_between l.count)
 
-abbrev invariant_loop : tie.invariant-loop
+abbrev invariant_loop : tie.invariant-loop-i
 invariant_loop s l t size m n₀ at₀ i₀ n at i = (at ≡ place l i) × (n ≤ i) × (i ≤ l.count) × (count_below s l t ≡ n + rest s l t i)
 
-abbrev decreases_loop : tie.decreases-loop
+abbrev decreases_loop : tie.decreases-loop-i
 decreases_loop s l t size m n₀ at₀ i₀ n at i = l.count - i
 
 -- a turn
-module _ (c : tie.Then1 invariant_loop decreases_loop) where
+module _ (c : tie.In-loop-i invariant_loop decreases_loop) where
   abbrev z : tie.Start invariant_loop decreases_loop
   z = c.before.before.before.before.before.before.before
 
   abbrev i : ℕ
-  i = c.before.before.loop.i
+  i = c.loop-i.i
 
   abbrev tests : (Segment → Bool) → ℕ → Bool
   tests = left_passes z.args.s.now z.args.l
 
-  here : Step z.args.s.now z.args.l c.before.before.loop.at i
-  here = step z.pre.0 (true_is (has_segments z.args.l.shape) z.pre.1) c.before.before.loop.invariant.0 c.if1.true
+  here : Step z.args.s.now z.args.l c.loop-i.at i
+  here = step z.requires.0 (true_is (has_segments z.args.l.shape) z.requires.1) c.loop-i.invariant.0 c.loop-i-test.true
 
 -- and once its record was tested
-stopped : (c : tie.After-is-beyond invariant_loop decreases_loop) → tests c.before (beyond (z c.before).args.t) (i c.before) ≡ c.is-beyond.result
-stopped c = (here c.before).same (beyond (z c.before).args.t) ∙ sym c.is-beyond.ensures
+stopped : (c : tie.After-is_beyond invariant_loop decreases_loop) → tests c.before (beyond (z c.before).args.t) (i c.before) ≡ c.is_beyond.result
+stopped c = (here c.before).same (beyond (z c.before).args.t) ∙ sym c.is_beyond.ensures
 
-counted : (c : tie.After-is-below-at invariant_loop decreases_loop)
+counted : (c : tie.After-is_below_at invariant_loop decreases_loop)
     → let d = c.before.before.before in
-    tests d (is_below (z d).args.t) (i d) ≡ c.is-below-at.result
-counted c = let d = c.before.before.before in (here d).same (is_below (z d).args.t) ∙ sym c.is-below-at.ensures
+    tests d (is_below (z d).args.t) (i d) ≡ c.is_below_at.result
+counted c = let d = c.before.before.before in (here d).same (is_below (z d).args.t) ∙ sym c.is_below_at.ensures
 
-size-requires : tie.Need-size-requires invariant_loop decreases_loop
-size-requires c κs = search rules
+size-size-requires : tie.Need-size-size-requires invariant_loop decreases_loop
+size-size-requires c κs = search rules
 
-doubled-midpoint-requires : tie.Need-doubled-midpoint-requires invariant_loop decreases_loop
-doubled-midpoint-requires c κs = c.before.before.requires.2
+doubled_midpoint-m-requires : tie.Need-doubled_midpoint-m-requires invariant_loop decreases_loop
+doubled_midpoint-m-requires c κs = c.requires.2
 
-add_at : tie.Need-overflow-add-at invariant_loop decreases_loop
-add_at c = let z = c.before.before.before.before in omega (arith, object_fits z.args.s.now z.args.l z.requires.0)
+overflow_add-at : tie.Need-overflow_add-at invariant_loop decreases_loop
+overflow_add-at c = let z = c.before.before.before.before in omega (arith, object_fits z.args.s.now z.args.l z.requires.0)
 
-loop-holds : tie.Need-loop-init invariant_loop decreases_loop
-loop-holds c =
-    let z = c.before.before.before.before.args in
+loop-i-init : tie.Need-loop-i-init invariant_loop decreases_loop
+loop-i-init c =
+    let z = c.args in
     (omega arith, omega arith, omega arith, omega (arith, all z.s.now z.l z.t))
 
-is-beyond-requires : tie.Need-is-beyond-requires invariant_loop decreases_loop
-is-beyond-requires c κs = (here c).readable
+is_beyond-requires : tie.Need-is_beyond-requires invariant_loop decreases_loop
+is_beyond-requires c κs = (here c).readable
+
+returns-then-is_beyond : tie.Need-returns-then-is_beyond invariant_loop decreases_loop
+returns-then-is_beyond c =
+    let d = c.before.before in
+    omega (
+      arith,
+      d.loop-i.invariant.3,
+      count_stopped (tests d (beyond (z d).args.t)) (tests d (is_below (z d).args.t)) (i d) (z d).args.l.count d.loop-i-test.true (stopped c.before ∙ c.if-is_beyond.true),
+    )
+
+is_below_at-requires : tie.Need-is_below_at-requires invariant_loop decreases_loop
+is_below_at-requires c κs =
+    let d = c.before.before in
+    let m = d.doubled_midpoint-m in
+    ((here d).readable, m.ensures.1, m.ensures.0)
+
+overflow_cast-n : tie.Need-overflow_cast-n invariant_loop decreases_loop
+overflow_cast-n c = search rules
+
+overflow_add-n : tie.Need-overflow_add-n invariant_loop decreases_loop
+overflow_add-n c = omega (arith, byte_small c.is_below_at.result)
+
+overflow_add-at-in-loop-i : tie.Need-overflow_add-at-in-loop-i invariant_loop decreases_loop
+overflow_add-at-in-loop-i c = let d = c.before.before.before in omega (arith, (here d).fits, d.size-size.ensures, (z d).well_formed.0)
+
+overflow_add-i : tie.Need-overflow_add-i invariant_loop decreases_loop
+overflow_add-i c = omega arith
+
+loop-i-smaller : tie.Need-loop-i-smaller invariant_loop decreases_loop
+loop-i-smaller c = omega arith
+
+loop-i-preserved : tie.Need-loop-i-preserved invariant_loop decreases_loop
+loop-i-preserved c =
+    let e = c.before in
+    let d = e.before.before in
+    let n = d.loop-i.n in (
+      omega (arith, d.size-size.ensures),
+      omega (arith, byte_small c.is_below_at.result),
+      omega arith,
+      count_further (tests d (beyond (z d).args.t)) (tests d (is_below (z d).args.t)) (i d) (z d).args.l.count n _ d.loop-i-test.true (stopped e.before ∙ e.if-is_beyond.false) d.loop-i.invariant.3 (counted c),
+    )
 
 returns : tie.Need-returns invariant_loop decreases_loop
 returns c =
     let d = c.before.before in
-    omega (
-      arith,
-      d.before.before.loop.invariant.3,
-      count_stopped (tests d (beyond (z d).args.t)) (tests d (is_below (z d).args.t)) (i d) (z d).args.l.count d.if1.true (stopped c.before ∙ c.if2.true),
-    )
+    let z = d.args in
+    omega (arith, d.loop-i.invariant.3, count_over (left_passes z.s.now z.l (beyond z.t)) (left_passes z.s.now z.l (is_below z.t)) d.loop-i.i z.l.count c.loop-i-test.false)
 
-is-below-at-requires : tie.Need-is-below-at-requires invariant_loop decreases_loop
-is-below-at-requires c κs =
-    let d = c.before.before in
-    let m = d.before.before.before.before.doubled-midpoint in
-    ((here d).readable, m.ensures.1, m.ensures.0)
-
-cast-n : tie.Need-overflow-cast-n invariant_loop decreases_loop
-cast-n c = search rules
-
-add-n : tie.Need-overflow-add-n invariant_loop decreases_loop
-add-n c = omega (arith, byte_small c.is-below-at.result)
-
-add-at-2 : tie.Need-overflow-add-at-2 invariant_loop decreases_loop
-add-at-2 c = let d = c.before.before.before in omega (arith, (here d).ranges, d.before.before.before.before.before.size.ensures, (z d).well-formed.0)
-
-add-i : tie.Need-overflow-add-i invariant_loop decreases_loop
-add-i c = omega arith
-
-loop-less : tie.Need-loop-smaller invariant_loop decreases_loop
-loop-less c = omega arith
-
-loop-again : tie.Need-loop-preserved invariant_loop decreases_loop
-loop-again c =
-    let e = c.before in
-    let d = e.before.before in
-    let n = d.before.before.loop.n in (
-      omega (arith, d.before.before.before.before.before.size.ensures),
-      omega (arith, byte_small c.is-below-at.result),
-      omega arith,
-      count_further (tests d (beyond (z d).args.t)) (tests d (is_below (z d).args.t)) (i d) (z d).args.l.count n _ d.if1.true (stopped e.before ∙ e.if2.false) d.before.before.loop.invariant.3 (counted c),
-    )
-
-returns-2 : tie.Need-returns-2 invariant_loop decreases_loop
-returns-2 c =
-    let d = c.before.before in
-    let z = d.before.before.before.before.before.args in
-    omega (arith, d.loop.invariant.3, count_over (left_passes z.s.now z.l (beyond z.t)) (left_passes z.s.now z.l (is_below z.t)) d.loop.i z.l.count c.if1.false)
-
-pub count-for-ia-spec : {M : Type 1} → statement M
-count-for-ia-spec =
+pub count_for_ia_spec : {M : Type 1} → statement M
+count_for_ia_spec =
     tie.close
     (tie.spec
     invariant_loop
     decreases_loop
-    size-requires
-    doubled-midpoint-requires
-    add_at
-    loop-holds
-    is-beyond-requires
-    returns
-    is-below-at-requires
-    cast-n
-    add-n
-    add-at-2
-    add-i
-    loop-less
-    loop-again
-    returns-2)
+    size-size-requires
+    doubled_midpoint-m-requires
+    overflow_add-at
+    loop-i-init
+    is_beyond-requires
+    returns-then-is_beyond
+    is_below_at-requires
+    overflow_cast-n
+    overflow_add-n
+    overflow_add-at-in-loop-i
+    overflow_add-i
+    loop-i-smaller
+    loop-i-preserved
+    returns)

@@ -5,27 +5,27 @@ use Rattle.scene_segments.proofs.Walk.{at_left, at_right, in_range_at}
 use Rattle.scene_segments.proofs.counts_below_at.Statement.{statement}
 use Rattle.scene_segments.proofs.counts_below_at.Tie as tie
 
-add-if1 : tie.Need-overflow-add-if1
-add-if1 c = search rules
+overflow_add-at : tie.Need-overflow_add-at
+overflow_add-at c = search rules
 
-shared-slice-read-if1 : tie.Need-shared-slice-read-if1
-shared-slice-read-if1 c = search rules
+bounds-s-at : tie.Need-bounds-s-at
+bounds-s-at c = search rules
 
 segment-requires : tie.Need-segment-requires
 segment-requires c κs = search rules
 
-counts-below-requires : tie.Need-counts-below-requires
-counts-below-requires c κs = (in_range_at c.segment.ensures c.before.before.before.before.requires.0.1, c.before.before.before.before.requires.1)
+counts_below-requires : tie.Need-counts_below-requires
+counts_below-requires c κs = (in_range_at c.segment.ensures c.requires.0.1, c.requires.1)
 
-returns : tie.Need-returns
-returns c =
-    let z = c.before.before.before.before.before.args in
-    at_left (counts_below (halved z.m)) z.s.now z.at c.before.before.if1.true c.before.segment.ensures c.counts-below.ensures
+returns-then-s-at-eq1 : tie.Need-returns-then-s-at-eq1
+returns-then-s-at-eq1 c =
+    let z = c.args in
+    at_left (counts_below (halved z.m)) z.s.now z.at c.if-s-at-eq1.true c.segment.ensures c.counts_below.ensures
 
-returns-2 : tie.Need-returns-2
-returns-2 c = let z = c.before.before.before.args in at_right (counts_below (halved z.m)) z.s.now z.at c.if1.false
+returns-else-s-at-eq1 : tie.Need-returns-else-s-at-eq1
+returns-else-s-at-eq1 c = let z = c.args in at_right (counts_below (halved z.m)) z.s.now z.at c.if-s-at-eq1.false
 
-pub counts-below-at-spec : {M : Type 1} → statement M
-counts-below-at-spec =
+pub counts_below_at_spec : {M : Type 1} → statement M
+counts_below_at_spec =
     tie.close
-    (tie.spec add-if1 shared-slice-read-if1 segment-requires counts-below-requires returns returns-2)
+    (tie.spec overflow_add-at bounds-s-at segment-requires counts_below-requires returns-then-s-at-eq1 returns-else-s-at-eq1)

@@ -6,27 +6,27 @@ use Rattle.scene_segments.proofs.Walk.{at_left, at_right}
 use Rattle.scene_segments.proofs.ends_at.Statement.{statement}
 use Rattle.scene_segments.proofs.ends_at.Tie as tie
 
-add-if1 : tie.Need-overflow-add-if1
-add-if1 c = search rules
+overflow_add-at : tie.Need-overflow_add-at
+overflow_add-at c = search rules
 
-shared-slice-read-if1 : tie.Need-shared-slice-read-if1
-shared-slice-read-if1 c = search rules
+bounds-s-at : tie.Need-bounds-s-at
+bounds-s-at c = search rules
 
 segment-requires : tie.Need-segment-requires
 segment-requires c κs = search rules
 
-is-end-requires : tie.Need-is-end-requires
-is-end-requires c κs = search rules
+is_end-requires : tie.Need-is_end-requires
+is_end-requires c κs = search rules
 
-returns : tie.Need-returns
-returns c =
-    let z = c.before.before.before.before.before.args in
-    at_left (λ (t : Segment). is_end t (grid z.p)) z.s.now z.at c.before.before.if1.true c.before.segment.ensures c.is-end.ensures
+returns-then-s-at-eq1 : tie.Need-returns-then-s-at-eq1
+returns-then-s-at-eq1 c =
+    let z = c.args in
+    at_left (λ (t : Segment). is_end t (grid z.p)) z.s.now z.at c.if-s-at-eq1.true c.segment.ensures c.is_end.ensures
 
-returns-2 : tie.Need-returns-2
-returns-2 c = let z = c.before.before.before.args in at_right (λ (t : Segment). is_end t (grid z.p)) z.s.now z.at c.if1.false
+returns-else-s-at-eq1 : tie.Need-returns-else-s-at-eq1
+returns-else-s-at-eq1 c = let z = c.args in at_right (λ (t : Segment). is_end t (grid z.p)) z.s.now z.at c.if-s-at-eq1.false
 
-pub ends-at-spec : {M : Type 1} → statement M
-ends-at-spec =
+pub ends_at_spec : {M : Type 1} → statement M
+ends_at_spec =
     tie.close
-    (tie.spec add-if1 shared-slice-read-if1 segment-requires is-end-requires returns returns-2)
+    (tie.spec overflow_add-at bounds-s-at segment-requires is_end-requires returns-then-s-at-eq1 returns-else-s-at-eq1)

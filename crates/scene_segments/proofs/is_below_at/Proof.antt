@@ -16,24 +16,24 @@ module _ (z : tie.Start) where
   right_held : Held z.args.t.right
   right_held = search rules
 
-counts-below-left-at-requires : tie.Need-counts-below-left-at-requires
-counts-below-left-at-requires c κs = search rules
+counts_below_left_at-requires : tie.Need-counts_below_left_at-requires
+counts_below_left_at-requires c κs = search rules
 
-counts-below-at-requires : tie.Need-counts-below-at-requires
-counts-below-at-requires c κs = search rules
+counts_below_at-requires : tie.Need-counts_below_at-requires
+counts_below_at-requires c κs = search rules
 
-returns : tie.Need-returns
-returns c =
+returns-then-t : tie.Need-returns-then-t
+returns-then-t c =
     let z = c.before.before.before.before.before in
-    rw (eq_z_yes z.args.t.left.x z.args.t.right.x (bits_eq (left_held z).x_fits (right_held z).x_fits c.before.if1.true))
-    (c.counts-below-left-at.ensures ∙ ap (λ (p : HPoint). left_with (counts_below_left p) z.args.s.now z.args.at) z.requires.2)
+    rw (eq_z_yes z.args.t.left.x z.args.t.right.x (bits_eq (left_held z).x_fits (right_held z).x_fits c.if-t.true))
+    (c.counts_below_left_at.ensures ∙ ap (λ (p : HPoint). left_with (counts_below_left p) z.args.s.now z.args.at) z.requires.2)
 
-returns-2 : tie.Need-returns-2
-returns-2 c =
+returns-else-t : tie.Need-returns-else-t
+returns-else-t c =
     let z = c.before.before.before.before.before in
-    rw (eq_z_no z.args.t.left.x z.args.t.right.x (λ e. c.before.if1.false (ap (of_z w32) e)))
-    (c.counts-below-at.ensures ∙ ap (λ (p : HPoint). left_with (counts_below p) z.args.s.now z.args.at) z.requires.2)
+    rw (eq_z_no z.args.t.left.x z.args.t.right.x (λ e. c.if-t.false (ap (of_z w32) e)))
+    (c.counts_below_at.ensures ∙ ap (λ (p : HPoint). left_with (counts_below p) z.args.s.now z.args.at) z.requires.2)
 
-pub is-below-at-spec : {M : Type 1} → statement M
-is-below-at-spec =
-    tie.close (tie.spec counts-below-left-at-requires counts-below-at-requires returns returns-2)
+pub is_below_at_spec : {M : Type 1} → statement M
+is_below_at_spec =
+    tie.close (tie.spec counts_below_left_at-requires counts_below_at-requires returns-then-t returns-else-t)

@@ -9,48 +9,48 @@ use Rattle.scene_segments.proofs.is_touched_at.Statement.{statement}
 use Rattle.scene_segments.proofs.is_touched_at.Tie as tie
 use Prim.Native.Nat.{◌+◌}
 
-add-if1 : tie.Need-overflow-add-if1
-add-if1 c = search rules
+overflow_add-at : tie.Need-overflow_add-at
+overflow_add-at c = search rules
 
-shared-slice-read-if1 : tie.Need-shared-slice-read-if1
-shared-slice-read-if1 c = search rules
+bounds-s-at : tie.Need-bounds-s-at
+bounds-s-at c = search rules
 
-returns : tie.Need-returns
-returns c = let z = c.before.before.before.args in rw (ne_eqb (byte z.s.now (z.at + 17)) 1 c.if1.true)
+returns-then-s-at-ne1 : tie.Need-returns-then-s-at-ne1
+returns-then-s-at-ne1 c = let z = c.args in rw (ne_eqb (byte z.s.now (z.at + 17)) 1 c.if-s-at-ne1.true)
 
-segment-requires : tie.Need-segment-requires
-segment-requires c κs = search rules
+segment-u-requires : tie.Need-segment-u-requires
+segment-u-requires c κs = search rules
 
-are-apart-requires : tie.Need-are-apart-requires
-are-apart-requires c κs = let z = c.before.before.before.before in (z.requires.2, z.requires.3, in_range_at c.segment.ensures z.requires.0.1, in_order_at c.segment.ensures z.requires.1)
+are_apart-requires : tie.Need-are_apart-requires
+are_apart-requires c κs = let z = c.before.before.before.before in (z.requires.2, z.requires.3, in_range_at c.segment-u.ensures z.requires.0.1, in_order_at c.segment-u.ensures z.requires.1)
 
-returns-2 : tie.Need-returns-2
-returns-2 c =
+returns-then-are_apart : tie.Need-returns-then-are_apart
+returns-then-are_apart c =
     let d = c.before.before in
-    let z = d.before.before.before.before.args in
-    at_left (touch z.t) z.s.now z.at d.before.if1.false d.segment.ensures (sym (c.before.are-apart.ensures c.if2.true))
+    let z = d.args in
+    at_left (touch z.t) z.s.now z.at d.if-s-at-ne1.false d.segment-u.ensures (sym (c.are_apart.ensures c.if-are_apart.true))
 
 touches-requires : tie.Need-touches-requires
 touches-requires c κs =
     let d = c.before.before in
     let z = d.before.before.before.before in
-    (z.requires.2, in_range_at d.segment.ensures z.requires.0.1)
+    (z.requires.2, in_range_at d.segment-u.ensures z.requires.0.1)
 
-returns-3 : tie.Need-returns-3
-returns-3 c =
+returns : tie.Need-returns
+returns c =
     let d = c.before.before.before in
-    let z = d.before.before.before.before.args in
-    at_left (touch z.t) z.s.now z.at d.before.if1.false d.segment.ensures c.touches.ensures
+    let z = d.args in
+    at_left (touch z.t) z.s.now z.at d.if-s-at-ne1.false d.segment-u.ensures c.touches.ensures
 
-pub is-touched-at-spec : {M : Type 1} → statement M
-is-touched-at-spec =
+pub is_touched_at_spec : {M : Type 1} → statement M
+is_touched_at_spec =
     tie.close
     (tie.spec
-    add-if1
-    shared-slice-read-if1
-    returns
-    segment-requires
-    are-apart-requires
-    returns-2
+    overflow_add-at
+    bounds-s-at
+    returns-then-s-at-ne1
+    segment-u-requires
+    are_apart-requires
+    returns-then-are_apart
     touches-requires
-    returns-3)
+    returns)

@@ -5,55 +5,55 @@ use Rattle.whole.proofs.Logic.{is_true}
 use Rattle.test_sides.proofs.letters_of.Statement.{statement}
 use Rattle.test_sides.proofs.letters_of.Tie as tie
 
-is-in-range-requires : tie.Need-is-in-range-requires
-is-in-range-requires c κs = search rules
+is_in_range-requires : tie.Need-is_in_range-requires
+is_in_range-requires c κs = search rules
 
-is-in-range-requires-2 : tie.Need-is-in-range-requires-2
-is-in-range-requires-2 c κs = search rules
+is_in_range-requires-then-is_in_range : tie.Need-is_in_range-requires-then-is_in_range
+is_in_range-requires-then-is_in_range c κs = search rules
 
-is-in-range-requires-3 : tie.Need-is-in-range-requires-3
-is-in-range-requires-3 c κs = search rules
+is_in_range-requires-then-is_in_range-2 : tie.Need-is_in_range-requires-then-is_in_range-2
+is_in_range-requires-then-is_in_range-2 c κs = search rules
 
-is-in-range-requires-4 : tie.Need-is-in-range-requires-4
-is-in-range-requires-4 c κs = search rules
+is_in_range-requires-then-is_in_range-3 : tie.Need-is_in_range-requires-then-is_in_range-3
+is_in_range-requires-then-is_in_range-3 c κs = search rules
 
 turns-requires : tie.Need-turns-requires
 turns-requires c κs =
     let third = c.before.before in
     let second = third.before.before in
     let first = second.before.before in (
-      is_true _ (sym first.before.is_in_range.ensures ∙ first.if1.true),
-      is_true _ (sym second.before.is-in-range2.ensures ∙ second.if2.true),
-      is_true _ (sym third.before.is-in-range3.ensures ∙ third.if3.true),
-      is_true _ (sym c.before.is-in-range4.ensures ∙ c.if4.true),
+      is_true _ (sym first.is_in_range.ensures ∙ first.if-is_in_range.true),
+      is_true _ (sym second.is_in_range-then-is_in_range.ensures ∙ second.if-is_in_range-2.true),
+      is_true _ (sym third.is_in_range-then-is_in_range-2.ensures ∙ third.if-is_in_range-3.true),
+      is_true _ (sym c.is_in_range-then-is_in_range-3.ensures ∙ c.if-is_in_range-4.true),
     )
 
-returns : tie.Need-returns
-returns c = search rules
+returns-then-is_in_range-4 : tie.Need-returns-then-is_in_range-4
+returns-then-is_in_range-4 c = search rules
 
-returns-2 : tie.Need-returns-2
-returns-2 c = search rules
+returns-else-is_in_range-4 : tie.Need-returns-else-is_in_range-4
+returns-else-is_in_range-4 c = search rules
 
-returns-3 : tie.Need-returns-3
-returns-3 c = search rules
+returns-else-is_in_range-3 : tie.Need-returns-else-is_in_range-3
+returns-else-is_in_range-3 c = search rules
 
-returns-4 : tie.Need-returns-4
-returns-4 c = search rules
+returns-else-is_in_range-2 : tie.Need-returns-else-is_in_range-2
+returns-else-is_in_range-2 c = search rules
 
-returns-5 : tie.Need-returns-5
-returns-5 c = search rules
+returns-else-is_in_range : tie.Need-returns-else-is_in_range
+returns-else-is_in_range c = search rules
 
-pub letters-of-spec : {M : Type 1} → statement M
-letters-of-spec =
+pub letters_of_spec : {M : Type 1} → statement M
+letters_of_spec =
     tie.close
     (tie.spec
-    is-in-range-requires
-    is-in-range-requires-2
-    is-in-range-requires-3
-    is-in-range-requires-4
+    is_in_range-requires
+    is_in_range-requires-then-is_in_range
+    is_in_range-requires-then-is_in_range-2
+    is_in_range-requires-then-is_in_range-3
     turns-requires
-    returns
-    returns-2
-    returns-3
-    returns-4
-    returns-5)
+    returns-then-is_in_range-4
+    returns-else-is_in_range-4
+    returns-else-is_in_range-3
+    returns-else-is_in_range-2
+    returns-else-is_in_range)

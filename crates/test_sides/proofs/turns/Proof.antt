@@ -4,8 +4,8 @@ use Rattle.plane.proofs.Machine.{in_doubled}
 use Rattle.test_sides.proofs.turns.Statement.{statement}
 use Rattle.test_sides.proofs.turns.Tie as tie
 
-doubled-midpoint-requires : tie.Need-doubled-midpoint-requires
-doubled-midpoint-requires c κs = search rules
+doubled_midpoint-m-requires : tie.Need-doubled_midpoint-m-requires
+doubled_midpoint-m-requires c κs = search rules
 
 doubled-requires : tie.Need-doubled-requires
 doubled-requires c κs = search rules
@@ -13,11 +13,11 @@ doubled-requires c κs = search rules
 doubled-requires-2 : tie.Need-doubled-requires-2
 doubled-requires-2 c κs = search rules
 
-turn-from-requires : tie.Need-turn-from-requires
-turn-from-requires c κs = search rules
+turn_from-to_middle-requires : tie.Need-turn_from-to_middle-requires
+turn_from-to_middle-requires c κs = search rules
 
-turn-from-requires-2 : tie.Need-turn-from-requires-2
-turn-from-requires-2 c κs =
+turn_from-requires : tie.Need-turn_from-requires
+turn_from-requires c κs =
     let z = c.before.before.before.before in
     (in_doubled z.args.a z.requires.0, in_doubled z.args.b z.requires.1, in_doubled z.args.c z.requires.2)
 
@@ -30,15 +30,15 @@ letter-requires-2 c κs = search rules
 returns : tie.Need-returns
 returns c = search rules
 
-pub turns-spec : {M : Type 1} → statement M
-turns-spec =
+pub turns_spec : {M : Type 1} → statement M
+turns_spec =
     tie.close
     (tie.spec
-    doubled-midpoint-requires
+    doubled_midpoint-m-requires
     doubled-requires
     doubled-requires-2
-    turn-from-requires
-    turn-from-requires-2
+    turn_from-to_middle-requires
+    turn_from-requires
     letter-requires
     letter-requires-2
     returns)

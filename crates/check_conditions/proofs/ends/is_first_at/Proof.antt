@@ -9,29 +9,29 @@ use Rattle.plane.specs.Plane.{is_same_point}
 use Rattle.check_conditions.proofs.ends.is_first_at.Statement.{statement}
 use Rattle.check_conditions.proofs.ends.is_first_at.Tie as tie
 
+returns-then-i-eq0 : tie.Need-returns-then-i-eq0
+returns-then-i-eq0 c = rw c.if-i-eq0.true
+
+overflow_sub-i : tie.Need-overflow_sub-i
+overflow_sub-i c = search rules
+
+point_at-requires : tie.Need-point_at-requires
+point_at-requires c κs = let z = c.before.before in (z.requires.0, omega arith, z.requires.2)
+
+point_at-requires-2 : tie.Need-point_at-requires-2
+point_at-requires-2 c κs = search rules
+
+is_same_point-requires : tie.Need-is_same_point-requires
+is_same_point-requires c κs = search rules
+
 returns : tie.Need-returns
-returns c = rw c.if1.true
-
-sub-point-at : tie.Need-overflow-sub-point-at
-sub-point-at c = search rules
-
-point-at-requires : tie.Need-point-at-requires
-point-at-requires c κs = let z = c.before.before in (z.requires.0, omega arith, z.requires.2)
-
-point-at-requires-2 : tie.Need-point-at-requires-2
-point-at-requires-2 c κs = search rules
-
-is-same-point-requires : tie.Need-is-same-point-requires
-is-same-point-requires c κs = search rules
-
-returns-2 : tie.Need-returns-2
-returns-2 c =
+returns c =
     let d = c.before in
-    let i = d.before.before.before.before.args.i in
+    let i = d.args.i in
     let after_first : 0 < i = omega arith in
-    rw (lt-ltb 0 i after_first) (ap not (c.is-same-point.ensures ∙ ap₂ is_same_point d.before.point_at.ensures d.point-at2.ensures))
+    rw (lt-ltb 0 i after_first) (ap not (c.is_same_point.ensures ∙ ap₂ is_same_point d.point_at.ensures d.point_at-2.ensures))
 
-pub is-first-at-spec : {M : Type 1} → statement M
-is-first-at-spec =
+pub is_first_at_spec : {M : Type 1} → statement M
+is_first_at_spec =
     tie.close
-    (tie.spec returns sub-point-at point-at-requires point-at-requires-2 is-same-point-requires returns-2)
+    (tie.spec returns-then-i-eq0 overflow_sub-i point_at-requires point_at-requires-2 is_same_point-requires returns)

@@ -15,19 +15,19 @@ good : (z : tie.Start) → GoodHalfsegment z.args.s.now (place z.args.l z.args.i
 good z = half_good z.args.s.now z.args.l z.requires.0 z.args.i z.requires.1 (true_is (has_segments z.args.l.shape) z.requires.2)
 
 place-requires : tie.Need-place-requires
-place-requires c κs = omega (arith, (good c.before).there, c.before.well-formed.0)
+place-requires c κs = omega (arith, (good c.before).there, c.well_formed.0)
 
 halfsegment-requires : tie.Need-halfsegment-requires
 halfsegment-requires c κs = omega (arith, (good c.before.before).there, c.place.ensures)
 
-dominating-point-requires : tie.Need-dominating-point-requires
-dominating-point-requires c κs = search rules
+dominating_point-requires : tie.Need-dominating_point-requires
+dominating_point-requires c κs = search rules
 
 returns : tie.Need-returns
 returns c =
     let h = c.before in
-    let z = h.before.before.before.args in
-    c.dominating-point.ensures ∙ ap dominating (half_is z.s.now z.l z.i h.halfsegment.ensures h.before.place.ensures)
+    let z = h.args in
+    c.dominating_point.ensures ∙ ap dominating (half_is z.s.now z.l z.i h.halfsegment.ensures h.place.ensures)
 
-pub point-at-spec : {M : Type 1} → statement M
-point-at-spec = tie.close (tie.spec place-requires halfsegment-requires dominating-point-requires returns)
+pub point_at_spec : {M : Type 1} → statement M
+point_at_spec = tie.close (tie.spec place-requires halfsegment-requires dominating_point-requires returns)

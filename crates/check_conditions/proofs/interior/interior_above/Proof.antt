@@ -15,29 +15,29 @@ module _ (z : tie.Start) where
   left_held = doubled_held z.args.t.left (left_in_doubled z.args.t z.requires.2)
 
   right_held : Held z.args.t.right
-  right_held = doubled_held z.args.t.right (right_in_doubled z.args.t z.pre.2)
+  right_held = doubled_held z.args.t.right (right_in_doubled z.args.t z.requires.2)
 
-count-for-ia-requires : tie.Need-count-for-ia-requires
-count-for-ia-requires c κs = search rules
+count_for_ia-requires : tie.Need-count_for_ia-requires
+count_for_ia-requires c κs = search rules
 
-count-for-ia-requires-2 : tie.Need-count-for-ia-requires-2
-count-for-ia-requires-2 c κs = search rules
+count_for_ia-requires-else-t : tie.Need-count_for_ia-requires-else-t
+count_for_ia-requires-else-t c κs = search rules
 
-returns : tie.Need-returns
+returns-then-t : tie.Need-returns-then-t
 unfolding odd
-returns c =
+returns-then-t c =
     let z = c.before.before.before.before.before in
-    let upright : z.args.t.left.x ≡ z.args.t.right.x = bits_eq (left_held z).x_fits (right_held z).x_fits c.before.if1.true in
+    let upright : z.args.t.left.x ≡ z.args.t.right.x = bits_eq (left_held z).x_fits (right_held z).x_fits c.if-t.true in
     rw (eq_z_yes z.args.t.left.x z.args.t.right.x upright)
-    (ap odd c.count-for-ia.ensures ∙ sym (or-false (odd (count_below z.args.s.now z.args.l z.args.t))))
+    (ap odd c.count_for_ia.ensures ∙ sym (or-false (odd (count_below z.args.s.now z.args.l z.args.t))))
 
-returns-2 : tie.Need-returns-2
+returns-else-t : tie.Need-returns-else-t
 unfolding odd
-returns-2 c =
+returns-else-t c =
     let z = c.before.before.before.before.before in
-    rw (eq_z_no z.args.t.left.x z.args.t.right.x (λ e. c.before.if1.false (ap (of_z w32) e))) (ap not (ap odd c.count-for-ia2.ensures))
+    rw (eq_z_no z.args.t.left.x z.args.t.right.x (λ e. c.if-t.false (ap (of_z w32) e))) (ap not (ap odd c.count_for_ia-else-t.ensures))
 
-pub interior-above-spec : {M : Type 1} → statement M
-interior-above-spec =
+pub interior_above_spec : {M : Type 1} → statement M
+interior_above_spec =
     tie.close
-    (tie.spec count-for-ia-requires count-for-ia-requires-2 returns returns-2)
+    (tie.spec count_for_ia-requires count_for_ia-requires-else-t returns-then-t returns-else-t)

@@ -8,20 +8,20 @@ use borrow.Author.Tests.{lt-ltb}
 use Rattle.check_conditions.proofs.order.is_misplaced.Statement.{statement}
 use Rattle.check_conditions.proofs.order.is_misplaced.Tie as tie
 
+returns-then-i-eq0 : tie.Need-returns-then-i-eq0
+returns-then-i-eq0 c = rw c.if-i-eq0.true
+
+overflow_sub-i : tie.Need-overflow_sub-i
+overflow_sub-i c = search rules
+
+in_order-requires : tie.Need-in_order-requires
+in_order-requires c κs = (c.requires.0, omega arith, c.requires.1)
+
 returns : tie.Need-returns
-returns c = rw c.if1.true
-
-sub-in-order : tie.Need-overflow-sub-in-order
-sub-in-order c = search rules
-
-in-order-requires : tie.Need-in-order-requires
-in-order-requires c κs = (c.before.before.requires.0, omega arith, c.before.before.requires.1)
-
-returns-2 : tie.Need-returns-2
-returns-2 c =
-    let i = c.before.before.before.args.i in
+returns c =
+    let i = c.args.i in
     let after_first : 0 < i = omega arith in
     rw (lt-ltb 0 i after_first) (ap not c.in_order.ensures)
 
-pub is-misplaced-spec : {M : Type 1} → statement M
-is-misplaced-spec = tie.close (tie.spec returns sub-in-order in-order-requires returns-2)
+pub is_misplaced_spec : {M : Type 1} → statement M
+is_misplaced_spec = tie.close (tie.spec returns-then-i-eq0 overflow_sub-i in_order-requires returns)

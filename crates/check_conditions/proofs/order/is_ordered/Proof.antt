@@ -7,47 +7,47 @@ use Rattle.scene.specs.Conditions.{has_segments}
 use Rattle.check_conditions.proofs.order.is_ordered.Statement.{statement}
 use Rattle.check_conditions.proofs.order.is_ordered.Tie as tie
 
-enum_told : tie.Need-enum-told
-enum_told c = search rules
+enum_told-1 : tie.Need-enum_told-1
+enum_told-1 c = search rules
 
-points-ascend-requires : tie.Need-points-ascend-requires
-points-ascend-requires c κs = search rules
+points_ascend-requires : tie.Need-points_ascend-requires
+points_ascend-requires c κs = search rules
 
-enum-told-2 : tie.Need-enum-told-2
-enum-told-2 c = search rules
+enum_told-in-Line : tie.Need-enum_told-in-Line
+enum_told-in-Line c = search rules
 
-halfsegments-ascend-requires : tie.Need-halfsegments-ascend-requires
-halfsegments-ascend-requires c κs =
-    let e = c.enum-told2.given.1 in
-    (c.before.before.before.requires, is_true _ (ap has_segments e), ap size (sym e))
+halfsegments_ascend-requires : tie.Need-halfsegments_ascend-requires
+halfsegments_ascend-requires c κs =
+    let e = c.in-Line.is in
+    (c.requires, is_true _ (ap has_segments e), ap size (sym e))
 
-enum-told-3 : tie.Need-enum-told-3
-enum-told-3 c = search rules
+enum_told-in-Region : tie.Need-enum_told-in-Region
+enum_told-in-Region c = search rules
 
-halfsegments-ascend-requires-2 : tie.Need-halfsegments-ascend-requires-2
-halfsegments-ascend-requires-2 c κs =
-    let e = c.enum-told3.given.1 in
-    (c.before.before.before.requires, is_true _ (ap has_segments e), ap size (sym e))
+halfsegments_ascend-requires-in-Region : tie.Need-halfsegments_ascend-requires-in-Region
+halfsegments_ascend-requires-in-Region c κs =
+    let e = c.in-Region.is in
+    (c.requires, is_true _ (ap has_segments e), ap size (sym e))
 
-returns : tie.Need-returns
-returns c = search rules
+returns-in-Points : tie.Need-returns-in-Points
+returns-in-Points c = search rules
 
-returns-2 : tie.Need-returns-2
-returns-2 c = search rules
+returns-in-Line : tie.Need-returns-in-Line
+returns-in-Line c = search rules
 
-returns-3 : tie.Need-returns-3
-returns-3 c = search rules
+returns-in-Region : tie.Need-returns-in-Region
+returns-in-Region c = search rules
 
-pub is-ordered-spec : {M : Type 1} → statement M
-is-ordered-spec =
+pub is_ordered_spec : {M : Type 1} → statement M
+is_ordered_spec =
     tie.close
     (tie.spec
-    enum_told
-    points-ascend-requires
-    enum-told-2
-    halfsegments-ascend-requires
-    enum-told-3
-    halfsegments-ascend-requires-2
-    returns
-    returns-2
-    returns-3)
+    enum_told-1
+    points_ascend-requires
+    enum_told-in-Line
+    halfsegments_ascend-requires
+    enum_told-in-Region
+    halfsegments_ascend-requires-in-Region
+    returns-in-Points
+    returns-in-Line
+    returns-in-Region)

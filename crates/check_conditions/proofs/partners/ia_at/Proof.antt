@@ -9,28 +9,28 @@ use Rattle.scene.specs.Read.{size}
 use Rattle.check_conditions.proofs.partners.ia_at.Statement.{statement}
 use Rattle.check_conditions.proofs.partners.ia_at.Tie as tie
 
-enum_told : tie.Need-enum-told
-enum_told c = search rules
+enum_told-1 : tie.Need-enum_told-1
+enum_told-1 c = search rules
 
-enum-told-2 : tie.Need-enum-told-2
-enum-told-2 c = search rules
+enum_told-in-Line : tie.Need-enum_told-in-Line
+enum_told-in-Line c = search rules
 
-enum-told-3 : tie.Need-enum-told-3
-enum-told-3 c = search rules
+enum_told-in-Region : tie.Need-enum_told-in-Region
+enum_told-in-Region c = search rules
 
 ia-requires : tie.Need-ia-requires
 ia-requires c κs =
-    let z = c.before.before.before in
-    omega (arith, subst (λ (k : Shape). z.args.at + size k ≤ length z.args.s.now) c.enum-told3.given.1 z.requires)
+    let z = c.before.before in
+    omega (arith, subst (λ (k : Shape). z.args.at + size k ≤ length z.args.s.now) c.in-Region.is z.requires)
 
-returns : tie.Need-returns
-returns c = rw c.enum_told.given.1
+returns-in-Points : tie.Need-returns-in-Points
+returns-in-Points c = rw c.in-Points.is
 
-returns-2 : tie.Need-returns-2
-returns-2 c = rw c.enum-told2.given.1
+returns-in-Line : tie.Need-returns-in-Line
+returns-in-Line c = rw c.in-Line.is
 
-returns-3 : tie.Need-returns-3
-returns-3 c = rw c.before.enum-told3.given.1 c.ia.ensures
+returns-in-Region : tie.Need-returns-in-Region
+returns-in-Region c = rw c.in-Region.is c.ia.ensures
 
-pub ia-at-spec : {M : Type 1} → statement M
-ia-at-spec = tie.close (tie.spec enum_told enum-told-2 enum-told-3 ia-requires returns returns-2 returns-3)
+pub ia_at_spec : {M : Type 1} → statement M
+ia_at_spec = tie.close (tie.spec enum_told-1 enum_told-in-Line enum_told-in-Region ia-requires returns-in-Points returns-in-Line returns-in-Region)

@@ -12,7 +12,7 @@ use Rattle.check_conditions.proofs.partners.is_partner_at.Statement.{statement}
 use Rattle.check_conditions.proofs.partners.is_partner_at.Tie as tie
 
 -- once the record at the offset was read
-module _ (c : tie.After-halfsegment) where
+module _ (c : tie.After-halfsegment-other) where
   abbrev z : tie.Start
   z = c.before.before
 
@@ -23,13 +23,13 @@ module _ (c : tie.After-halfsegment) where
   answer = partners z.args.h z.args.ia (halfsegment_at z.args.s.now z.args.at) own
 
   abbrev beside : Bool
-  beside = beq z.args.h.is_left c.halfsegment.result.is_left
+  beside = beq z.args.h.is_left c.halfsegment-other.result.is_left
 
   abbrev equal : Bool
-  equal = is_same_segment z.args.h.segment c.halfsegment.result.segment
+  equal = is_same_segment z.args.h.segment c.halfsegment-other.result.segment
 
-  as_read : partners z.args.h z.args.ia c.halfsegment.result own ≡ answer
-  as_read = ap (λ (k : Halfsegment). partners z.args.h z.args.ia k own) c.halfsegment.ensures
+  as_read : partners z.args.h z.args.ia c.halfsegment-other.result own ≡ answer
+  as_read = ap (λ (k : Halfsegment). partners z.args.h z.args.ia k own) c.halfsegment-other.ensures
 
   one_side : beside ≡ true → false ≡ answer
   one_side e = rw (← as_read, e)
@@ -40,30 +40,30 @@ module _ (c : tie.After-halfsegment) where
   same_segment : beside ≡ false → equal ≡ true → beq z.args.ia own ≡ answer
   same_segment e q = rw (← as_read, e, q)
 
-halfsegment-requires : tie.Need-halfsegment-requires
-halfsegment-requires c κs = search rules
+halfsegment-other-requires : tie.Need-halfsegment-other-requires
+halfsegment-other-requires c κs = search rules
+
+returns-then-h-other : tie.Need-returns-then-h-other
+returns-then-h-other c = one_side c.before.before.before c.if-h-other.true
+
+is_same_segment-requires : tie.Need-is_same_segment-requires
+is_same_segment-requires c κs = search rules
+
+returns-then-not-is_same_segment : tie.Need-returns-then-not-is_same_segment
+returns-then-not-is_same_segment c =
+    let d = c.before.before in
+    other_segment d.before.before.before.before.before d.if-h-other.false (refuted c.is_same_segment.ensures c.if-not-is_same_segment.true-raw)
+
+ia_at-requires : tie.Need-ia_at-requires
+ia_at-requires c κs = search rules
 
 returns : tie.Need-returns
-returns c = one_side c.before.before.before c.if1.true
-
-is-same-segment-requires : tie.Need-is-same-segment-requires
-is-same-segment-requires c κs = search rules
-
-returns-2 : tie.Need-returns-2
-returns-2 c =
-    let d = c.before.before in
-    other_segment d.before.before.before d.if1.false (refuted c.before.is-same-segment.ensures c.if2.true)
-
-ia-at-requires : tie.Need-ia-at-requires
-ia-at-requires c κs = search rules
-
-returns-3 : tie.Need-returns-3
-returns-3 c =
+returns c =
     let d = c.before.before.before in
-    let r = d.before.before.before in
-    ap (beq (z r).args.ia) c.ia-at.ensures
-    ∙ same_segment r d.if1.false (upheld c.before.before.is-same-segment.ensures c.before.if2.false)
+    let r = d.before.before.before.before.before in
+    ap (beq (z r).args.ia) c.ia_at.ensures
+    ∙ same_segment r d.if-h-other.false (upheld c.is_same_segment.ensures c.if-not-is_same_segment.false-raw)
 
-pub is-partner-at-spec : {M : Type 1} → statement M
-is-partner-at-spec =
-    tie.close (tie.spec halfsegment-requires returns is-same-segment-requires returns-2 ia-at-requires returns-3)
+pub is_partner_at_spec : {M : Type 1} → statement M
+is_partner_at_spec =
+    tie.close (tie.spec halfsegment-other-requires returns-then-h-other is_same_segment-requires returns-then-not-is_same_segment ia_at-requires returns)

@@ -8,20 +8,20 @@ use Rattle.scene.proofs.Flags.{refuted, upheld}
 use Rattle.check_conditions.proofs.partners.is_unpaired.Statement.{statement}
 use Rattle.check_conditions.proofs.partners.is_unpaired.Tie as tie
 
-has-segments-requires : tie.Need-has-segments-requires
-has-segments-requires c κs = search rules
+has_segments-requires : tie.Need-has_segments-requires
+has_segments-requires c κs = search rules
+
+returns-then-not-has_segments : tie.Need-returns-then-not-has_segments
+returns-then-not-has_segments c = rw (refuted c.has_segments.ensures c.if-not-has_segments.true-raw)
+
+has_partner-requires : tie.Need-has_partner-requires
+has_partner-requires c κs =
+    let z = c.before.before.before in
+    (z.requires.0, z.requires.1, is_true (has_segments z.args.l.shape) (upheld c.has_segments.ensures c.if-not-has_segments.false-raw))
 
 returns : tie.Need-returns
-returns c = rw (refuted c.before.has-segments.ensures c.if1.true)
+returns c = rw (upheld c.has_segments.ensures c.if-not-has_segments.false-raw) (ap not c.has_partner.ensures)
 
-has-partner-requires : tie.Need-has-partner-requires
-has-partner-requires c κs =
-    let z = c.before.before.before in
-    (z.requires.0, z.requires.1, is_true (has_segments z.args.l.shape) (upheld c.before.has-segments.ensures c.if1.false))
-
-returns-2 : tie.Need-returns-2
-returns-2 c = rw (upheld c.before.before.has-segments.ensures c.before.if1.false) (ap not c.has-partner.ensures)
-
-pub is-unpaired-spec : {M : Type 1} → statement M
-is-unpaired-spec =
-    tie.close (tie.spec has-segments-requires returns has-partner-requires returns-2)
+pub is_unpaired_spec : {M : Type 1} → statement M
+is_unpaired_spec =
+    tie.close (tie.spec has_segments-requires returns-then-not-has_segments has_partner-requires returns)

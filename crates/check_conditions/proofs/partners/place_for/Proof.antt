@@ -28,27 +28,27 @@ abbrev decreases_loop : tie.decreases-loop
 decreases_loop s l h low₀ high₀ low high = high - low
 
 -- a turn: the element in the middle
-module _ (c : tie.In-loop invariant_loop decreases_loop) where
+module _ (c : tie.In-loop-low invariant_loop decreases_loop) where
   abbrev z : tie.Start invariant_loop decreases_loop
   z = c.before.before.before
 
   abbrev low : ℕ
-  low = c.before.loop.low
+  low = c.loop-low.low
 
   abbrev high : ℕ
-  high = c.before.loop.high
+  high = c.loop-low.high
 
   between : (low ≤ middle low high) × (middle low high < high)
-  between = middle_between low high c.loop-test.true
+  between = middle_between low high c.loop-low-test.true
 
   inside : middle low high < z.args.l.count
-  inside = omega (arith, between.1, c.before.loop.invariant.1)
+  inside = omega (arith, between.1, c.loop-low.invariant.1)
 
   few : z.args.l.count ≤ most
-  few = few_elements z.args.s.now z.args.l z.pre.0
+  few = few_elements z.args.s.now z.args.l z.requires.0
 
   good : GoodHalfsegment z.args.s.now (place z.args.l (middle low high))
-  good = half_good z.args.s.now z.args.l z.pre.0 (middle low high) inside (true_is (has_segments z.args.l.shape) z.pre.1)
+  good = half_good z.args.s.now z.args.l z.requires.0 (middle low high) inside (true_is (has_segments z.args.l.shape) z.requires.1)
 
 -- the halfsegment that was read
 is_half : (c : tie.After-halfsegment invariant_loop decreases_loop)
@@ -56,74 +56,74 @@ is_half : (c : tie.After-halfsegment invariant_loop decreases_loop)
     c.halfsegment.result ≡ half (z d).args.s.now (z d).args.l (middle (low d) (high d))
 is_half c =
     let d = c.before.before in
-    half_is (z d).args.s.now (z d).args.l (middle (low d) (high d)) c.halfsegment.ensures c.before.place.ensures
+    half_is (z d).args.s.now (z d).args.l (middle (low d) (high d)) c.halfsegment.ensures c.place.ensures
 
-tested : (c : tie.After-comes-before invariant_loop decreases_loop)
+tested : (c : tie.After-comes_before invariant_loop decreases_loop)
     → let d = c.before.before.before in
-    test (z d).args.s.now (z d).args.l (z d).args.h (middle (low d) (high d)) ≡ c.comes-before.result
+    test (z d).args.s.now (z d).args.l (z d).args.h (middle (low d) (high d)) ≡ c.comes_before.result
 tested c =
     let d = c.before.before.before in
-    sym (c.comes-before.ensures ∙ ap (λ (k : Halfsegment). comes_before k (z d).args.h) (is_half c.before))
+    sym (c.comes_before.ensures ∙ ap (λ (k : Halfsegment). comes_before k (z d).args.h) (is_half c.before))
 
-loop-holds : tie.Need-loop-init invariant_loop decreases_loop
+loop-low-init : tie.Need-loop-low-init invariant_loop decreases_loop
 unfolding place_for
-loop-holds c = let z = c.before.args in (omega arith, omega arith, begin (test z.s.now z.l z.h) z.l.count)
+loop-low-init c = let z = c.args in (omega arith, omega arith, begin (test z.s.now z.l z.h) z.l.count)
 
-add-middle : tie.Need-overflow-add-middle invariant_loop decreases_loop
-add-middle c = omega (arith, few c, c.before.loop.invariant.0, c.before.loop.invariant.1)
+overflow_add-middle : tie.Need-overflow_add-middle invariant_loop decreases_loop
+overflow_add-middle c = omega (arith, few c, c.loop-low.invariant.0, c.loop-low.invariant.1)
 
 place-requires : tie.Need-place-requires invariant_loop decreases_loop
-place-requires c κs = omega (arith, (good c).there, (z c).well-formed.0)
+place-requires c κs = omega (arith, (good c).there, (z c).well_formed.0)
 
 halfsegment-requires : tie.Need-halfsegment-requires invariant_loop decreases_loop
 halfsegment-requires c κs = omega (arith, (good c.before).there, c.place.ensures)
 
-comes-before-requires : tie.Need-comes-before-requires invariant_loop decreases_loop
-comes-before-requires c κs =
+comes_before-requires : tie.Need-comes_before-requires invariant_loop decreases_loop
+comes_before-requires c κs =
     let d = c.before.before in
     (half_in_range (z d).args.s.now (z d).args.l (middle (low d) (high d)) (is_half c) (good d), (z d).requires.2)
 
-add_low : tie.Need-overflow-add-low invariant_loop decreases_loop
-add_low c = let d = c.before.before.before.before in omega (arith, inside d, few d)
+overflow_add-low : tie.Need-overflow_add-low invariant_loop decreases_loop
+overflow_add-low c = let d = c.before.before.before.before in omega (arith, inside d, few d)
 
-loop-less : tie.Need-loop-smaller invariant_loop decreases_loop
-loop-less c = let d = c.before.before.before.before in omega (arith, (between d).0, (between d).1)
+loop-low-smaller-then-comes_before : tie.Need-loop-low-smaller-then-comes_before invariant_loop decreases_loop
+loop-low-smaller-then-comes_before c = let d = c.before.before.before.before in omega (arith, (between d).0, (between d).1)
 
-loop-again : tie.Need-loop-preserved invariant_loop decreases_loop
-loop-again c =
+loop-low-preserved-then-comes_before : tie.Need-loop-low-preserved-then-comes_before invariant_loop decreases_loop
+loop-low-preserved-then-comes_before c =
     let d = c.before.before.before.before in
-    let i = d.before.loop.invariant in
-    (omega (arith, (between d).1), i.1, upper (test (z d).args.s.now (z d).args.l (z d).args.h) i.2 d.loop-test.true (tested c.before ∙ c.if1.true))
+    let i = d.loop-low.invariant in
+    (omega (arith, (between d).1), i.1, upper (test (z d).args.s.now (z d).args.l (z d).args.h) i.2 d.loop-low-test.true (tested c.before ∙ c.if-comes_before.true))
 
-loop-less-2 : tie.Need-loop-smaller-2 invariant_loop decreases_loop
-loop-less-2 c = let d = c.before.before.before.before in omega (arith, (between d).0, (between d).1)
+loop-low-smaller : tie.Need-loop-low-smaller invariant_loop decreases_loop
+loop-low-smaller c = let d = c.before.before.before.before in omega (arith, (between d).0, (between d).1)
 
-loop-again-2 : tie.Need-loop-preserved-2 invariant_loop decreases_loop
-loop-again-2 c =
+loop-low-preserved : tie.Need-loop-low-preserved invariant_loop decreases_loop
+loop-low-preserved c =
     let d = c.before.before.before.before in
-    let i = d.before.loop.invariant in
-    ((between d).0, omega (arith, (between d).1, i.1), lower (test (z d).args.s.now (z d).args.l (z d).args.h) i.2 d.loop-test.true (tested c.before ∙ c.if1.false))
+    let i = d.loop-low.invariant in
+    ((between d).0, omega (arith, (between d).1, i.1), lower (test (z d).args.s.now (z d).args.l (z d).args.h) i.2 d.loop-low-test.true (tested c.before ∙ c.if-comes_before.false))
 
 returns : tie.Need-returns invariant_loop decreases_loop
 returns c =
     let d = c.before in
-    let z = d.before.before.args in
-    sym (done (test z.s.now z.l z.h) d.loop.invariant.2 c.loop-test.false)
+    let z = d.args in
+    sym (done (test z.s.now z.l z.h) d.loop-low.invariant.2 c.loop-low-test.false)
 
-pub place-for-spec : {M : Type 1} → statement M
-place-for-spec =
+pub place_for_spec : {M : Type 1} → statement M
+place_for_spec =
     tie.close
     (tie.spec
     invariant_loop
     decreases_loop
-    loop-holds
-    add-middle
+    loop-low-init
+    overflow_add-middle
     place-requires
     halfsegment-requires
-    comes-before-requires
-    add_low
-    loop-less
-    loop-again
-    loop-less-2
-    loop-again-2
+    comes_before-requires
+    overflow_add-low
+    loop-low-smaller-then-comes_before
+    loop-low-preserved-then-comes_before
+    loop-low-smaller
+    loop-low-preserved
     returns)

@@ -2,7 +2,7 @@
 use mathlib.Core.Path.{ap}
 use borrow.Author.Rules.{rules}
 use Rattle.flags.specs.Flags.{pack}
-use Rattle.flags_table.specs.Table.{flags_of_fBy}
+use Rattle.flags_table.specs.Table.{flags_of_f_by}
 use Rattle.flags_masks.specs.Wanted.{only}
 use Rattle.flags_masks.proofs.Masks.{none_wanted}
 use Rattle.flags_vectors.proofs.question.wanted_of_f.Statement.{statement}
@@ -11,7 +11,7 @@ use Rattle.flags_vectors.proofs.question.wanted_of_f.Tie as tie
 returns : tie.Need-returns
 returns c =
     let z = c.before.args in
-    none_wanted z.mask (pack (flags_of_fBy z.f z.g z.m z.c)) c.if1.true
+    none_wanted z.mask (pack (flags_of_f_by z.f z.g z.m z.c)) c.if1.true
 
 flags-of-f-requires : tie.Need-flags-of-f-requires
 flags-of-f-requires c κs = search rules

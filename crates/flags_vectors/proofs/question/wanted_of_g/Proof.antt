@@ -2,7 +2,7 @@
 use mathlib.Core.Path.{ap}
 use borrow.Author.Rules.{rules}
 use Rattle.flags.specs.Flags.{pack}
-use Rattle.flags_table.specs.Table.{flags_of_gBy}
+use Rattle.flags_table.specs.Table.{flags_of_g_by}
 use Rattle.flags_masks.specs.Wanted.{only}
 use Rattle.flags_masks.proofs.Masks.{none_wanted}
 use Rattle.flags_vectors.proofs.question.wanted_of_g.Statement.{statement}
@@ -11,7 +11,7 @@ use Rattle.flags_vectors.proofs.question.wanted_of_g.Tie as tie
 returns : tie.Need-returns
 returns c =
     let z = c.before.args in
-    none_wanted z.mask (pack (flags_of_gBy z.f z.g z.m z.c)) c.if1.true
+    none_wanted z.mask (pack (flags_of_g_by z.f z.g z.m z.c)) c.if1.true
 
 flags-of-g-requires : tie.Need-flags-of-g-requires
 flags-of-g-requires c κs = search rules

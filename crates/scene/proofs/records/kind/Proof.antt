@@ -28,7 +28,7 @@ returns-in_default : tie.Need-returns-in_default
 unfolding kind_of
 returns-in_default c =
     let b = c.args.b in
-    let not = c.in-84.rest in
+    let not = c.in_default.in_default-own.rest in
     rw (
       ne_eqb b 84 not.0.0.0.0.1,
       ne_eqb b 80 not.0.0.0.1,

@@ -14,7 +14,7 @@ returns-in-2 c = rw c.in-2.is
 
 returns-in_default : tie.Need-returns-in_default
 unfolding shape_of
-returns-in_default c = rw (ne_eqb c.args.n 1 c.in-1.rest.0.1, ne_eqb c.args.n 2 c.in-1.rest.1)
+returns-in_default c = rw (ne_eqb c.args.n 1 c.in_default.in_default-own.rest.0.1, ne_eqb c.args.n 2 c.in_default.in_default-own.rest.1)
 
 pub shape_spec : {M : Type 1} → statement M
 shape_spec = tie.close (tie.spec returns-in-1 returns-in-2 returns-in_default)

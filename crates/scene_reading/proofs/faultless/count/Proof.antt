@@ -26,10 +26,10 @@ record SoFar (s : List ℕ) (k : Shape) (start n : ℕ) : Type 0 where
   there : start + n * size k ≤ length s
   each : (i : ℕ) → i < n → IsElement s k (start + i * size k)
 
-abbrev invariant_loop : tie.invariant-loop
+abbrev invariant_loop : tie.invariant-loop-i
 invariant_loop s k start _ at₀ i₀ at i = (at ≡ start + i * size k) × SoFar s k start i
 
-abbrev decreases_loop : tie.decreases-loop
+abbrev decreases_loop : tie.decreases-loop-i
 decreases_loop s k start _ at₀ i₀ at i = most - i
 
 -- an element is whole
@@ -45,8 +45,8 @@ module _ {s : List ℕ} {k : Shape} {start i : ℕ} (f : SoFar s k start i) wher
   that_is_all never = record { few = f.few; there = f.there; each = f.each; no_more = never }
 
 -- a turn, once it was asked whether one more follows
-module _ (c : tie.After-is-faultless invariant_loop decreases_loop) where
-  abbrev d : tie.At-loop invariant_loop decreases_loop
+module _ (c : tie.After-is_faultless invariant_loop decreases_loop) where
+  abbrev d : tie.At-loop-i invariant_loop decreases_loop
   d = c.before.before
 
   abbrev z : tie.Start invariant_loop decreases_loop
@@ -55,45 +55,45 @@ module _ (c : tie.After-is-faultless invariant_loop decreases_loop) where
   abbrev Follows : ℕ → Type 0
   Follows at = IsElement z.args.s.now z.args.k at
 
-  follows : not c.is-faultless.result ≡ false → Follows (z.args.start + d.loop.i * size z.args.k)
-  follows t = let r = c.is-faultless in subst Follows d.loop.inv.0 (r.ensures.0 (is_true r.result (not-false r.result t)))
+  follows : not c.is_faultless.result ≡ false → Follows (z.args.start + d.loop-i.i * size z.args.k)
+  follows t = let r = c.is_faultless in subst Follows d.loop-i.invariant.0 (r.ensures.0 (is_true r.result (not-false r.result t)))
 
-  stops : not c.is-faultless.result ≡ true → Follows (z.args.start + d.loop.i * size z.args.k) → ⊥
-  stops t e = let r = c.is-faultless in subst T (not-true r.result t) (r.ensures.1 (subst⁻¹ Follows d.loop.inv.0 e))
+  stops : not c.is_faultless.result ≡ true → Follows (z.args.start + d.loop-i.i * size z.args.k) → ⊥
+  stops t e = let r = c.is_faultless in subst T (not-true r.result t) (r.ensures.1 (subst⁻¹ Follows d.loop-i.invariant.0 e))
 
-  room : not c.is-faultless.result ≡ false → d.loop.at + size z.args.k ≤ length z.args.s.now
-  room t = omega (arith, d.loop.inv.0, beyond z.args.s.now z.args.k (z.args.start + d.loop.i * size z.args.k) (follows t))
+  room : not c.is_faultless.result ≡ false → d.loop-i.at + size z.args.k ≤ length z.args.s.now
+  room t = omega (arith, d.loop-i.invariant.0, beyond z.args.s.now z.args.k (z.args.start + d.loop-i.i * size z.args.k) (follows t))
 
-size-requires : tie.Need-size-requires invariant_loop decreases_loop
-size-requires c κs = search rules
+size-size-requires : tie.Need-size-size-requires invariant_loop decreases_loop
+size-size-requires c κs = search rules
 
-loop-holds : tie.Need-loop-init invariant_loop decreases_loop
-loop-holds c = (omega arith, record { few = omega arith; there = omega (arith, c.before.before.requires); each = λ i h. absurd (not-suc-le-zero h) })
+loop-i-init : tie.Need-loop-i-init invariant_loop decreases_loop
+loop-i-init c = (omega arith, record { few = omega arith; there = omega (arith, c.requires); each = λ i h. absurd (not-suc-le-zero h) })
 
-is-faultless-requires : tie.Need-is-faultless-requires invariant_loop decreases_loop
-is-faultless-requires c κs = omega (arith, c.before.loop.invariant.1.there)
+is_faultless-requires : tie.Need-is_faultless-requires invariant_loop decreases_loop
+is_faultless-requires c κs = omega (arith, c.loop-i.invariant.1.there)
 
-returns : tie.Need-returns invariant_loop decreases_loop
-returns c = that_is_all (d c.before).loop.inv.1 (λ _. stops c.before c.if1.true)
+returns-then-not-is_faultless : tie.Need-returns-then-not-is_faultless invariant_loop decreases_loop
+returns-then-not-is_faultless c = that_is_all (d c.before).loop-i.invariant.1 (λ _. stops c.before c.if-not-is_faultless.true-raw)
 
-add_at : tie.Need-overflow-add-at invariant_loop decreases_loop
-add_at c = omega (arith, room c.before c.if1.false, (d c.before).before.size.ensures)
+overflow_add-at : tie.Need-overflow_add-at invariant_loop decreases_loop
+overflow_add-at c = omega (arith, room c.before c.if-not-is_faultless.false-raw, (d c.before).size-size.ensures)
 
-add-i : tie.Need-overflow-add-i invariant_loop decreases_loop
-add-i c = omega arith
+overflow_add-i : tie.Need-overflow_add-i invariant_loop decreases_loop
+overflow_add-i c = omega arith
 
-loop-less : tie.Need-loop-smaller invariant_loop decreases_loop
-loop-less c = omega arith
+loop-i-smaller : tie.Need-loop-i-smaller invariant_loop decreases_loop
+loop-i-smaller c = omega arith
 
-loop-again : tie.Need-loop-preserved invariant_loop decreases_loop
-loop-again c =
+loop-i-preserved : tie.Need-loop-i-preserved invariant_loop decreases_loop
+loop-i-preserved c =
     let t = d c.before in (
-      omega (arith, t.loop.inv.0, t.before.size.ensures),
-      one_more t.loop.inv.1 (omega arith) (follows c.before c.if1.false),
+      omega (arith, t.loop-i.invariant.0, t.size-size.ensures),
+      one_more t.loop-i.invariant.1 (omega arith) (follows c.before c.if-not-is_faultless.false-raw),
     )
 
-returns-2 : tie.Need-returns-2 invariant_loop decreases_loop
-returns-2 c = that_is_all c.before.loop.invariant.1 (λ h. absurd (omega arith))
+returns : tie.Need-returns invariant_loop decreases_loop
+returns c = that_is_all c.loop-i.invariant.1 (λ h. absurd (omega arith))
 
 pub count_spec : {M : Type 1} → statement M
 count_spec =
@@ -101,12 +101,12 @@ count_spec =
     (tie.spec
     invariant_loop
     decreases_loop
-    size-requires
-    loop-holds
-    is-faultless-requires
-    returns
-    add_at
-    add-i
-    loop-less
-    loop-again
-    returns-2)
+    size-size-requires
+    loop-i-init
+    is_faultless-requires
+    returns-then-not-is_faultless
+    overflow_add-at
+    overflow_add-i
+    loop-i-smaller
+    loop-i-preserved
+    returns)

@@ -88,7 +88,7 @@ module _ (s : List ℕ) (at : ℕ) where
             (and_make (coordinates_good s at (Element k')) (ends_good s at (Element k')) p.coordinates p.ends)
 
 -- ---- what is known in the arms
-module _ (c : tie.Else1) where
+module _ (c : tie.Else-s-at) where
   abbrev z : tie.Start
   z = c.before.before.before
 
@@ -99,7 +99,7 @@ module _ (c : tie.Else1) where
   offset = z.args.at
 
   whole : {k : Shape} → z.args.k ≡ k → offset + size k ≤ length bytes
-  whole e = subst (λ (k : Shape). offset + size k ≤ length bytes) e (omega (arith, c.before.size.ensures, z.pre))
+  whole e = subst (λ (k : Shape). offset + size k ≤ length bytes) e (omega (arith, c.size.ensures, z.requires))
 
   -- an arm's answer tells whether the fields of its type are good
   abbrev Answers : Shape → Type 0
@@ -108,174 +108,174 @@ module _ (c : tie.Else1) where
   answers : {k : Shape} → z.args.k ≡ k → byte bytes offset ≡ kind_byte k → Answers k
   answers {k} e b = of_its_type bytes offset k (element_kind k b) e (whole e)
 
-module _ (c : tie.After-enum-told) where
-  abbrev of_point : tie.Else1
-  of_point = c.before.before.before.before
+module _ (c : tie.In-Points) where
+  abbrev of_point : tie.Else-s-at
+  of_point = c.before.before.before
 
   point_whole : offset of_point + 9 ≤ length (bytes of_point)
-  point_whole = whole of_point c.enum_told.given.1
+  point_whole = whole of_point c.in-Points.is
 
   point_answers : Answers of_point Points
-  point_answers = answers of_point c.enum_told.given.1 c.before.before.match.keys1
+  point_answers = answers of_point c.in-Points.is c.in-80.is
 
-module _ (c : tie.After-enum-told2) where
-  abbrev of_line : tie.Else1
-  of_line = c.before.before.before.before
+module _ (c : tie.In-Line) where
+  abbrev of_line : tie.Else-s-at
+  of_line = c.before.before.before
 
   line_whole : offset of_line + 18 ≤ length (bytes of_line)
-  line_whole = whole of_line c.enum-told2.given.1
+  line_whole = whole of_line c.in-Line.is
 
   line_answers : Answers of_line Line
-  line_answers = answers of_line c.enum-told2.given.1 c.before.before.match.keys2
+  line_answers = answers of_line c.in-Line.is c.in-76.is
 
-module _ (c : tie.After-enum-told3) where
-  abbrev of_region : tie.Else1
-  of_region = c.before.before.before.before
+module _ (c : tie.In-Region) where
+  abbrev of_region : tie.Else-s-at
+  of_region = c.before.before.before
 
   region_whole : offset of_region + 19 ≤ length (bytes of_region)
-  region_whole = whole of_region c.enum-told3.given.1
+  region_whole = whole of_region c.in-Region.is
 
   region_answers : Answers of_region Region
-  region_answers = answers of_region c.enum-told3.given.1 c.before.before.match.keys3
+  region_answers = answers of_region c.in-Region.is c.in-82.is
 
 -- the flag where the ways of the tests of d and ia meet
-flags : (c : tie.Joined3) → let d = of_region c.before.before in c.if3.if4 ≡ fields_good (bytes d) (offset d) (Element Region)
-flags c = and_met (⊎_elim (λ w. inl (le-leb _ _ w.0.taken, w.2)) (λ w. inr (lt-leb _ _ w.0.left, w.1)) c.if3.branch)
+flags : (c : tie.Joined-s-at-le1-2) → let d = of_region c.before.before in c.if-s-at-le1-2.value ≡ fields_good (bytes d) (offset d) (Element Region)
+flags c = and_met (⊎_elim (λ w. inl (le-leb _ _ w.if-s-at-le1-2.true, w.value-is)) (λ w. inr (lt-leb _ _ w.if-s-at-le1-2.false, w.value-is)) c.if-s-at-le1-2.branch-raw)
 
-sub-if1 : tie.Need-overflow-sub-if1
-sub-if1 c = search rules
+overflow_sub-s : tie.Need-overflow_sub-s
+overflow_sub-s c = search rules
 
 size-requires : tie.Need-size-requires
 size-requires c κs = search rules
 
-returns : tie.Need-returns
-returns c =
+returns-then-s-at : tie.Need-returns-then-s-at
+returns-then-s-at c =
     let z = c.before.before.before in
-    says_no z.args.s.now z.args.at (λ e. omega (arith, c.before.size.ensures, z.requires, (tests z.args.s.now z.args.at z.args.k e).whole))
+    says_no z.args.s.now z.args.at (λ e. omega (arith, c.size.ensures, z.requires, (tests z.args.s.now z.args.at z.args.k e).whole))
 
-shared-slice-read-kind : tie.Need-shared-slice-read-kind
-shared-slice-read-kind c = search rules
+bounds-s-at : tie.Need-bounds-s-at
+bounds-s-at c = search rules
 
-enum_told : tie.Need-enum-told
-enum_told c = search rules
+enum_told-1 : tie.Need-enum_told-1
+enum_told-1 c = search rules
 
-returns-2 : tie.Need-returns-2
-returns-2 c =
+returns-in_default-k : tie.Need-returns-in_default-k
+returns-in_default-k c =
     let d = c.before.before.before in
-    of_another_type (bytes d) (offset d) Points (element_kind Points c.before.match.keys1)
-    (λ e. ⊎_elim (λ q. omega arith) (λ q. omega arith) (rw e at c.match2.keys2))
+    of_another_type (bytes d) (offset d) Points (element_kind Points c.in-80.is)
+    c.in_default-k.not-Points
 
 point-requires : tie.Need-point-requires
 point-requires c κs = point_whole c
 
-is-in-range-requires : tie.Need-is-in-range-requires
-is-in-range-requires c κs = search rules
+is_in_range-requires : tie.Need-is_in_range-requires
+is_in_range-requires c κs = search rules
 
-enum-told-2 : tie.Need-enum-told-2
-enum-told-2 c = search rules
+enum_told-in-76 : tie.Need-enum_told-in-76
+enum_told-in-76 c = search rules
 
-returns-3 : tie.Need-returns-3
-returns-3 c =
+returns-in_default-k-2 : tie.Need-returns-in_default-k-2
+returns-in_default-k-2 c =
     let d = c.before.before.before in
-    of_another_type (bytes d) (offset d) Line (element_kind Line c.before.match.keys2)
-    (λ e. ⊎_elim (λ q. omega arith) (λ q. omega arith) (rw e at c.match3.keys2))
+    of_another_type (bytes d) (offset d) Line (element_kind Line c.in-76.is)
+    c.in_default-k-2.not-Line
 
-add-if2 : tie.Need-overflow-add-if2
-add-if2 c = search rules
+overflow_add-at : tie.Need-overflow_add-at
+overflow_add-at c = search rules
 
-shared-slice-read-if2 : tie.Need-shared-slice-read-if2
-shared-slice-read-if2 c = omega (arith, line_whole c.before)
+bounds-s-at-in-76 : tie.Need-bounds-s-at-in-76
+bounds-s-at-in-76 c = omega (arith, line_whole c.before)
 
 segment-requires : tie.Need-segment-requires
 segment-requires c κs = line_whole c.before.before
 
-is-sound-requires : tie.Need-is-sound-requires
-is-sound-requires c κs = search rules
+is_sound-requires : tie.Need-is_sound-requires
+is_sound-requires c κs = search rules
 
-enum-told-3 : tie.Need-enum-told-3
-enum-told-3 c = search rules
+enum_told-in-82 : tie.Need-enum_told-in-82
+enum_told-in-82 c = search rules
 
-returns-4 : tie.Need-returns-4
-returns-4 c =
+returns-in_default-k-3 : tie.Need-returns-in_default-k-3
+returns-in_default-k-3 c =
     let d = c.before.before.before in
-    of_another_type (bytes d) (offset d) Region (element_kind Region c.before.match.keys3)
-    (λ e. ⊎_elim (λ q. omega arith) (λ q. omega arith) (rw e at c.match4.keys2))
+    of_another_type (bytes d) (offset d) Region (element_kind Region c.in-82.is)
+    c.in_default-k-3.not-Region
 
-add-if3 : tie.Need-overflow-add-if3
-add-if3 c = search rules
+overflow_add-at-in-82 : tie.Need-overflow_add-at-in-82
+overflow_add-at-in-82 c = search rules
 
-shared-slice-read-if3 : tie.Need-shared-slice-read-if3
-shared-slice-read-if3 c = omega (arith, region_whole c.before)
+bounds-s-at-in-82 : tie.Need-bounds-s-at-in-82
+bounds-s-at-in-82 c = omega (arith, region_whole c.before)
 
-add-if4 : tie.Need-overflow-add-if4
-add-if4 c = search rules
+overflow_add-at-then-s-at-le1-2 : tie.Need-overflow_add-at-then-s-at-le1-2
+overflow_add-at-then-s-at-le1-2 c = search rules
 
-shared-slice-read-if4 : tie.Need-shared-slice-read-if4
-shared-slice-read-if4 c = omega (arith, region_whole c.before.before.before)
+bounds-s-at-then-s-at-le1-2 : tie.Need-bounds-s-at-then-s-at-le1-2
+bounds-s-at-then-s-at-le1-2 c = omega (arith, region_whole c.before.before.before)
 
-segment-requires-2 : tie.Need-segment-requires-2
-segment-requires-2 c κs = omega (arith, region_whole c.before.before.before)
+segment-requires-then-s-at-le1-3 : tie.Need-segment-requires-then-s-at-le1-3
+segment-requires-then-s-at-le1-3 c κs = omega (arith, region_whole c.before.before.before)
 
-is-sound-requires-2 : tie.Need-is-sound-requires-2
-is-sound-requires-2 c κs = search rules
+is_sound-requires-then-s-at-le1-3 : tie.Need-is_sound-requires-then-s-at-le1-3
+is_sound-requires-then-s-at-le1-3 c κs = search rules
 
-returns-5 : tie.Need-returns-5
-returns-5 c = point_answers c.before.before c.is_in_range.result (c.is_in_range.ensures ∙ ap in_range c.before.point.ensures ∙ rw and-true)
+returns-in-Points : tie.Need-returns-in-Points
+returns-in-Points c = point_answers c.before.before c.is_in_range.result (c.is_in_range.ensures ∙ ap in_range c.point.ensures ∙ rw and-true)
 
-returns-6 : tie.Need-returns-6
-returns-6 c =
-    line_answers c.before.before.before.before c.is-sound.result
-    (c.is-sound.ensures ∙ ap is_sound c.before.segment.ensures ∙ rw (le-leb _ _ c.before.before.if2.true))
+returns-then-s-at-le1 : tie.Need-returns-then-s-at-le1
+returns-then-s-at-le1 c =
+    line_answers c.before.before.before.before c.is_sound.result
+    (c.is_sound.ensures ∙ ap is_sound c.segment.ensures ∙ rw (le-leb _ _ c.if-s-at-le1.true))
 
-returns-7 : tie.Need-returns-7
-returns-7 c =
+returns-else-s-at-le1 : tie.Need-returns-else-s-at-le1
+returns-else-s-at-le1 c =
     let d = of_line c.before.before in
-    line_answers c.before.before (leb (byte (bytes d) (offset d + 17)) 1) (rw (lt-leb _ _ c.if2.false))
+    line_answers c.before.before (leb (byte (bytes d) (offset d + 17)) 1) (rw (lt-leb _ _ c.if-s-at-le1.false))
 
-returns-8 : tie.Need-returns-8
-returns-8 c =
-    region_answers c.before.before.before.before.before c.is-sound2.result
-    (c.is-sound2.ensures ∙ ap is_sound c.before.segment2.ensures ∙ rw (sym (flags c.before.before.before) ∙ c.before.before.if4.true))
+returns-then-s-at-le1-3 : tie.Need-returns-then-s-at-le1-3
+returns-then-s-at-le1-3 c =
+    region_answers c.before.before.before.before.before c.is_sound-then-s-at-le1-3.result
+    (c.is_sound-then-s-at-le1-3.ensures ∙ ap is_sound c.segment-then-s-at-le1-3.ensures ∙ rw (sym (flags c.before.before.before) ∙ c.if-s-at-le1-3.true))
 
-returns-9 : tie.Need-returns-9
-returns-9 c = region_answers c.before.before.before c.before.if3.if4 (flags c.before ∙ rw (sym (flags c.before) ∙ c.if4.false))
+returns-else-s-at-le1-3 : tie.Need-returns-else-s-at-le1-3
+returns-else-s-at-le1-3 c = region_answers c.before.before.before c.if-s-at-le1-2.value (flags c.before ∙ rw (sym (flags c.before) ∙ c.if-s-at-le1-3.false))
 
-returns-10 : tie.Need-returns-10
-returns-10 c =
+returns-in_default : tie.Need-returns-in_default
+returns-in_default c =
     let d = c.before.before in
-    let not = c.match.rest in
+    let not = c.in_default.in_default-own.rest in
     says_no (bytes d) (offset d)
     (λ e. no_element (byte (bytes d) (offset d)) (z d).args.k not.0.0.1 not.0.1 not.1 (tests (bytes d) (offset d) (z d).args.k e).kind)
 
-pub is-faultless-spec : {M : Type 1} → statement M
-is-faultless-spec =
+pub is_faultless_spec : {M : Type 1} → statement M
+is_faultless_spec =
     tie.close
     (tie.spec
-    sub-if1
+    overflow_sub-s
     size-requires
-    returns
-    shared-slice-read-kind
-    enum_told
-    returns-2
+    returns-then-s-at
+    bounds-s-at
+    enum_told-1
+    returns-in_default-k
     point-requires
-    is-in-range-requires
-    enum-told-2
-    returns-3
-    add-if2
-    shared-slice-read-if2
+    is_in_range-requires
+    enum_told-in-76
+    returns-in_default-k-2
+    overflow_add-at
+    bounds-s-at-in-76
     segment-requires
-    is-sound-requires
-    enum-told-3
-    returns-4
-    add-if3
-    shared-slice-read-if3
-    add-if4
-    shared-slice-read-if4
-    segment-requires-2
-    is-sound-requires-2
-    returns-5
-    returns-6
-    returns-7
-    returns-8
-    returns-9
-    returns-10)
+    is_sound-requires
+    enum_told-in-82
+    returns-in_default-k-3
+    overflow_add-at-in-82
+    bounds-s-at-in-82
+    overflow_add-at-then-s-at-le1-2
+    bounds-s-at-then-s-at-le1-2
+    segment-requires-then-s-at-le1-3
+    is_sound-requires-then-s-at-le1-3
+    returns-in-Points
+    returns-then-s-at-le1
+    returns-else-s-at-le1
+    returns-then-s-at-le1-3
+    returns-else-s-at-le1-3
+    returns-in_default)

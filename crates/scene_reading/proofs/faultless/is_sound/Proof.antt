@@ -8,32 +8,32 @@ use Rattle.scene_reading.proofs.faultless.is_sound.Statement.{statement}
 use Rattle.scene_reading.proofs.faultless.is_sound.Tie as tie
 
 -- the flag where the ways of the first two tests meet
-flag : (c : tie.Joined1) → c.if1.if2 ≡ segment_in_range c.before.before.args.t
+flag : (c : tie.Joined-is_in_range) → c.if-is_in_range.value ≡ segment_in_range c.args.t
 flag c =
-    let left = c.before.is_in_range.ensures in
+    let left = c.is_in_range.ensures in
     and_met
     (⊎_elim
-    (λ w. inl (sym left ∙ w.0.taken, w.2 ∙ w.1.ensures))
-    (λ w. inr (sym left ∙ w.0.left, w.1 ∙ left))
-    c.if1.branch)
+    (λ w. inl (sym left ∙ w.if-is_in_range.true, w.value-is ∙ w.is_in_range-then-is_in_range.ensures))
+    (λ w. inr (sym left ∙ w.if-is_in_range.false, w.value-is ∙ left))
+    c.if-is_in_range.branch-raw)
 
-is-in-range-requires : tie.Need-is-in-range-requires
-is-in-range-requires c κs = search rules
+is_in_range-requires : tie.Need-is_in_range-requires
+is_in_range-requires c κs = search rules
 
-is-in-range-requires-2 : tie.Need-is-in-range-requires-2
-is-in-range-requires-2 c κs = search rules
+is_in_range-requires-then-is_in_range : tie.Need-is_in_range-requires-then-is_in_range
+is_in_range-requires-then-is_in_range c κs = search rules
 
-is-before-requires : tie.Need-is-before-requires
-is-before-requires c κs = search rules
+is_before-requires : tie.Need-is_before-requires
+is_before-requires c κs = search rules
 
-returns : tie.Need-returns
+returns-then-is_in_range-2 : tie.Need-returns-then-is_in_range-2
 unfolding ordered
-returns c = rw (sym (flag c.before.before) ∙ c.before.if2.true) c.is-before.ensures
+returns-then-is_in_range-2 c = rw (sym (flag c.before.before.before.before) ∙ c.if-is_in_range-2.true) c.is_before.ensures
 
-returns-2 : tie.Need-returns-2
-returns-2 c = rw (← flag c.before, c.if2.false)
+returns-else-is_in_range-2 : tie.Need-returns-else-is_in_range-2
+returns-else-is_in_range-2 c = rw (← flag c.before, c.if-is_in_range-2.false)
 
-pub is-sound-spec : {M : Type 1} → statement M
-is-sound-spec =
+pub is_sound_spec : {M : Type 1} → statement M
+is_sound_spec =
     tie.close
-    (tie.spec is-in-range-requires is-in-range-requires-2 is-before-requires returns returns-2)
+    (tie.spec is_in_range-requires is_in_range-requires-then-is_in_range is_before-requires returns-then-is_in_range-2 returns-else-is_in_range-2)

@@ -3,39 +3,39 @@ use borrow.Author.Rules.{rules}
 use Rattle.scene_segments.proofs.apart.are_apart.Statement.{statement}
 use Rattle.scene_segments.proofs.apart.are_apart.Tie as tie
 
-are-boxes-apart-requires : tie.Need-are-boxes-apart-requires
-are-boxes-apart-requires c κs = search rules
+are_boxes_apart-requires : tie.Need-are_boxes_apart-requires
+are_boxes_apart-requires c κs = search rules
+
+returns-then-are_boxes_apart : tie.Need-returns-then-are_boxes_apart
+returns-then-are_boxes_apart c q = c.are_boxes_apart.ensures c.if-are_boxes_apart.true
+
+is_beside-requires : tie.Need-is_beside-requires
+is_beside-requires c κs = search rules
+
+returns-then-is_beside : tie.Need-returns-then-is_beside
+returns-then-is_beside c q = (c.is_beside.ensures c.if-is_beside.true).0
+
+is_hinged-requires : tie.Need-is_hinged-requires
+is_hinged-requires c κs = search rules
+
+returns-then-is_hinged : tie.Need-returns-then-is_hinged
+returns-then-is_hinged c q = c.is_hinged.ensures c.if-is_hinged.true
+
+is_beside-requires-2 : tie.Need-is_beside-requires-2
+is_beside-requires-2 c κs = let z = c.before.before.before.before.before.before in (z.requires.2, z.requires.3, z.requires.0, z.requires.1)
 
 returns : tie.Need-returns
-returns c q = c.before.are-boxes-apart.ensures c.if1.true
+returns c q = (c.is_beside-2.ensures q).1
 
-is-beside-requires : tie.Need-is-beside-requires
-is-beside-requires c κs = search rules
-
-returns-2 : tie.Need-returns-2
-returns-2 c q = (c.before.is-beside.ensures c.if2.true).0
-
-is-hinged-requires : tie.Need-is-hinged-requires
-is-hinged-requires c κs = search rules
-
-returns-3 : tie.Need-returns-3
-returns-3 c q = c.before.is-hinged.ensures c.if3.true
-
-is-beside-requires-2 : tie.Need-is-beside-requires-2
-is-beside-requires-2 c κs = let z = c.before.before.before.before.before.before in (z.requires.2, z.requires.3, z.requires.0, z.requires.1)
-
-returns-4 : tie.Need-returns-4
-returns-4 c q = (c.is-beside2.ensures q).1
-
-pub are-apart-spec : {M : Type 1} → statement M
-are-apart-spec =
+pub are_apart_spec : {M : Type 1} → statement M
+are_apart_spec =
     tie.close
     (tie.spec
-    are-boxes-apart-requires
-    returns
-    is-beside-requires
-    returns-2
-    is-hinged-requires
-    returns-3
-    is-beside-requires-2
-    returns-4)
+    are_boxes_apart-requires
+    returns-then-are_boxes_apart
+    is_beside-requires
+    returns-then-is_beside
+    is_hinged-requires
+    returns-then-is_hinged
+    is_beside-requires-2
+    returns)

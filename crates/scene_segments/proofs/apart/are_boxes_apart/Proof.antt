@@ -25,12 +25,12 @@ module _ (z : tie.Start) where
   u_right : Held z.args.u.right
   u_right = search rules
 
-returns : tie.Need-returns
-returns c _ =
+returns-then-u-t : tie.Need-returns-then-u-t
+returns-then-u-t c _ =
     let z = c.before.before.before.before.before in
     let t = z.args.t in
     let u = z.args.u in
-    (parted_across u t z.requires.1 z.requires.0 (gap u.right.x t.left.x (u_right z).x_fits (t_left z).x_fits c.if1.true)).1
+    (parted_across u t z.requires.1 z.requires.0 (gap u.right.x t.left.x (u_right z).x_fits (t_left z).x_fits c.if-u-t.true)).1
 
 high-requires : tie.Need-high-requires
 high-requires c κs = search rules
@@ -38,14 +38,14 @@ high-requires c κs = search rules
 low-requires : tie.Need-low-requires
 low-requires c κs = search rules
 
-returns-2 : tie.Need-returns-2
-returns-2 c _ =
-    let h = c.before.before.high in
-    let l = c.before.low in
+returns-then-high-low : tie.Need-returns-then-high-low
+returns-then-high-low c _ =
+    let h = c.high in
+    let l = c.low in
     let z = c.before.before.before.before.before.before.before.before in
     let t = z.args.t in
     let u = z.args.u in
-    (parted_up t u z.requires.0 z.requires.1 h.result l.result (gap h.result l.result (search rules) (search rules) c.if2.true)
+    (parted_up t u z.requires.0 z.requires.1 h.result l.result (gap h.result l.result (search rules) (search rules) c.if-high-low.true)
     (le_z_nonneg t.left.y h.result h.ensures.0) (le_z_nonneg t.right.y h.result h.ensures.1) (le_z_nonneg l.result u.left.y l.ensures.0) (le_z_nonneg l.result u.right.y l.ensures.1)
     ).0
 
@@ -55,10 +55,10 @@ high-requires-2 c κs = search rules
 low-requires-2 : tie.Need-low-requires-2
 low-requires-2 c κs = search rules
 
-returns-3 : tie.Need-returns-3
-returns-3 c e =
-    let h = c.before.high2 in
-    let l = c.low2 in
+returns : tie.Need-returns
+returns c e =
+    let h = c.high-2 in
+    let l = c.low-2 in
     let z = c.before.before.before.before.before.before.before.before.before.before in
     let t = z.args.t in
     let u = z.args.u in
@@ -66,7 +66,7 @@ returns-3 c e =
     (le_z_nonneg u.left.y h.result h.ensures.0) (le_z_nonneg u.right.y h.result h.ensures.1) (le_z_nonneg l.result t.left.y l.ensures.0) (le_z_nonneg l.result t.right.y l.ensures.1)
     ).1
 
-pub are-boxes-apart-spec : {M : Type 1} → statement M
-are-boxes-apart-spec =
+pub are_boxes_apart_spec : {M : Type 1} → statement M
+are_boxes_apart_spec =
     tie.close
-    (tie.spec returns high-requires low-requires returns-2 high-requires-2 low-requires-2 returns-3)
+    (tie.spec returns-then-u-t high-requires low-requires returns-then-high-low high-requires-2 low-requires-2 returns)

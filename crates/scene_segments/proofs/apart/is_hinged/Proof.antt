@@ -14,34 +14,34 @@ use Rattle.scene_segments.proofs.apart.is_hinged.Tie as tie
 clear : (z : tie.Start) → Beside z.args.t z.args.u → touch z.args.t z.args.u ≡ false
 clear z b = (beside_clear z.args.t z.args.u z.requires.1 z.requires.3 b).0
 
-is-end-requires : tie.Need-is-end-requires
-is-end-requires c κs = search rules
+is_end-requires : tie.Need-is_end-requires
+is_end-requires c κs = search rules
 
-is-off-requires : tie.Need-is-off-requires
-is-off-requires c κs = let z = c.before.before in (z.requires.0, right_in_range z.args.u z.requires.2)
+is_off-requires : tie.Need-is_off-requires
+is_off-requires c κs = let z = c.before.before in (z.requires.0, right_in_range z.args.u z.requires.2)
 
-returns : tie.Need-returns
-returns c q =
-    let t = c.before in
-    clear t.before.before
-    (begins_at (is_true _ (sym t.before.is-end.ensures ∙ t.if1.true)) (eq_z_false _ (pos 0) (not-true _ (sym c.is-off.ensures ∙ q))))
-
-is-end-requires-2 : tie.Need-is-end-requires-2
-is-end-requires-2 c κs = search rules
-
-is-off-requires-2 : tie.Need-is-off-requires-2
-is-off-requires-2 c κs = let z = c.before.before.before.before in (z.requires.0, left_in_range z.args.u z.requires.2)
-
-returns-2 : tie.Need-returns-2
-returns-2 c q =
+returns-then-is_end : tie.Need-returns-then-is_end
+returns-then-is_end c q =
     let t = c.before in
     clear t.before.before.before.before
-    (ends_at (is_true _ (sym t.before.is-end2.ensures ∙ t.if2.true)) (eq_z_false _ (pos 0) (not-true _ (sym c.is-off2.ensures ∙ q))))
+    (begins_at (is_true _ (sym t.is_end.ensures ∙ t.if-is_end.true)) (eq_z_false _ (pos 0) (not-true _ (sym c.is_off.ensures ∙ q))))
 
-returns-3 : tie.Need-returns-3
-returns-3 c q = absurd (true≢false (sym q ∙ c.if2.false))
+is_end-requires-2 : tie.Need-is_end-requires-2
+is_end-requires-2 c κs = search rules
 
-pub is-hinged-spec : {M : Type 1} → statement M
-is-hinged-spec =
+is_off-requires-then-is_end-2 : tie.Need-is_off-requires-then-is_end-2
+is_off-requires-then-is_end-2 c κs = let z = c.before.before.before.before in (z.requires.0, left_in_range z.args.u z.requires.2)
+
+returns-then-is_end-2 : tie.Need-returns-then-is_end-2
+returns-then-is_end-2 c q =
+    let t = c.before in
+    clear t.before.before.before.before.before.before.before
+    (ends_at (is_true _ (sym t.is_end-2.ensures ∙ t.if-is_end-2.true)) (eq_z_false _ (pos 0) (not-true _ (sym c.is_off-then-is_end-2.ensures ∙ q))))
+
+returns-else-is_end-2 : tie.Need-returns-else-is_end-2
+returns-else-is_end-2 c q = absurd (true≢false (sym q ∙ c.if-is_end-2.false))
+
+pub is_hinged_spec : {M : Type 1} → statement M
+is_hinged_spec =
     tie.close
-    (tie.spec is-end-requires is-off-requires returns is-end-requires-2 is-off-requires-2 returns-2 returns-3)
+    (tie.spec is_end-requires is_off-requires returns-then-is_end is_end-requires-2 is_off-requires-then-is_end-2 returns-then-is_end-2 returns-else-is_end-2)

@@ -24,34 +24,34 @@ turns_is (pos zero) = refl
 turns_is (pos (suc n)) = sym (ap not (ne_eqb (suc n) 0 (λ e. omega arith)))
 turns_is (negsuc n) = refl
 
-arm : (c : tie.After-turn-from) (u : Turn) → c.turn-from.result ≡ u →
-    turns u ≡ not (eq_z (side c.before.args.t.left c.before.args.t.right c.before.args.p) (pos 0))
+arm : (c : tie.After-turn_from) (u : Turn) → c.turn_from.result ≡ u →
+    turns u ≡ not (eq_z (side c.args.t.left c.args.t.right c.args.p) (pos 0))
 unfolding turn
 arm c u e =
-    ap turns (sym e ∙ c.turn-from.ensures) ∙ turns_is (side c.before.args.t.left c.before.args.t.right c.before.args.p)
+    ap turns (sym e ∙ c.turn_from.ensures) ∙ turns_is (side c.args.t.left c.args.t.right c.args.p)
 
-turn-from-requires : tie.Need-turn-from-requires
-turn-from-requires c κs = turn-asks c.args.t c.args.p c.requires.0 c.requires.1
+turn_from-requires : tie.Need-turn_from-requires
+turn_from-requires c κs = turn-asks c.args.t c.args.p c.requires.0 c.requires.1
 
-enum_told : tie.Need-enum-told
-enum_told c = search rules
+enum_told-1 : tie.Need-enum_told-1
+enum_told-1 c = search rules
 
-enum-told-2 : tie.Need-enum-told-2
-enum-told-2 c = search rules
+enum_told-in-Straight : tie.Need-enum_told-in-Straight
+enum_told-in-Straight c = search rules
 
-enum-told-3 : tie.Need-enum-told-3
-enum-told-3 c = search rules
+enum_told-in-Right : tie.Need-enum_told-in-Right
+enum_told-in-Right c = search rules
 
-returns : tie.Need-returns
-returns c = arm c.before.before Left c.enum_told.given.1
+returns-in-Left : tie.Need-returns-in-Left
+returns-in-Left c = arm c.before Left c.in-Left.is
 
-returns-2 : tie.Need-returns-2
-returns-2 c = arm c.before.before Straight c.enum-told2.given.1
+returns-in-Straight : tie.Need-returns-in-Straight
+returns-in-Straight c = arm c.before Straight c.in-Straight.is
 
-returns-3 : tie.Need-returns-3
-returns-3 c = arm c.before.before Right c.enum-told3.given.1
+returns-in-Right : tie.Need-returns-in-Right
+returns-in-Right c = arm c.before Right c.in-Right.is
 
-pub is-off-spec : {M : Type 1} → statement M
-is-off-spec =
+pub is_off_spec : {M : Type 1} → statement M
+is_off_spec =
     tie.close
-    (tie.spec turn-from-requires enum_told enum-told-2 enum-told-3 returns returns-2 returns-3)
+    (tie.spec turn_from-requires enum_told-1 enum_told-in-Straight enum_told-in-Right returns-in-Left returns-in-Straight returns-in-Right)

@@ -21,19 +21,19 @@ module _ (z : tie.Start) where
   as_numbers : (b : Bool) → lt_z (to_z w32 (of_z w32 z.args.t.left.y)) (to_z w32 (of_z w32 z.args.t.right.y)) ≡ b → lt_z z.args.t.left.y z.args.t.right.y ≡ b
   as_numbers b e = sym (ap₂ lt_z (to_z-of_z left_held.y_fits) (to_z-of_z right_held.y_fits)) ∙ e
 
-returns : tie.Need-returns
-returns c =
+returns-then-t : tie.Need-returns-then-t
+returns-then-t c =
     let z = c.before.before.before.before in
     let l = z.args.t.left.y in
     let r = z.args.t.right.y in
-    rw (to_z-of_z (left_held z).y_fits) (same_at_most l, less_at_most l r (as_numbers z true c.before.if1.true))
+    rw (to_z-of_z (left_held z).y_fits) (same_at_most l, less_at_most l r (as_numbers z true c.if-t.true))
 
-returns-2 : tie.Need-returns-2
-returns-2 c =
+returns-else-t : tie.Need-returns-else-t
+returns-else-t c =
     let z = c.before.before.before.before in
     let l = z.args.t.left.y in
     let r = z.args.t.right.y in
-    rw (to_z-of_z (right_held z).y_fits) (not_less_at_most l r (as_numbers z false c.before.if1.false), same_at_most r)
+    rw (to_z-of_z (right_held z).y_fits) (not_less_at_most l r (as_numbers z false c.if-t.false), same_at_most r)
 
-pub low-spec : {M : Type 1} → statement M
-low-spec = tie.close (tie.spec returns returns-2)
+pub low_spec : {M : Type 1} → statement M
+low_spec = tie.close (tie.spec returns-then-t returns-else-t)
