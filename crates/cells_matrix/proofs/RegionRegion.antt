@@ -39,6 +39,7 @@ edge_of (e ∷ F) s m = go (edge_of F s) (in_cons m)
     go rest (inr h) = let w = rest h in (w.0, there w.1, w.2)
 
 pub edge_in : (F : List Edge) {e : Edge} → e ∈ F → e.segment ∈ outline F
+edge_in [] m = elim m [ ]
 edge_in (d ∷ F) here = here
 edge_in (d ∷ F) (there m) = there (edge_in F m)
 

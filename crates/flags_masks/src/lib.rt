@@ -1,4 +1,6 @@
 // The wanted masks: which flags each pair of types has, which of them are wanted, and whether a wanted bit has no flag; and the flags that a cell of the matrix is read off.
+#![tactic(auto)]
+
 ghost use Rattle.std.specs.Prelude.{◌≡◌, cond, map, ◌<◌, get_or};
 ghost use Rattle.scene.specs.Read.{shape_number};
 ghost use Rattle.flags_masks.specs.Wanted.{mask_of_f, mask_of_g, entry_of, place_in, cell_masks_in, masks_for, has_stray, any_stray};

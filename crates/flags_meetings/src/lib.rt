@@ -1,4 +1,6 @@
 // Where elements of two objects meet: one walk over the points of both, in their order, by their keys.
+#![tactic(auto)]
+
 ghost use Rattle.std.specs.Prelude.{◌≡◌, ◌<◌, ◌≤◌, min, length};
 ghost use Rattle.plane.specs.Plane.{is_boundary};
 ghost use Rattle.scene.specs.declared.Fault.TheVariants.{Nothing};

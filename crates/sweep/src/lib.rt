@@ -1,5 +1,7 @@
 // The sweep over the halfsegments of a scene, from left to right: it accepts exactly the scenes in order in which the conditions 11 to 15 find no fault.
 // How many of the other object's segments pass under each segment, or under each point, is then noted, as a parity.
+#![tactic(auto)]
+
 ghost use Rattle.std.specs.Prelude.{◌≡◌, true, false, not, ◌&&◌, cond, ◌<◌, ◌≤◌, T, length, take};
 ghost use Rattle.whole.specs.Decides.{Decides};
 ghost use Rattle.scene.specs.Read.{IsObject, IsScene};

@@ -1,5 +1,7 @@
 // One event of the sweep: a segment that begins goes into the status between those under its left end and those over it; one that ends goes out.
 // Where a neighbour does not let it in, where it is not found, or where an ia is wrong, the sweep stops, and then a condition finds a fault.
+#![tactic(auto)]
+
 ghost use Rattle.std.specs.Prelude.{◌≡◌, List, ℕ, ◌+◌, ◌<◌, ◌≤◌, ltb, length, take};
 ghost use Rattle.std.specs.Bool.{beq};
 ghost use Rattle.whole.specs.Count.{bit, odd, count};

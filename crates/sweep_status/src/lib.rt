@@ -1,5 +1,7 @@
 // The status of the sweep: the active segments from low to high, as the offsets of their records, in the first n entries of an array.
 // One goes in or out at a place, and those above it move.
+#![tactic(auto)]
+
 ghost use Rattle.std.specs.Prelude.{◌≡◌, ◌+◌, ◌-◌, ◌<◌, ◌≤◌, length, take};
 ghost use Rattle.sweep_laws.specs.Status.{inserted, removed};
 

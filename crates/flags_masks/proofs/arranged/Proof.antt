@@ -5,16 +5,16 @@ use Rattle.flags_masks.specs.Wanted.{masks_for}
 use Rattle.flags_masks.proofs.arranged.Statement.{statement}
 use Rattle.flags_masks.proofs.arranged.Tie as tie
 
-is-turned-requires : tie.Need-is-turned-requires
-is-turned-requires c κs = search rules
+is_turned-requires : tie.Need-is_turned-requires
+is_turned-requires c κs = search rules
 
-returns : tie.Need-returns
+returns-then-is_turned : tie.Need-returns-then-is_turned
 unfolding masks_for
-returns c = rw (sym c.before.is_turned.ensures ∙ c.if1.true)
+returns-then-is_turned c = rw (sym c.is_turned.ensures ∙ c.if-is_turned.true)
 
-returns-2 : tie.Need-returns-2
+returns-else-is_turned : tie.Need-returns-else-is_turned
 unfolding masks_for
-returns-2 c = rw (sym c.before.is_turned.ensures ∙ c.if1.false)
+returns-else-is_turned c = rw (sym c.is_turned.ensures ∙ c.if-is_turned.false)
 
-pub arranged-spec : {M : Type 1} → statement M
-arranged-spec = tie.close (tie.spec is-turned-requires returns returns-2)
+pub arranged_spec : {M : Type 1} → statement M
+arranged_spec = tie.close (tie.spec is_turned-requires returns-then-is_turned returns-else-is_turned)

@@ -4,17 +4,17 @@ use borrow.Author.Rules.{rules}
 use Rattle.flags_masks.proofs.cell_place.Statement.{statement}
 use Rattle.flags_masks.proofs.cell_place.Tie as tie
 
-mul-result : tie.Need-overflow-mul-result
-mul-result c = search rules
+overflow_mul-result : tie.Need-overflow_mul-result
+overflow_mul-result c = search rules
 
-add-result : tie.Need-overflow-add-result
-add-result c = search rules
+overflow_add-result : tie.Need-overflow_add-result
+overflow_add-result c = search rules
 
-returns : tie.Need-returns
-returns c = (rw c.if1.true, omega arith)
+returns-then-turned : tie.Need-returns-then-turned
+returns-then-turned c = (rw c.if-turned.true, omega arith)
 
-returns-2 : tie.Need-returns-2
-returns-2 c = (rw c.if1.false, omega arith)
+returns-else-turned : tie.Need-returns-else-turned
+returns-else-turned c = (rw c.if-turned.false, omega arith)
 
-pub cell-place-spec : {M : Type 1} → statement M
-cell-place-spec = tie.close (tie.spec mul-result add-result returns returns-2)
+pub cell_place_spec : {M : Type 1} → statement M
+cell_place_spec = tie.close (tie.spec overflow_mul-result overflow_add-result returns-then-turned returns-else-turned)

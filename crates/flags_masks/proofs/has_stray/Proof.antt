@@ -8,5 +8,5 @@ returns : tie.Need-returns
 unfolding has_stray
 returns c = refl
 
-pub has-stray-spec : {M : Type 1} → statement M
-has-stray-spec = tie.close (tie.spec returns)
+pub has_stray_spec : {M : Type 1} → statement M
+has_stray_spec = tie.close (tie.spec returns)

@@ -4,46 +4,46 @@ use Rattle.flags_masks.specs.Wanted.{masks_for}
 use Rattle.flags_masks.proofs.masks_for.Statement.{statement}
 use Rattle.flags_masks.proofs.masks_for.Tie as tie
 
-enum-known-wanted : tie.Need-enum-known-wanted
-enum-known-wanted c = search rules
+enum_known-wanted : tie.Need-enum_known-wanted
+enum_known-wanted c = search rules
 
 arranged-requires : tie.Need-arranged-requires
 arranged-requires c κs = search rules
 
-enum_told : tie.Need-enum-told
-enum_told c = search rules
+enum_told-1 : tie.Need-enum_told-1
+enum_told-1 c = search rules
 
-masks-of-requires : tie.Need-masks-of-requires
-masks-of-requires c κs = search rules
+masks_of-requires : tie.Need-masks_of-requires
+masks_of-requires c κs = search rules
 
-enum-known-wanted-2 : tie.Need-enum-known-wanted-2
-enum-known-wanted-2 c = search rules
+enum_known-wanted-in-Cells-1 : tie.Need-enum_known-wanted-in-Cells-1
+enum_known-wanted-in-Cells-1 c = search rules
 
-masks-of-cells-requires : tie.Need-masks-of-cells-requires
-masks-of-cells-requires c κs = search rules
+masks_of_cells-requires : tie.Need-masks_of_cells-requires
+masks_of_cells-requires c κs = search rules
 
-returns : tie.Need-returns
-returns c = rw c.before.before.wanted.given.1 c.arranged.ensures
+returns-in-These : tie.Need-returns-in-These
+returns-in-These c = rw c.in-These.is c.arranged.ensures
 
-returns-2 : tie.Need-returns-2
+returns-in-All : tie.Need-returns-in-All
 unfolding masks_for
-returns-2 c =
-    let m = c.masks-of.ensures in
-    rw c.before.enum_told.given.1 (λ i. record { f = m.0 i; g = m.1 i })
+returns-in-All c =
+    let m = c.masks_of.ensures in
+    rw c.in-All.is (λ i. record { f = m.0 i; g = m.1 i })
 
-returns-3 : tie.Need-returns-3
-returns-3 c = rw c.before.before.wanted2.given.1 c.masks-of-cells.ensures
+returns-in-Cells : tie.Need-returns-in-Cells
+returns-in-Cells c = rw c.in-Cells.is c.masks_of_cells.ensures
 
-pub masks-for-spec : {M : Type 1} → statement M
-masks-for-spec =
+pub masks_for_spec : {M : Type 1} → statement M
+masks_for_spec =
     tie.close
     (tie.spec
-    enum-known-wanted
+    enum_known-wanted
     arranged-requires
-    enum_told
-    masks-of-requires
-    enum-known-wanted-2
-    masks-of-cells-requires
-    returns
-    returns-2
-    returns-3)
+    enum_told-1
+    masks_of-requires
+    enum_known-wanted-in-Cells-1
+    masks_of_cells-requires
+    returns-in-These
+    returns-in-All
+    returns-in-Cells)

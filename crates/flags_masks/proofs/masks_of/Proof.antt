@@ -10,54 +10,54 @@ use Rattle.flags_masks.specs.declared.FlagMasks.{FlagMasks}
 use Rattle.flags_masks.proofs.masks_of.Statement.{statement}
 use Rattle.flags_masks.proofs.masks_of.Tie as tie
 
-shape-number-requires : tie.Need-shape-number-requires
-shape-number-requires c κs = search rules
+shape_number-requires : tie.Need-shape_number-requires
+shape_number-requires c κs = search rules
 
-sub_row : tie.Need-overflow-sub-row
-sub_row c = omega (arith, c.shape-number.ensures, numbered c.before.args.f)
+overflow_sub-row : tie.Need-overflow_sub-row
+overflow_sub-row c = omega (arith, c.shape_number.ensures, numbered c.args.f)
 
-cast-row : tie.Need-overflow-cast-row
-cast-row c = search rules
+overflow_cast-row : tie.Need-overflow_cast-row
+overflow_cast-row c = search rules
 
-shape-number-requires-2 : tie.Need-shape-number-requires-2
-shape-number-requires-2 c κs = search rules
+shape_number-requires-2 : tie.Need-shape_number-requires-2
+shape_number-requires-2 c κs = search rules
 
-sub-column : tie.Need-overflow-sub-column
-sub-column c = omega (arith, c.shape-number2.ensures, numbered c.before.before.args.g)
+overflow_sub-column : tie.Need-overflow_sub-column
+overflow_sub-column c = omega (arith, c.shape_number-2.ensures, numbered c.args.g)
 
-cast-column : tie.Need-overflow-cast-column
-cast-column c = search rules
+overflow_cast-column : tie.Need-overflow_cast-column
+overflow_cast-column c = search rules
 
-mul-result : tie.Need-overflow-mul-result
-mul-result c = search rules
+offset_bounds-row : tie.Need-offset_bounds-row
+offset_bounds-row c = search rules
 
-mul-result-2 : tie.Need-overflow-mul-result-2
-mul-result-2 c = search rules
+offset_bounds-row-column : tie.Need-offset_bounds-row-column
+offset_bounds-row-column c = search rules
 
-index-1-result : tie.Need-bounds-1-result
-index-1-result c = omega (arith, c.before.shape-number.ensures, numbered c.before.before.args.f)
+bounds-row : tie.Need-bounds-row
+bounds-row c = omega (arith, c.shape_number.ensures, numbered c.args.f)
 
-index-2-result : tie.Need-bounds-2-result
-index-2-result c = omega (arith, c.shape-number2.ensures, numbered c.before.before.args.g)
+bounds-column : tie.Need-bounds-column
+bounds-column c = omega (arith, c.shape_number-2.ensures, numbered c.args.g)
 
 returns : tie.Need-returns
 returns c =
-    let z = c.before.before.before.args in
+    let z = c.args in
     let e = entry flag_masks (shape_number z.f - 1) (shape_number z.g - 1) in
-    rw (c.before.before.shape-number.ensures, c.before.shape-number2.ensures) (ap (λ (m : FlagMasks). m.f) e, ap (λ (m : FlagMasks). m.g) e)
+    rw (c.shape_number.ensures, c.shape_number-2.ensures) (ap (λ (m : FlagMasks). m.f) e, ap (λ (m : FlagMasks). m.g) e)
 
-pub masks-of-spec : {M : Type 1} → statement M
-masks-of-spec =
+pub masks_of_spec : {M : Type 1} → statement M
+masks_of_spec =
     tie.close
     (tie.spec
-    shape-number-requires
-    sub_row
-    cast-row
-    shape-number-requires-2
-    sub-column
-    cast-column
-    mul-result
-    mul-result-2
-    index-1-result
-    index-2-result
+    shape_number-requires
+    overflow_sub-row
+    overflow_cast-row
+    shape_number-requires-2
+    overflow_sub-column
+    overflow_cast-column
+    offset_bounds-row
+    offset_bounds-row-column
+    bounds-row
+    bounds-column
     returns)

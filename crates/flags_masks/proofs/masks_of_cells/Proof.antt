@@ -23,36 +23,36 @@ use Rattle.flags_masks.proofs.masks_of_cells.Tie as tie
 abbrev wanted_in : List FlagMasks → Bool → ℕ → ℕ → FlagMasks
 wanted_in row turned cells at = cond (has_bit cells at) (get_or row (place_in turned at) (entry_of (0, 0))) (entry_of (0, 0))
 
-abbrev invariant_loop : tie.invariant-loop
+abbrev invariant_loop : tie.invariant-loop-at
 invariant_loop cells row turned f₀ g₀ rest₀ at₀ f g rest at =
     Gathering (λ i. (wanted_in row turned cells i).f) 9 f at × Gathering (λ i. (wanted_in row turned cells i).g) 9 g at × (rest ≡ cells / 2 ^ at)
 
-abbrev decreases_loop : tie.decreases-loop
+abbrev decreases_loop : tie.decreases-loop-at
 decreases_loop cells row turned f₀ g₀ rest₀ at₀ f g rest at = 9 - at
 
-cell-masks-requires : tie.Need-cell-masks-requires invariant_loop decreases_loop
-cell-masks-requires c κs = search rules
+cell_masks-row-requires : tie.Need-cell_masks-row-requires invariant_loop decreases_loop
+cell_masks-row-requires c κs = search rules
 
-is-turned-requires : tie.Need-is-turned-requires invariant_loop decreases_loop
-is-turned-requires c κs = search rules
+is_turned-turned-requires : tie.Need-is_turned-turned-requires invariant_loop decreases_loop
+is_turned-turned-requires c κs = search rules
 
-loop-holds : tie.Need-loop-init invariant_loop decreases_loop
-loop-holds c =
-    let cells = c.before.before.args.cells in
-    let wanted = wanted_in c.before.cell-masks.result c.is_turned.result cells in
+loop-at-init : tie.Need-loop-at-init invariant_loop decreases_loop
+loop-at-init c =
+    let cells = c.args.cells in
+    let wanted = wanted_in c.cell_masks-row.result c.is_turned-turned.result cells in
     (gathering (λ i. (wanted i).f) 9, gathering (λ i. (wanted i).g) 9, sym (div-one cells))
 
-cell-place-requires : tie.Need-cell-place-requires invariant_loop decreases_loop
-cell-place-requires c κs = omega arith
+cell_place-requires : tie.Need-cell_place-requires invariant_loop decreases_loop
+cell_place-requires c κs = omega arith
 
-wanted-for-requires : tie.Need-wanted-for-requires invariant_loop decreases_loop
-wanted-for-requires c κs = search rules
+wanted_for-masks-requires : tie.Need-wanted_for-masks-requires invariant_loop decreases_loop
+wanted_for-masks-requires c κs = search rules
 
-add_at : tie.Need-overflow-add-at invariant_loop decreases_loop
-add_at c = omega arith
+overflow_add-at : tie.Need-overflow_add-at invariant_loop decreases_loop
+overflow_add-at c = omega arith
 
-loop-less : tie.Need-loop-smaller invariant_loop decreases_loop
-loop-less c = omega arith
+loop-at-smaller : tie.Need-loop-at-smaller invariant_loop decreases_loop
+loop-at-smaller c = omega arith
 
 -- what is tested is the cell's bit
 module _ (cells rest at : ℕ) (e : rest ≡ cells / 2 ^ at) where
@@ -63,22 +63,22 @@ module _ (cells rest at : ℕ) (e : rest ≡ cells / 2 ^ at) where
   halved : rest / 2 ≡ cells / 2 ^ (at + 1)
   halved = ap (λ n. n / 2) e ∙ shr-shr cells at 1
 
-loop-again : tie.Need-loop-preserved invariant_loop decreases_loop
+loop-at-preserved : tie.Need-loop-at-preserved invariant_loop decreases_loop
 unfolding odd
-loop-again c =
+loop-at-preserved c =
     let asked = c.before.before in
     let placed = asked.before in
     let h = placed.before.before in
-    let row = h.before.before.cell-masks.result in
-    let cells = h.before.before.before.args.cells in
-    let wanted = wanted_in row h.before.is_turned.result cells in
-    let t : h.loop.at < 9 = omega arith in
+    let row = h.cell_masks-row.result in
+    let cells = h.args.cells in
+    let wanted = wanted_in row h.is_turned-turned.result cells in
+    let t : h.loop-at.at < 9 = omega arith in
     let w =
-    asked.wanted-for.ensures
-    ∙ ap₂ (λ b place. cond b (get_or row place (entry_of (0, 0))) (entry_of (0, 0))) (bit_is cells h.loop.rest h.loop.at h.loop.invariant.2) placed.cell-place.ensures.0 in (
-      gathered_one (λ i. (wanted i).f) 9 h.loop.invariant.0 t (ap (λ (m : FlagMasks). m.f) w) refl,
-      gathered_one (λ i. (wanted i).g) 9 h.loop.invariant.1 t (ap (λ (m : FlagMasks). m.g) w) refl,
-      halved cells h.loop.rest h.loop.at h.loop.invariant.2,
+    asked.wanted_for-masks.ensures
+    ∙ ap₂ (λ b place. cond b (get_or row place (entry_of (0, 0))) (entry_of (0, 0))) (bit_is cells h.loop-at.rest h.loop-at.at h.loop-at.invariant.2) placed.cell_place.ensures.0 in (
+      gathered_one (λ i. (wanted i).f) 9 h.loop-at.invariant.0 t (ap (λ (m : FlagMasks). m.f) w) refl,
+      gathered_one (λ i. (wanted i).g) 9 h.loop-at.invariant.1 t (ap (λ (m : FlagMasks). m.g) w) refl,
+      halved cells h.loop-at.rest h.loop-at.at h.loop-at.invariant.2,
     )
 
 -- the entries of the code's row are those of the definition's: of F's masks, and of G's
@@ -104,28 +104,28 @@ module _ (part : FlagMasks → ℕ) (row : List (ℕ × ℕ)) (turned : Bool) (c
 returns : tie.Need-returns invariant_loop decreases_loop
 unfolding masks_for
 returns c =
-    let h = c.before.loop in
+    let h = c.loop-at in
     let told = c.before.before in
-    let coded = told.before.cell-masks in
-    let z = told.before.before.args in
+    let coded = told.cell_masks-row in
+    let z = told.args in
     let row = cell_masks_in z.scene in
-    let wanted = wanted_in coded.result told.is_turned.result z.cells in
-    let f = all_of (λ m. m.f) row told.is_turned.result z.cells coded.ensures (gathered_all (λ i. (wanted i).f) 9 h.invariant.0 (omega arith)) in
-    let g = all_of (λ m. m.g) row told.is_turned.result z.cells coded.ensures (gathered_all (λ i. (wanted i).g) 9 h.invariant.1 (omega arith)) in
-    rw (← told.is_turned.ensures) (λ i. record { f = f i; g = g i })
+    let wanted = wanted_in coded.result told.is_turned-turned.result z.cells in
+    let f = all_of (λ m. m.f) row told.is_turned-turned.result z.cells coded.ensures (gathered_all (λ i. (wanted i).f) 9 h.invariant.0 (omega arith)) in
+    let g = all_of (λ m. m.g) row told.is_turned-turned.result z.cells coded.ensures (gathered_all (λ i. (wanted i).g) 9 h.invariant.1 (omega arith)) in
+    rw (← told.is_turned-turned.ensures) (λ i. record { f = f i; g = g i })
 
-pub masks-of-cells-spec : {M : Type 1} → statement M
-masks-of-cells-spec =
+pub masks_of_cells_spec : {M : Type 1} → statement M
+masks_of_cells_spec =
     tie.close
     (tie.spec
     invariant_loop
     decreases_loop
-    cell-masks-requires
-    is-turned-requires
-    loop-holds
-    cell-place-requires
-    wanted-for-requires
-    add_at
-    loop-less
-    loop-again
+    cell_masks-row-requires
+    is_turned-turned-requires
+    loop-at-init
+    cell_place-requires
+    wanted_for-masks-requires
+    overflow_add-at
+    loop-at-smaller
+    loop-at-preserved
     returns)

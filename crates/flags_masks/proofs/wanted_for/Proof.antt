@@ -3,17 +3,17 @@ use borrow.Author.Rules.{rules}
 use Rattle.flags_masks.proofs.wanted_for.Statement.{statement}
 use Rattle.flags_masks.proofs.wanted_for.Tie as tie
 
-mul-result : tie.Need-overflow-mul-result
-mul-result c = search rules
+offset_bounds-row-place : tie.Need-offset_bounds-row-place
+offset_bounds-row-place c = search rules
 
-array-copy-out-result : tie.Need-array-copy-out-result
-array-copy-out-result c = search rules
+bounds-row-place : tie.Need-bounds-row-place
+bounds-row-place c = search rules
 
-returns : tie.Need-returns
-returns c = rw c.before.if1.true
+returns-then-asked : tie.Need-returns-then-asked
+returns-then-asked c = rw c.if-asked.true
 
-returns-2 : tie.Need-returns-2
-returns-2 c = rw c.if1.false
+returns-else-asked : tie.Need-returns-else-asked
+returns-else-asked c = rw c.if-asked.false
 
-pub wanted-for-spec : {M : Type 1} → statement M
-wanted-for-spec = tie.close (tie.spec mul-result array-copy-out-result returns returns-2)
+pub wanted_for_spec : {M : Type 1} → statement M
+wanted_for_spec = tie.close (tie.spec offset_bounds-row-place bounds-row-place returns-then-asked returns-else-asked)

@@ -9,5 +9,5 @@ returns : tie.Need-returns
 unfolding is_boundary odd
 returns c = refl
 
-pub is-bound-spec : {M : Type 1} → statement M
-is-bound-spec = tie.close (tie.spec returns)
+pub is_bound_spec : {M : Type 1} → statement M
+is_bound_spec = tie.close (tie.spec returns)

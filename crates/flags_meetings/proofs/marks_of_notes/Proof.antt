@@ -12,58 +12,58 @@ use Rattle.flags_meetings.specs.Keyed.{mark_of_note, marks_of_notes}
 use Rattle.flags_meetings.proofs.marks_of_notes.Statement.{statement}
 use Rattle.flags_meetings.proofs.marks_of_notes.Tie as tie
 
-abbrev invariant_loop : tie.invariant-loop
+abbrev invariant_loop : tie.invariant-loop-m
 invariant_loop notes i j marks₀ m₀ marks m = (i ≤ m) × (m ≤ j) × (bit_or marks (marks_of_notes notes m j) ≡ marks_of_notes notes i j)
 
-abbrev decreases_loop : tie.decreases-loop
+abbrev decreases_loop : tie.decreases-loop-m
 decreases_loop notes i j marks₀ m₀ marks m = j - m
 
 abbrev mark : List ℕ → ℕ → ℕ
 mark notes m = mark_of_note (get_or notes m 0)
 
-loop-holds : tie.Need-loop-init invariant_loop decreases_loop
-loop-holds c = (omega arith, c.before.requires.0, refl)
+loop-m-init : tie.Need-loop-m-init invariant_loop decreases_loop
+loop-m-init c = (omega arith, c.requires.0, refl)
 
-shared-slice-read-mark-of-note : tie.Need-shared-slice-read-mark-of-note invariant_loop decreases_loop
-shared-slice-read-mark-of-note c = omega arith
+bounds-notes-m : tie.Need-bounds-notes-m invariant_loop decreases_loop
+bounds-notes-m c = omega arith
 
-mark-of-note-requires : tie.Need-mark-of-note-requires invariant_loop decreases_loop
-mark-of-note-requires c κs = tt
+mark_of_note-marks-requires : tie.Need-mark_of_note-marks-requires invariant_loop decreases_loop
+mark_of_note-marks-requires c κs = tt
 
-add-m : tie.Need-overflow-add-m invariant_loop decreases_loop
-add-m c = omega arith
+overflow_add-m : tie.Need-overflow_add-m invariant_loop decreases_loop
+overflow_add-m c = omega arith
 
-loop-less : tie.Need-loop-smaller invariant_loop decreases_loop
-loop-less c = omega arith
+loop-m-smaller : tie.Need-loop-m-smaller invariant_loop decreases_loop
+loop-m-smaller c = omega arith
 
-loop-again : tie.Need-loop-preserved invariant_loop decreases_loop
-loop-again c =
+loop-m-preserved : tie.Need-loop-m-preserved invariant_loop decreases_loop
+loop-m-preserved c =
     let h = c.before.before.before in
-    let z = h.before.before.args in
-    let rest = marks_of_notes z.notes.now (h.loop.m + 1) z.j in (
+    let z = h.args in
+    let rest = marks_of_notes z.notes.now (h.loop-m.m + 1) z.j in (
       omega arith,
       omega arith,
-      or_assoc h.loop.marks c.mark-of-note.result rest
-          ∙ ap (bit_or h.loop.marks) (ap (λ x. bit_or x rest) c.mark-of-note.ensures ∙ sym (ap (gather (mark z.notes.now)) (between_next h.loop.m z.j c.before.before.loop-test.true)))
-          ∙ h.loop.invariant.2,
+      or_assoc h.loop-m.marks c.mark_of_note-marks.result rest
+          ∙ ap (bit_or h.loop-m.marks) (ap (λ x. bit_or x rest) c.mark_of_note-marks.ensures ∙ sym (ap (gather (mark z.notes.now)) (between_next h.loop-m.m z.j c.loop-m-test.true)))
+          ∙ h.loop-m.invariant.2,
     )
 
 returns : tie.Need-returns invariant_loop decreases_loop
 returns c =
-    let h = c.before.loop in
-    let z = c.before.before.before.args in
+    let h = c.loop-m in
+    let z = c.args in
     sym (or_zero_r h.marks) ∙ ap (λ l. bit_or h.marks (gather (mark z.notes.now) l)) (sym (between_none h.m z.j (omega arith))) ∙ h.invariant.2
 
-pub marks-of-notes-spec : {M : Type 1} → statement M
-marks-of-notes-spec =
+pub marks_of_notes_spec : {M : Type 1} → statement M
+marks_of_notes_spec =
     tie.close
     (tie.spec
     invariant_loop
     decreases_loop
-    loop-holds
-    shared-slice-read-mark-of-note
-    mark-of-note-requires
-    add-m
-    loop-less
-    loop-again
+    loop-m-init
+    bounds-notes-m
+    mark_of_note-marks-requires
+    overflow_add-m
+    loop-m-smaller
+    loop-m-preserved
     returns)

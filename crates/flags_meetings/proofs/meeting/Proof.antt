@@ -40,7 +40,7 @@ module _ (notes : List ℕ) (i j b : ℕ) (on : i ≤ j) (some : j - i ≡ 0 →
       ∙ sym (ap (bit_or (gather (λ m. marks_of_f (j - i) b (get_or notes m 0)) (between i j))) of_f_alone ∙ or_zero_r (gather (λ m. marks_of_f (j - i) b (get_or notes m 0)) (between i j)))
 
 -- what is known once the boundary rule has answered
-module _ (d : tie.After-is-bound2) where
+module _ (d : tie.After-is_bound-bound_g) where
   abbrev z : tie.Start
   z = d.before.before.before
 
@@ -50,16 +50,16 @@ module _ (d : tie.After-is-bound2) where
   abbrev b : ℕ
   b = z.args.b
 
-  in_f : {x : Bool} → d.before.is_bound.result ≡ x → is_boundary a ≡ x
-  in_f e = sym d.before.is_bound.ensures ∙ e
+  in_f : {x : Bool} → d.is_bound-bound_f.result ≡ x → is_boundary a ≡ x
+  in_f e = sym d.is_bound-bound_f.ensures ∙ e
 
-  in_g : {x : Bool} → d.is-bound2.result ≡ x → is_boundary b ≡ x
-  in_g e = sym d.is-bound2.ensures ∙ e
+  in_g : {x : Bool} → d.is_bound-bound_g.result ≡ x → is_boundary b ≡ x
+  in_g e = sym d.is_bound-bound_g.ensures ∙ e
 
   -- of elements of F, with the point's kind in F and in G
   module _ (some : a ≡ 0 → ⊥) where
     alike_here : (x : ℕ) → ((n : ℕ) → marks_of_f a b n ≡ x) → x ≡ marks z.args.notes.now z.args.i z.args.j b
-    alike_here = alike z.args.notes.now z.args.i z.args.j b z.pre.0 some
+    alike_here = alike z.args.notes.now z.args.i z.args.j b z.requires.0 some
 
     of_both_lem : {x y : Bool} → (b ≡ 0 → ⊥) → is_boundary a ≡ x → is_boundary b ≡ y
         → pack (false ∷ false ∷ false ∷ (x && y) ∷ (x && not y) ∷ (not x && y) ∷ (not x && not y) ∷ []) ≡ marks z.args.notes.now z.args.i z.args.j b
@@ -68,71 +68,71 @@ module _ (d : tie.After-is-bound2) where
         let g = there b h in
         alike_here (pack (false ∷ false ∷ false ∷ (x && y) ∷ (x && not y) ∷ (not x && y) ∷ (not x && not y) ∷ [])) (λ n. simp (f.1, g.0, g.1, e, q, and-false))
 
-sub-a : tie.Need-overflow-sub-a
-sub-a c = search rules
+overflow_sub-a : tie.Need-overflow_sub-a
+overflow_sub-a c = search rules
 
-is-bound-requires : tie.Need-is-bound-requires
-is-bound-requires c κs = search rules
+is_bound-bound_f-requires : tie.Need-is_bound-bound_f-requires
+is_bound-bound_f-requires c κs = search rules
 
-is-bound-requires-2 : tie.Need-is-bound-requires-2
-is-bound-requires-2 c κs = search rules
+is_bound-bound_g-requires : tie.Need-is_bound-bound_g-requires
+is_bound-bound_g-requires c κs = search rules
 
-marks-of-notes-requires : tie.Need-marks-of-notes-requires
-marks-of-notes-requires c κs = search rules
+marks_of_notes-requires : tie.Need-marks_of_notes-requires
+marks_of_notes-requires c κs = search rules
 
-returns : tie.Need-returns
-returns c = let d = c.before.before in simp (c.before.if1.true, in_g d c.if2.true)
+returns-then-bound_g : tie.Need-returns-then-bound_g
+returns-then-bound_g c = let d = c.before.before in simp (c.if-a-eq0.true, in_g d c.if-bound_g.true)
 
-returns-2 : tie.Need-returns-2
-returns-2 c = let d = c.before.before in simp (c.before.if1.true, in_g d c.if2.false)
+returns-else-bound_g : tie.Need-returns-else-bound_g
+returns-else-bound_g c = let d = c.before.before in simp (c.if-a-eq0.true, in_g d c.if-bound_g.false)
 
-returns-3 : tie.Need-returns-3
-returns-3 c =
+returns-then-bound_f : tie.Need-returns-then-bound_f
+returns-then-bound_f c =
     let d = c.before.before.before.before in
     let k = (z d).args in
-    let some = c.before.before.before.if1.false in
-    c.marks-of-notes.ensures
-    ∙ by_notes k.notes.now k.i k.j k.b (z d).requires.0 some (λ n. simp ((there (a d) some).1, c.before.before.if3.true, boundary_none, in_f d c.before.if4.true))
+    let some = c.if-a-eq0.false in
+    c.marks_of_notes.ensures
+    ∙ by_notes k.notes.now k.i k.j k.b (z d).requires.0 some (λ n. simp ((there (a d) some).1, c.if-b-eq0.true, boundary_none, in_f d c.if-bound_f.true))
 
-returns-4 : tie.Need-returns-4
-returns-4 c =
+returns-else-bound_f : tie.Need-returns-else-bound_f
+returns-else-bound_f c =
     let d = c.before.before.before in
-    let some = c.before.before.if1.false in
-    alike_here d some 0 (λ n. simp ((there (a d) some).1, c.before.if3.true, boundary_none, in_f d c.if4.false))
+    let some = c.if-a-eq0.false in
+    alike_here d some 0 (λ n. simp ((there (a d) some).1, c.if-b-eq0.true, boundary_none, in_f d c.if-bound_f.false))
 
-returns-5 : tie.Need-returns-5
-returns-5 c =
+returns-then-bound_g-2 : tie.Need-returns-then-bound_g-2
+returns-then-bound_g-2 c =
     let d = c.before.before.before.before in
-    of_both_lem d c.before.before.before.if1.false c.before.before.if3.false (in_f d c.before.if5.true) (in_g d c.if6.true)
+    of_both_lem d c.if-a-eq0.false c.if-b-eq0.false (in_f d c.if-bound_f-2.true) (in_g d c.if-bound_g-2.true)
 
-returns-6 : tie.Need-returns-6
-returns-6 c =
+returns-else-bound_g-2 : tie.Need-returns-else-bound_g-2
+returns-else-bound_g-2 c =
     let d = c.before.before.before.before in
-    of_both_lem d c.before.before.before.if1.false c.before.before.if3.false (in_f d c.before.if5.true) (in_g d c.if6.false)
+    of_both_lem d c.if-a-eq0.false c.if-b-eq0.false (in_f d c.if-bound_f-2.true) (in_g d c.if-bound_g-2.false)
 
-returns-7 : tie.Need-returns-7
-returns-7 c =
+returns-then-bound_g-3 : tie.Need-returns-then-bound_g-3
+returns-then-bound_g-3 c =
     let d = c.before.before.before.before in
-    of_both_lem d c.before.before.before.if1.false c.before.before.if3.false (in_f d c.before.if5.false) (in_g d c.if7.true)
+    of_both_lem d c.if-a-eq0.false c.if-b-eq0.false (in_f d c.if-bound_f-2.false) (in_g d c.if-bound_g-3.true)
 
-returns-8 : tie.Need-returns-8
-returns-8 c =
+returns-else-bound_g-3 : tie.Need-returns-else-bound_g-3
+returns-else-bound_g-3 c =
     let d = c.before.before.before.before in
-    of_both_lem d c.before.before.before.if1.false c.before.before.if3.false (in_f d c.before.if5.false) (in_g d c.if7.false)
+    of_both_lem d c.if-a-eq0.false c.if-b-eq0.false (in_f d c.if-bound_f-2.false) (in_g d c.if-bound_g-3.false)
 
-pub meeting-spec : {M : Type 1} → statement M
-meeting-spec =
+pub meeting_spec : {M : Type 1} → statement M
+meeting_spec =
     tie.close
     (tie.spec
-    sub-a
-    is-bound-requires
-    is-bound-requires-2
-    marks-of-notes-requires
-    returns
-    returns-2
-    returns-3
-    returns-4
-    returns-5
-    returns-6
-    returns-7
-    returns-8)
+    overflow_sub-a
+    is_bound-bound_f-requires
+    is_bound-bound_g-requires
+    marks_of_notes-requires
+    returns-then-bound_g
+    returns-else-bound_g
+    returns-then-bound_f
+    returns-else-bound_f
+    returns-then-bound_g-2
+    returns-else-bound_g-2
+    returns-then-bound_g-3
+    returns-else-bound_g-3)

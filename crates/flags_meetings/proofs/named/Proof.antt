@@ -17,5 +17,5 @@ returns c =
       bound_of_g = test_bit m 7 i;
     }
 
-pub named-spec : {M : Type 1} → statement M
-named-spec = tie.close (tie.spec returns)
+pub named_spec : {M : Type 1} → statement M
+named_spec = tie.close (tie.spec returns)

@@ -14,47 +14,47 @@ use Rattle.flags_meetings.specs.Keyed.{Reached}
 use Rattle.flags_meetings.proofs.pass.Statement.{statement}
 use Rattle.flags_meetings.proofs.pass.Tie as tie
 
-abbrev invariant_loop : tie.invariant-loop
+abbrev invariant_loop : tie.invariant-loop-key
 invariant_loop s l step k index₀ at₀ key₀ index at key =
     Reached s l (record { index = index; at = at; key = key }) × (index₀ ≤ index) × ((m : ℕ) → index₀ ≤ m → m < index → next_key s l m ≡ k)
 
-abbrev decreases_loop : tie.decreases-loop
+abbrev decreases_loop : tie.decreases-loop-key
 decreases_loop s l step k index₀ at₀ key₀ index at key = l.count - index
 
 -- a turn
-module _ (c : tie.In-loop invariant_loop decreases_loop) where
+module _ (c : tie.In-loop-key invariant_loop decreases_loop) where
   abbrev z : tie.Start invariant_loop decreases_loop
   z = c.before.before.before
 
-  here : next_key z.args.s.now z.args.l c.before.loop.index ≡ z.args.k
-  here = sym c.before.loop.invariant.0.key_is ∙ c.loop-test.true
+  here : next_key z.args.s.now z.args.l c.loop-key.index ≡ z.args.k
+  here = sym c.loop-key.invariant.0.key_is ∙ c.loop-key-test.true
 
-  more : c.before.loop.index < z.args.l.count
-  more = next_low z.args.l.count (keys z.args.s.now z.args.l) c.before.loop.index (omega (arith, here, z.pre.3))
+  more : c.loop-key.index < z.args.l.count
+  more = next_low z.args.l.count (keys z.args.s.now z.args.l) c.loop-key.index (omega (arith, here, z.requires.3))
 
-  pub next_at : c.before.loop.at + z.args.step ≡ place z.args.l (c.before.loop.index + 1)
-  next_at = omega (arith, c.before.loop.invariant.0.stands, z.pre.1)
+  pub next_at : c.loop-key.at + z.args.step ≡ place z.args.l (c.loop-key.index + 1)
+  next_at = omega (arith, c.loop-key.invariant.0.stands, z.requires.1)
 
-loop-holds : tie.Need-loop-init invariant_loop decreases_loop
-loop-holds c = (c.before.requires.2, omega arith, λ m a b. absurd (omega arith))
+loop-key-init : tie.Need-loop-key-init invariant_loop decreases_loop
+loop-key-init c = (c.requires.2, omega arith, λ m a b. absurd (omega arith))
 
-add-index : tie.Need-overflow-add-index invariant_loop decreases_loop
-add-index c = omega (arith, more c, (taken_object (z c).args.s.now (z c).args.l.start (z c).args.l (z c).requires.0).few)
+overflow_add-index : tie.Need-overflow_add-index invariant_loop decreases_loop
+overflow_add-index c = omega (arith, more c, (taken_object (z c).args.s.now (z c).args.l.start (z c).args.l (z c).requires.0).few)
 
-add_at : tie.Need-overflow-add-at invariant_loop decreases_loop
-add_at c = omega (arith, c.before.loop.invariant.0.stands, (z c).requires.1, fits (z c).args.s.now (z c).args.l (z c).requires.0 c.before.loop.index (more c))
+overflow_add-at : tie.Need-overflow_add-at invariant_loop decreases_loop
+overflow_add-at c = omega (arith, c.loop-key.invariant.0.stands, (z c).requires.1, fits (z c).args.s.now (z c).args.l (z c).requires.0 c.loop-key.index (more c))
 
-key-of-requires : tie.Need-key-of-requires invariant_loop decreases_loop
-key-of-requires c κs = ((z c).requires.0, next_at c)
+key_of-key-requires : tie.Need-key_of-key-requires invariant_loop decreases_loop
+key_of-key-requires c κs = ((z c).requires.0, next_at c)
 
-loop-less : tie.Need-loop-smaller invariant_loop decreases_loop
-loop-less c = omega (arith, more c.before)
+loop-key-smaller : tie.Need-loop-key-smaller invariant_loop decreases_loop
+loop-key-smaller c = omega (arith, more c.before)
 
-loop-again : tie.Need-loop-preserved invariant_loop decreases_loop
-loop-again c =
+loop-key-preserved : tie.Need-loop-key-preserved invariant_loop decreases_loop
+loop-key-preserved c =
     let d = c.before in
-    let h = d.before.loop in (
-      record { few = omega (arith, more d); stands = next_at d; key_is = c.key_of.ensures },
+    let h = d.loop-key in (
+      record { few = omega (arith, more d); stands = next_at d; key_is = c.key_of-key.ensures },
       omega (arith, h.invariant.1),
       λ m a b. ⊎_elim (λ e. ap (next_key (z d).args.s.now (z d).args.l) e ∙ here d) (h.invariant.2 m a) (last m h.index b),
     )
@@ -64,8 +64,8 @@ loop-again c =
 
 returns : tie.Need-returns invariant_loop decreases_loop
 returns c =
-    let h = c.before.loop in
-    (h.invariant.0, record { on = h.invariant.1; same = h.invariant.2; other = λ e. c.loop-test.false (h.invariant.0.key_is ∙ e) })
+    let h = c.loop-key in
+    (h.invariant.0, record { on = h.invariant.1; same = h.invariant.2; other = λ e. c.loop-key-test.false (h.invariant.0.key_is ∙ e) })
 
 pub pass_spec : {M : Type 1} → statement M
 pass_spec =
@@ -73,10 +73,10 @@ pass_spec =
     (tie.spec
     invariant_loop
     decreases_loop
-    loop-holds
-    add-index
-    add_at
-    key-of-requires
-    loop-less
-    loop-again
+    loop-key-init
+    overflow_add-index
+    overflow_add-at
+    key_of-key-requires
+    loop-key-smaller
+    loop-key-preserved
     returns)

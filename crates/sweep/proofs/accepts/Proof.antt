@@ -15,20 +15,20 @@ use Rattle.sweep.proofs.accepts.Statement.{statement}
 use Rattle.sweep.proofs.accepts.Tie as tie
 
 -- the regions end evenly
-module _ (c : tie.Else1) where
+module _ (c : tie.Else-not-regions_end_evenly) where
   abbrev z : tie.Start
   z = c.before.before.before.before
 
   evenly : RegionsEndEvenly z.args.s.now z.args.scene
-  evenly = accepted c.before.regions-end-evenly.ensures c.if1.false
+  evenly = accepted c.regions_end_evenly.ensures c.if-not-regions_end_evenly.false-raw
 
 -- F has points, and G segments
-module _ (c : tie.Then2) where
+module _ (c : tie.Then-has_points) where
   abbrev y : tie.Start
   y = z c.before.before
 
   tests : T (not (has_segments y.args.scene.f.shape) && has_segments y.args.scene.g.shape)
-  tests = is_true _ (sym c.before.has-points.ensures ∙ c.if2.true)
+  tests = is_true _ (sym c.has_points.ensures ∙ c.if-has_points.true)
 
   points : y.args.scene.f.shape ≡ Points
   points = no_segments_points y.args.scene.f.shape (false_is (has_segments y.args.scene.f.shape) (and_left (not (has_segments y.args.scene.f.shape)) (has_segments y.args.scene.g.shape) tests))
@@ -37,7 +37,7 @@ module _ (c : tie.Then2) where
   lines = and_right (not (has_segments y.args.scene.f.shape)) (has_segments y.args.scene.g.shape) tests
 
 -- or not
-module _ (c : tie.Else2) where
+module _ (c : tie.Else-has_points) where
   abbrev x : tie.Start
   x = z c.before.before
 
@@ -45,68 +45,68 @@ module _ (c : tie.Else2) where
   none e h =
       true≢false
       (sym (true_is _ (and_make (not (has_segments x.args.scene.f.shape)) (has_segments x.args.scene.g.shape) (is_false (has_segments x.args.scene.f.shape) (ap has_segments e)) h))
-      ∙ sym c.before.has-points.ensures ∙ c.if2.false)
+      ∙ sym c.has_points.ensures ∙ c.if-has_points.false)
 
-regions-end-evenly-requires : tie.Need-regions-end-evenly-requires
-regions-end-evenly-requires c κs = search rules
+regions_end_evenly-requires : tie.Need-regions_end_evenly-requires
+regions_end_evenly-requires c κs = search rules
 
-returns : tie.Need-returns
-returns c =
+returns-then-not-regions_end_evenly : tie.Need-returns-then-not-regions_end_evenly
+returns-then-not-regions_end_evenly c =
     let f = c.before in
     let z = f.before.before.before in (
       refl,
-      no (λ pass. refused f.regions-end-evenly.result c.if1.true (f.regions-end-evenly.ensures.complete (regions_end_evenly z.args.s.now z.args.scene z.requires.0 z.requires.1 pass))),
+      no (λ pass. refused f.regions_end_evenly.result c.if-not-regions_end_evenly.true-raw (f.regions_end_evenly.ensures.complete (regions_end_evenly z.args.s.now z.args.scene z.requires.0 z.requires.1 pass))),
       λ t. absurd t,
     )
 
-has-points-requires : tie.Need-has-points-requires
-has-points-requires c κs = search rules
+has_points-requires : tie.Need-has_points-requires
+has_points-requires c κs = search rules
 
-slice-aggregate-run-points : tie.Need-slice-aggregate-run-points
-slice-aggregate-run-points c = search rules
+slice_bounds-run_points-end : tie.Need-slice_bounds-run_points-end
+slice_bounds-run_points-end c = search rules
 
-run-points-requires : tie.Need-run-points-requires
-run-points-requires c κs = let b = c.before.before in ((y b).requires.0, (y b).requires.1, points b, lines b, evenly b.before.before, le_refl 1024, (y b).requires.2)
+run_points-requires : tie.Need-run_points-requires
+run_points-requires c κs = let b = c.before.before in ((y b).requires.0, (y b).requires.1, points b, lines b, evenly b.before.before, le_refl 1024, (y b).requires.2)
 
-slice-aggregate-run-events : tie.Need-slice-aggregate-run-events
-slice-aggregate-run-events c = search rules
+slice_bounds-run_events-end : tie.Need-slice_bounds-run_events-end
+slice_bounds-run_events-end c = search rules
 
-run-events-requires : tie.Need-run-events-requires
-run-events-requires c κs =
+run_events-requires : tie.Need-run_events-requires
+run_events-requires c κs =
     let b = c.before.before in
     let p = (x b).requires in
     (p.0, p.1, evenly b.before.before, le_refl 1024, p.2)
 
-same_length : tie.Need-same-length
-same_length c = search rules
+shape_of-notes-then-has_points : tie.Need-shape_of-notes-then-has_points
+shape_of-notes-then-has_points c = search rules
 
-returns-2 : tie.Need-returns-2
-returns-2 c = let r = c.before.before.before.run-points.ensures in (r.1, r.2, r.3)
+returns-then-has_points : tie.Need-returns-then-has_points
+returns-then-has_points c = let r = c.run_points.ensures in (r.1, r.2, r.3)
 
-same-length-2 : tie.Need-same-length-2
-same-length-2 c = search rules
+shape_of-notes-else-has_points : tie.Need-shape_of-notes-else-has_points
+shape_of-notes-else-has_points c = search rules
 
-returns-3 : tie.Need-returns-3
-returns-3 c =
+returns-else-has_points : tie.Need-returns-else-has_points
+returns-else-has_points c =
     let r = c.before.before.before in
     let b = r.before.before.before in (
-      r.run-events.ensures.1,
-      r.run-events.ensures.2,
-      λ t. record { of_segments = r.run-events.ensures.3 t; of_points = λ e h. absurd (none b e h) },
+      r.run_events.ensures.1,
+      r.run_events.ensures.2,
+      λ t. record { of_segments = r.run_events.ensures.3 t; of_points = λ e h. absurd (none b e h) },
     )
 
-pub accepts-spec : {M : Type 1} → statement M
-accepts-spec =
+pub accepts_spec : {M : Type 1} → statement M
+accepts_spec =
     tie.close
     (tie.spec
-    regions-end-evenly-requires
-    returns
-    has-points-requires
-    slice-aggregate-run-points
-    run-points-requires
-    slice-aggregate-run-events
-    run-events-requires
-    same_length
-    returns-2
-    same-length-2
-    returns-3)
+    regions_end_evenly-requires
+    returns-then-not-regions_end_evenly
+    has_points-requires
+    slice_bounds-run_points-end
+    run_points-requires
+    slice_bounds-run_events-end
+    run_events-requires
+    shape_of-notes-then-has_points
+    returns-then-has_points
+    shape_of-notes-else-has_points
+    returns-else-has_points)

@@ -8,16 +8,16 @@ use Rattle.sweep.proofs.key_after.Tie as tie
 place-requires : tie.Need-place-requires
 place-requires c κs =
     let z = c.before.before in
-    omega (arith, place_fits z.args.l z.args.i z.requires.1, object_fits z.args.s.now z.args.l z.requires.0, z.well-formed)
+    omega (arith, place_fits z.args.l z.args.i z.requires.1, object_fits z.args.s.now z.args.l z.requires.0, z.well_formed)
 
-key-of-requires : tie.Need-key-of-requires
-key-of-requires c κs = (c.before.before.before.requires.0, c.place.ensures)
+key_of-requires : tie.Need-key_of-requires
+key_of-requires c κs = (c.requires.0, c.place.ensures)
 
-returns : tie.Need-returns
-returns c = search rules
+returns-then-stepped : tie.Need-returns-then-stepped
+returns-then-stepped c = search rules
 
-returns-2 : tie.Need-returns-2
-returns-2 c = c.before.before.requires.2 c.if1.false
+returns-else-stepped : tie.Need-returns-else-stepped
+returns-else-stepped c = c.requires.2 c.if-stepped.false
 
-pub key-after-spec : {M : Type 1} → statement M
-key-after-spec = tie.close (tie.spec place-requires key-of-requires returns returns-2)
+pub key_after_spec : {M : Type 1} → statement M
+key_after_spec = tie.close (tie.spec place-requires key_of-requires returns-then-stepped returns-else-stepped)

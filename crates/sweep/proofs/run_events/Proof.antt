@@ -32,249 +32,249 @@ use Rattle.sweep.proofs.Next.{total_within}
 use Rattle.sweep.proofs.run_events.Statement.{statement}
 use Rattle.sweep.proofs.run_events.Tie as tie
 
-abbrev invariant_loop : tie.invariant-loop
+abbrev invariant_loop : tie.invariant-loop-i
 invariant_loop s scene status₀ notes₀ f g all i₀ j₀ n₀ hint₀ key-f₀ key-g₀ status notes i j n hint key_f_lem key_g_lem =
     (length status ≡ length status₀) × (length notes ≡ length notes₀) × (i ≤ total s scene true) × (j ≤ total s scene false) × (n ≤ length status)
-    × Run s scene i j (take n status) × AllNoted s scene i j (take n status) notes × (key_f_lem ≡ next_key s scene.f i) × (key_g_lem ≡ next_key s scene.g j)
+    × Run s scene i j (take n status) × AllNoted s scene i j (take n status) notes × (key_f_lem ≡ next_key s scene.f i) × (key_g_lem ≡ next_key s scene.g-1 j)
     × After s scene i j × (Passes s scene → AllEndLater s scene i j (take n status))
 
-abbrev decreases_loop : tie.decreases-loop
+abbrev decreases_loop : tie.decreases-loop-i
 decreases_loop s scene status₀ notes₀ f g all i₀ j₀ n₀ hint₀ key-f₀ key-g₀ status notes i j n hint key_f_lem key_g_lem = total s scene true + total s scene false - (i + j)
 
 -- the loop's test
-module _ (d : tie.At-loop invariant_loop decreases_loop) where
+module _ (d : tie.At-loop-i invariant_loop decreases_loop) where
   abbrev z : tie.Start invariant_loop decreases_loop
   z = d.before.before.before.before.before.before.before.before.before.before
 
   abbrev start : Orderly z.args.s.now z.args.scene
-  start = orderly z.args.s.now z.args.scene z.pre.0 z.pre.1
+  start = orderly z.args.s.now z.args.scene z.requires.0 z.requires.1
 
   few : (first : Bool) → total z.args.s.now z.args.scene first ≤ 1024
-  few = few_events z.args.s.now z.args.scene z.pre.0
+  few = few_events z.args.s.now z.args.scene z.requires.0
 
-  reached_within : (b : Bool) → reached z.args.s.now z.args.scene d.loop.i d.loop.j b ≤ total z.args.s.now z.args.scene b
-  reached_within = both_within z.args.s.now z.args.scene start d.loop.i d.loop.j d.loop.inv.2 d.loop.inv.3
+  reached_within : (b : Bool) → reached z.args.s.now z.args.scene d.loop-i.i d.loop-i.j b ≤ total z.args.s.now z.args.scene b
+  reached_within = both_within z.args.s.now z.args.scene start d.loop-i.i d.loop-i.j d.loop-i.invariant.2 d.loop-i.invariant.3
 
-  room : 2048 ≤ length d.loop.notes
-  room = omega (arith, d.loop.inv.1, z.pre.4)
+  room : 2048 ≤ length d.loop-i.notes
+  room = omega (arith, d.loop-i.invariant.1, z.requires.4)
 
 -- an event is chosen
-module _ (c : tie.After-next-of invariant_loop decreases_loop) where
-  abbrev d : tie.At-loop invariant_loop decreases_loop
+module _ (c : tie.After-next_of-k invariant_loop decreases_loop) where
+  abbrev d : tie.At-loop-i invariant_loop decreases_loop
   d = c.before.before.before
 
   abbrev y : tie.Start invariant_loop decreases_loop
   y = z d
 
-  left : d.loop.i + d.loop.j < total y.args.s.now y.args.scene true + total y.args.s.now y.args.scene false
-  left = omega (arith, d.before.before.before.before.event-count.ensures, d.before.before.before.event-count2.ensures)
+  left : d.loop-i.i + d.loop-i.j < total y.args.s.now y.args.scene true + total y.args.s.now y.args.scene false
+  left = omega (arith, d.event_count.ensures, d.event_count-2.ensures)
 
-  it : Chosen y.args.s.now y.args.scene (start d) d.loop.i d.loop.j c.before.takes_first.result
+  it : Chosen y.args.s.now y.args.scene (start d) d.loop-i.i d.loop-i.j c.takes_first-first.result
   it =
-      chosen y.args.s.now y.args.scene (start d) d.loop.i d.loop.j d.loop.inv.2 left c.before.takes_first.result
-      (sym c.before.takes_first.ensures)
+      chosen y.args.s.now y.args.scene (start d) d.loop-i.i d.loop-i.j d.loop-i.invariant.2 left c.takes_first-first.result
+      (sym c.takes_first-first.ensures)
 
-  its_index : reached y.args.s.now y.args.scene d.loop.i d.loop.j c.before.takes_first.result ≡ c.next_of.result
-  its_index = go c.before.takes_first.result ∙ sym c.next_of.ensures
+  its_index : reached y.args.s.now y.args.scene d.loop-i.i d.loop-i.j c.takes_first-first.result ≡ c.next_of-k.result
+  its_index = go c.takes_first-first.result ∙ sym c.next_of-k.ensures
     where
-      go : (b : Bool) → reached y.args.s.now y.args.scene d.loop.i d.loop.j b ≡ cond b d.loop.i d.loop.j
+      go : (b : Bool) → reached y.args.s.now y.args.scene d.loop-i.i d.loop-i.j b ≡ cond b d.loop-i.i d.loop-i.j
       go true = refl
       go false = refl
 
-  first_one : Earliest y.args.s.now y.args.scene d.loop.i d.loop.j c.before.takes_first.result
+  first_one : Earliest y.args.s.now y.args.scene d.loop-i.i d.loop-i.j c.takes_first-first.result
   first_one =
-      earliest y.args.s.now y.args.scene (start d) (rises y.args.s.now y.args.scene y.pre.0 y.pre.1) d.loop.i d.loop.j c.before.takes_first.result it.more
-      (sym c.before.takes_first.ensures)
+      earliest y.args.s.now y.args.scene (start d) (rises y.args.s.now y.args.scene y.requires.0 y.requires.1) d.loop-i.i d.loop-i.j c.takes_first-first.result it.more
+      (sym c.takes_first-first.ensures)
 
   -- where 11 to 15 find no fault, its tests hold, and there is room
   module _ (pass : Passes y.args.s.now y.args.scene) where
-    can : CanTake y.args.s.now y.args.scene c.before.takes_first.result c.next_of.result (take d.loop.n d.loop.status)
+    can : CanTake y.args.s.now y.args.scene c.takes_first-first.result c.next_of-k.result (take d.loop-i.n d.loop-i.status-1)
     can =
-        subst (λ (k : ℕ). CanTake y.args.s.now y.args.scene c.before.takes_first.result k (take d.loop.n d.loop.status)) its_index
-        (goes_on y.args.s.now y.args.scene y.pre.0 y.pre.1 pass d.loop.inv.5 (d.loop.inv.10 pass) c.before.takes_first.result it (reached_within d) d.loop.inv.9 first_one)
+        subst (λ (k : ℕ). CanTake y.args.s.now y.args.scene c.takes_first-first.result k (take d.loop-i.n d.loop-i.status-1)) its_index
+        (goes_on y.args.s.now y.args.scene y.requires.0 y.requires.1 pass d.loop-i.invariant.5 (d.loop-i.invariant.10 pass) c.takes_first-first.result it (reached_within d) d.loop-i.invariant.9 first_one)
 
-    has_room : is_beginning y.args.s.now y.args.scene c.before.takes_first.result c.next_of.result ≡ true → d.loop.n < length d.loop.status
+    has_room : is_beginning y.args.s.now y.args.scene c.takes_first-first.result c.next_of-k.result ≡ true → d.loop-i.n < length d.loop-i.status-1
     has_room e =
         omega (
           arith,
-          GoesOn.room y.args.s.now y.args.scene y.pre.0 y.pre.1 pass d.loop.inv.5 (d.loop.inv.10 pass) c.before.takes_first.result it (reached_within d)
-              (subst (λ (k : ℕ). is_beginning y.args.s.now y.args.scene c.before.takes_first.result k ≡ true) (sym its_index) e),
-          length-take-le d.loop.n d.loop.status d.loop.inv.4,
-          d.loop.inv.0,
-          y.pre.3,
+          GoesOn.room y.args.s.now y.args.scene y.requires.0 y.requires.1 pass d.loop-i.invariant.5 (d.loop-i.invariant.10 pass) c.takes_first-first.result it (reached_within d)
+              (subst (λ (k : ℕ). is_beginning y.args.s.now y.args.scene c.takes_first-first.result k ≡ true) (sym its_index) e),
+          length-take-le d.loop-i.n d.loop-i.status-1 d.loop-i.invariant.4,
+          d.loop-i.invariant.0,
+          y.requires.3,
         )
 
-  within : c.next_of.result < total y.args.s.now y.args.scene c.before.takes_first.result
-  within = subst (λ (k : ℕ). k < total y.args.s.now y.args.scene c.before.takes_first.result) its_index it.more
+  within : c.next_of-k.result < total y.args.s.now y.args.scene c.takes_first-first.result
+  within = subst (λ (k : ℕ). k < total y.args.s.now y.args.scene c.takes_first-first.result) its_index it.more
 
-  short : c.next_of.result < 1024
-  short = omega (arith, within, few d c.before.takes_first.result)
+  short : c.next_of-k.result < 1024
+  short = omega (arith, within, few d c.takes_first-first.result)
 
 -- and taken
-module _ (c : tie.After-known-told invariant_loop decreases_loop) where
-  abbrev e : tie.After-next-of invariant_loop decreases_loop
+module _ (c : tie.In-On invariant_loop decreases_loop) where
+  abbrev e : tie.After-next_of-k invariant_loop decreases_loop
   e = c.before.before.before.before.before.before.before.before
 
   abbrev new : List ℕ
-  new = c.before.before.before.before.before.take-event.new.1.1.1.1.0
+  new = c.take_event.new.1.1.1.1.0
 
   abbrev m : ℕ
-  m = c.before.m.given.0.0
+  m = c.in-On.m
 
   abbrev v : ℕ
-  v = c.before.m.given.0.1.0
+  v = c.in-On.v
 
   done : (m ≤ length new)
-      × Taken (y e).args.s.now (y e).args.scene e.before.takes_first.result e.next_of.result (d e).loop.notes (take (d e).loop.n (d e).loop.status) (take m new) v
-  done = c.before.before.before.before.before.take-event.ensures.1.done m v c.before.m.given.0.1.1.0 c.before.m.given.1
+      × Taken (y e).args.s.now (y e).args.scene e.takes_first-first.result e.next_of-k.result (d e).loop-i.notes (take (d e).loop-i.n (d e).loop-i.status-1) (take m new) v
+  done = c.take_event.ensures.1.done m v c.in-On.h c.in-On.is
 
-  on : ((d e).loop.i + bool_byte e.before.takes_first.result ≤ total (y e).args.s.now (y e).args.scene true)
-      × ((d e).loop.j + bool_byte (not e.before.takes_first.result) ≤ total (y e).args.s.now (y e).args.scene false)
-      × ((d e).loop.i + bool_byte e.before.takes_first.result + ((d e).loop.j + bool_byte (not e.before.takes_first.result)) ≡ (d e).loop.i + (d e).loop.j + 1)
-  on = further (y e).args.s.now (y e).args.scene (start (d e)) (d e).loop.i (d e).loop.j e.before.takes_first.result (it e) (d e).loop.inv.2 (d e).loop.inv.3
+  on : ((d e).loop-i.i + bool_byte e.takes_first-first.result ≤ total (y e).args.s.now (y e).args.scene true)
+      × ((d e).loop-i.j + bool_byte (not e.takes_first-first.result) ≤ total (y e).args.s.now (y e).args.scene false)
+      × ((d e).loop-i.i + bool_byte e.takes_first-first.result + ((d e).loop-i.j + bool_byte (not e.takes_first-first.result)) ≡ (d e).loop-i.i + (d e).loop-i.j + 1)
+  on = further (y e).args.s.now (y e).args.scene (start (d e)) (d e).loop-i.i (d e).loop-i.j e.takes_first-first.result (it e) (d e).loop-i.invariant.2 (d e).loop-i.invariant.3
 
 -- and noted
 module _ (c : tie.After-slot invariant_loop decreases_loop) where
-  abbrev told : tie.After-known-told invariant_loop decreases_loop
+  abbrev told : tie.In-On invariant_loop decreases_loop
   told = c.before
 
-  abbrev x : tie.After-next-of invariant_loop decreases_loop
+  abbrev x : tie.After-next_of-k invariant_loop decreases_loop
   x = e told
 
-  slot_is : slot x.before.takes_first.result (reached (y x).args.s.now (y x).args.scene (d x).loop.i (d x).loop.j x.before.takes_first.result) ≡ c.slot.result
-  slot_is = ap (slot x.before.takes_first.result) (its_index x) ∙ sym c.slot.ensures
+  slot_is : slot x.takes_first-first.result (reached (y x).args.s.now (y x).args.scene (d x).loop-i.i (d x).loop-i.j x.takes_first-first.result) ≡ c.slot.result
+  slot_is = ap (slot x.takes_first-first.result) (its_index x) ∙ sym c.slot.ensures
 
-  event : Taken (y x).args.s.now (y x).args.scene x.before.takes_first.result (reached (y x).args.s.now (y x).args.scene (d x).loop.i (d x).loop.j x.before.takes_first.result) (d x).loop.notes (take (d x).loop.n (d x).loop.status) (take (m told) (new told)) (v told)
+  event : Taken (y x).args.s.now (y x).args.scene x.takes_first-first.result (reached (y x).args.s.now (y x).args.scene (d x).loop-i.i (d x).loop-i.j x.takes_first-first.result) (d x).loop-i.notes (take (d x).loop-i.n (d x).loop-i.status-1) (take (m told) (new told)) (v told)
   event =
-      subst (λ (k : ℕ). Taken (y x).args.s.now (y x).args.scene x.before.takes_first.result k (d x).loop.notes (take (d x).loop.n (d x).loop.status) (take (m told) (new told)) (v told))
+      subst (λ (k : ℕ). Taken (y x).args.s.now (y x).args.scene x.takes_first-first.result k (d x).loop-i.notes (take (d x).loop-i.n (d x).loop-i.status-1) (take (m told) (new told)) (v told))
       (sym (its_index x)) (done told).1
 
-  run_on : Run (y x).args.s.now (y x).args.scene ((d x).loop.i + bool_byte x.before.takes_first.result) ((d x).loop.j + bool_byte (not x.before.takes_first.result)) (take (m told) (new told))
+  run_on : Run (y x).args.s.now (y x).args.scene ((d x).loop-i.i + bool_byte x.takes_first-first.result) ((d x).loop-i.j + bool_byte (not x.takes_first-first.result)) (take (m told) (new told))
   run_on =
-      advance (y x).args.s.now (y x).args.scene (start (d x)) (d x).loop.inv.5 x.before.takes_first.result (it x).more (it x).least
-      (next_by (y x).args.s.now (y x).args.scene (start (d x)) (d x).loop.i (d x).loop.j x.before.takes_first.result) event
+      advance (y x).args.s.now (y x).args.scene (start (d x)) (d x).loop-i.invariant.5 x.takes_first-first.result (it x).more (it x).least
+      (next_by (y x).args.s.now (y x).args.scene (start (d x)) (d x).loop-i.i (d x).loop-i.j x.takes_first-first.result) event
 
-  noted_on : AllNoted (y x).args.s.now (y x).args.scene ((d x).loop.i + bool_byte x.before.takes_first.result) ((d x).loop.j + bool_byte (not x.before.takes_first.result)) (take (m told) (new told)) (set (d x).loop.notes c.slot.result (v told))
+  noted_on : AllNoted (y x).args.s.now (y x).args.scene ((d x).loop-i.i + bool_byte x.takes_first-first.result) ((d x).loop-i.j + bool_byte (not x.takes_first-first.result)) (take (m told) (new told)) (set (d x).loop-i.notes c.slot.result (v told))
   noted_on =
-      subst (λ (p : ℕ). AllNoted (y x).args.s.now (y x).args.scene ((d x).loop.i + bool_byte x.before.takes_first.result) ((d x).loop.j + bool_byte (not x.before.takes_first.result)) (take (m told) (new told)) (set (d x).loop.notes p (v told))) slot_is
-      (noted_next (y x).args.s.now (y x).args.scene (start (d x)) (d x).loop.inv.5 x.before.takes_first.result (it x).more (it x).least
-      (next_by (y x).args.s.now (y x).args.scene (start (d x)) (d x).loop.i (d x).loop.j x.before.takes_first.result) (reached_within (d x)) (d x).loop.notes (room (d x)) (d x).loop.inv.6 event)
+      subst (λ (p : ℕ). AllNoted (y x).args.s.now (y x).args.scene ((d x).loop-i.i + bool_byte x.takes_first-first.result) ((d x).loop-i.j + bool_byte (not x.takes_first-first.result)) (take (m told) (new told)) (set (d x).loop-i.notes p (v told))) slot_is
+      (noted_next (y x).args.s.now (y x).args.scene (start (d x)) (d x).loop-i.invariant.5 x.takes_first-first.result (it x).more (it x).least
+      (next_by (y x).args.s.now (y x).args.scene (start (d x)) (d x).loop-i.i (d x).loop-i.j x.takes_first-first.result) (reached_within (d x)) (d x).loop-i.notes (room (d x)) (d x).loop-i.invariant.6 event)
 
 -- every segment that is active then ends later, too
 module _ (c : tie.After-slot invariant_loop decreases_loop) where
-  abbrev n : tie.After-next-of invariant_loop decreases_loop
+  abbrev n : tie.After-next_of-k invariant_loop decreases_loop
   n = x c
 
-  after_on : After (y n).args.s.now (y n).args.scene ((d n).loop.i + bool_byte n.before.takes_first.result) ((d n).loop.j + bool_byte (not n.before.takes_first.result))
+  after_on : After (y n).args.s.now (y n).args.scene ((d n).loop-i.i + bool_byte n.takes_first-first.result) ((d n).loop-i.j + bool_byte (not n.takes_first-first.result))
   after_on =
-      after_next (y n).args.s.now (y n).args.scene (d n).loop.inv.9 (first_one n)
-      (next_by (y n).args.s.now (y n).args.scene (start (d n)) (d n).loop.i (d n).loop.j n.before.takes_first.result)
+      after_next (y n).args.s.now (y n).args.scene (d n).loop-i.invariant.9 (first_one n)
+      (next_by (y n).args.s.now (y n).args.scene (start (d n)) (d n).loop-i.i (d n).loop-i.j n.takes_first-first.result)
 
   later_on : Passes (y n).args.s.now (y n).args.scene
-      → AllEndLater (y n).args.s.now (y n).args.scene ((d n).loop.i + bool_byte n.before.takes_first.result) ((d n).loop.j + bool_byte (not n.before.takes_first.result)) (take (m (told c)) (new (told c)))
+      → AllEndLater (y n).args.s.now (y n).args.scene ((d n).loop-i.i + bool_byte n.takes_first-first.result) ((d n).loop-i.j + bool_byte (not n.takes_first-first.result)) (take (m (told c)) (new (told c)))
   later_on pass =
-      all_later (y n).args.s.now (y n).args.scene (y n).pre.0 (y n).pre.1 pass (d n).loop.inv.5 ((d n).loop.inv.10 pass) n.before.takes_first.result (it n)
-      (next_by (y n).args.s.now (y n).args.scene (start (d n)) (d n).loop.i (d n).loop.j n.before.takes_first.result) (event c)
+      all_later (y n).args.s.now (y n).args.scene (y n).requires.0 (y n).requires.1 pass (d n).loop-i.invariant.5 ((d n).loop-i.invariant.10 pass) n.takes_first-first.result (it n)
+      (next_by (y n).args.s.now (y n).args.scene (start (d n)) (d n).loop-i.i (d n).loop-i.j n.takes_first-first.result) (event c)
 
-event-count-requires : tie.Need-event-count-requires invariant_loop decreases_loop
-event-count-requires c κs = search rules
+event_count-requires : tie.Need-event_count-requires invariant_loop decreases_loop
+event_count-requires c κs = search rules
 
-event-count-requires-2 : tie.Need-event-count-requires-2 invariant_loop decreases_loop
-event-count-requires-2 c κs = search rules
+event_count-requires-2 : tie.Need-event_count-requires-2 invariant_loop decreases_loop
+event_count-requires-2 c κs = search rules
 
-add-all : tie.Need-overflow-add-all invariant_loop decreases_loop
-add-all c =
+overflow_add-all : tie.Need-overflow_add-all invariant_loop decreases_loop
+overflow_add-all c =
     let z = c.before.before.before.before.before.before.before in
     let few = few_events z.args.s.now z.args.scene z.requires.0 in
-    omega (arith, c.before.event-count.ensures, c.event-count2.ensures, few true, few false)
+    omega (arith, c.event_count.ensures, c.event_count-2.ensures, few true, few false)
 
-key-after-requires : tie.Need-key-after-requires invariant_loop decreases_loop
-key-after-requires c κs =
+key_after-key_f-requires : tie.Need-key_after-key_f-requires invariant_loop decreases_loop
+key_after-key_f-requires c κs =
     let z = c.before.before.before.before.before.before.before in
     (read z.args.s.now z.args.scene z.requires.0 true, omega arith, λ e. absurd (true≢false e))
 
-key-after-requires-2 : tie.Need-key-after-requires-2 invariant_loop decreases_loop
-key-after-requires-2 c κs =
+key_after-key_g-requires : tie.Need-key_after-key_g-requires invariant_loop decreases_loop
+key_after-key_g-requires c κs =
     let z = c.before.before.before.before.before.before.before.before in
     (read z.args.s.now z.args.scene z.requires.0 false, omega arith, λ e. absurd (true≢false e))
 
-loop-holds : tie.Need-loop-init invariant_loop decreases_loop
-loop-holds c =
-    let a = c.before.before.before.before.before.before.before.before.before.args in
-    (refl, refl, omega arith, omega arith, omega arith, run_start a.s.now a.scene, noted_start a.s.now a.scene a.notes.now, c.before.key-after.ensures, c.key-after2.ensures, after_start a.s.now a.scene, λ pass e m. absurd (in_nil m))
+loop-i-init : tie.Need-loop-i-init invariant_loop decreases_loop
+loop-i-init c =
+    let a = c.args in
+    (refl, refl, omega arith, omega arith, omega arith, run_start a.s.now a.scene, noted_start a.s.now a.scene a.notes.now, c.key_after-key_f.ensures, c.key_after-key_g.ensures, after_start a.s.now a.scene, λ pass e m. absurd (in_nil m))
 
-add-loop : tie.Need-overflow-add-loop invariant_loop decreases_loop
-add-loop c = omega (arith, c.loop.invariant.2, c.loop.invariant.3, few c true, few c false)
+overflow_add-i : tie.Need-overflow_add-i invariant_loop decreases_loop
+overflow_add-i c = omega (arith, c.loop-i.invariant.2, c.loop-i.invariant.3, few c true, few c false)
 
-takes-first-requires : tie.Need-takes-first-requires invariant_loop decreases_loop
-takes-first-requires c κs = let i = c.before.loop.invariant in ((z c.before).pre.0, i.2, i.3, i.7, i.8)
+takes_first-first-requires : tie.Need-takes_first-first-requires invariant_loop decreases_loop
+takes_first-first-requires c κs = let i = c.loop-i.invariant in ((z c.before).requires.0, i.2, i.3, i.7, i.8)
 
-next-of-requires : tie.Need-next-of-requires invariant_loop decreases_loop
-next-of-requires c κs = search rules
+next_of-k-requires : tie.Need-next_of-k-requires invariant_loop decreases_loop
+next_of-k-requires c κs = search rules
 
-take-event-requires : tie.Need-take-event-requires invariant_loop decreases_loop
-take-event-requires c κs =
+take_event-requires : tie.Need-take_event-requires invariant_loop decreases_loop
+take_event-requires c κs =
     let x = c.before.before in (
       (y x).requires.0,
       within x,
-      record { room = (d x).loop.invariant.4; entries = entries_are (y x).args.s.now (y x).args.scene (start (d x)) (y x).requires.0 (d x).loop.invariant.5 (reached_within (d x)) },
+      record { room = (d x).loop-i.invariant.4; entries = entries_are (y x).args.s.now (y x).args.scene (start (d x)) (y x).requires.0 (d x).loop-i.invariant.5 (reached_within (d x)) },
       room (d x),
     )
 
-enum-known-m : tie.Need-enum-known-m invariant_loop decreases_loop
-enum-known-m c = search rules
+enum_known-m : tie.Need-enum_known-m invariant_loop decreases_loop
+enum_known-m c = search rules
 
-enum_told : tie.Need-enum-told invariant_loop decreases_loop
-enum_told c = search rules
+enum_told-1 : tie.Need-enum_told-1 invariant_loop decreases_loop
+enum_told-1 c = search rules
 
 -- the lengths stay, also where the sweep stops
-module _ (c : tie.After-enum-told invariant_loop decreases_loop) where
-  abbrev t : tie.After-take-event invariant_loop decreases_loop
+module _ (c : tie.In_default invariant_loop decreases_loop) where
+  abbrev t : tie.After-take_event invariant_loop decreases_loop
   t = c.before.before.before.before
 
-  abbrev w : tie.At-loop invariant_loop decreases_loop
+  abbrev w : tie.At-loop-i invariant_loop decreases_loop
   w = d t.before.before.before
 
-  still : length t.take-event.last.1.1.1.1.0 ≡ length (z w).args.status.now
-  still = t.take-event.ensures.0 ∙ w.loop.inv.0
+  still : length t.take_event.last.1.1.1.1.0 ≡ length (z w).args.status-1.now
+  still = t.take_event.ensures.0 ∙ w.loop-i.invariant.0
 
-same_length : tie.Need-same-length invariant_loop decreases_loop
-same_length c = still c
+shape_of-status-in_default : tie.Need-shape_of-status-in_default invariant_loop decreases_loop
+shape_of-status-in_default c = still c
 
-same-length-2 : tie.Need-same-length-2 invariant_loop decreases_loop
-same-length-2 c = (w c).loop.invariant.1
+shape_of-notes-in_default : tie.Need-shape_of-notes-in_default invariant_loop decreases_loop
+shape_of-notes-in_default c = (w c).loop-i.invariant.1
 
-returns : tie.Need-returns invariant_loop decreases_loop
-returns c =
+returns-in_default : tie.Need-returns-in_default invariant_loop decreases_loop
+returns-in_default c =
     let e = (t c).before.before.before in (
       still c,
-      (w c).loop.invariant.1,
-      no (λ pass. (t c).take-event.ensures.1.goes_on (has_room e pass, can e pass) c.enum_told.given.1),
+      (w c).loop-i.invariant.1,
+      no (λ pass. (t c).take_event.ensures.1.goes_on (has_room e pass, can e pass) c.in_default.is),
       λ t. absurd t,
     )
 
 slot-requires : tie.Need-slot-requires invariant_loop decreases_loop
 slot-requires c κs = short (e c)
 
-slice-write-notes : tie.Need-slice-write-notes invariant_loop decreases_loop
-slice-write-notes c = omega (arith, c.slot.ensures, slot_room (x c).before.takes_first.result (x c).next_of.result (short (x c)), room (d (x c)))
+bounds-notes-slot : tie.Need-bounds-notes-slot invariant_loop decreases_loop
+bounds-notes-slot c = omega (arith, c.slot.ensures, slot_room (x c).takes_first-first.result (x c).next_of-k.result (short (x c)), room (d (x c)))
 
-cast-i : tie.Need-overflow-cast-i invariant_loop decreases_loop
-cast-i c = tt
+overflow_cast-i : tie.Need-overflow_cast-i invariant_loop decreases_loop
+overflow_cast-i c = tt
 
-add-i : tie.Need-overflow-add-i invariant_loop decreases_loop
-add-i c = omega (arith, (on (told c)).0, few (d (x c)) true)
+overflow_add-i-in-loop-i : tie.Need-overflow_add-i-in-loop-i invariant_loop decreases_loop
+overflow_add-i-in-loop-i c = omega (arith, (on (told c)).0, few (d (x c)) true)
 
-cast-j : tie.Need-overflow-cast-j invariant_loop decreases_loop
-cast-j c = tt
+overflow_cast-j : tie.Need-overflow_cast-j invariant_loop decreases_loop
+overflow_cast-j c = tt
 
-add-j : tie.Need-overflow-add-j invariant_loop decreases_loop
-add-j c = omega (arith, (on (told c)).1, few (d (x c)) false)
+overflow_add-j : tie.Need-overflow_add-j invariant_loop decreases_loop
+overflow_add-j c = omega (arith, (on (told c)).1, few (d (x c)) false)
 
 -- the keys after an event: that of an object that has not gone on is as it was
 module _ (c : tie.After-slot invariant_loop decreases_loop) where
   abbrev first : Bool
-  first = (x c).before.takes_first.result
+  first = (x c).takes_first-first.result
 
   asked : (b e : Bool) (k m : ℕ) → k + bool_byte e ≤ total (y (x c)).args.s.now (y (x c)).args.scene b
       → m ≡ next_key (y (x c)).args.s.now (object_of (y (x c)).args.s.now (y (x c)).args.scene b) k
@@ -284,112 +284,112 @@ module _ (c : tie.After-slot invariant_loop decreases_loop) where
   asked b e k m h is =
       let s = (y (x c)).args.s.now in
       let sc = (y (x c)).args.scene in (
-        read s sc (y (x c)).pre.0 b,
+        read s sc (y (x c)).requires.0 b,
         omega (arith, h, total_within s sc b),
         λ q. is ∙ ap (next_key s (object_of s sc b)) (sym (add-zero k)) ∙ ap (λ (e : Bool). next_key s (object_of s sc b) (k + bool_byte e)) (sym q),
       )
 
-key-after-requires-3 : tie.Need-key-after-requires-3 invariant_loop decreases_loop
-key-after-requires-3 c κs =
-    let l = (d (x c)).loop in
-    asked c true (first c) l.i l.key-f (on (told c)).0 l.inv.7
+key_after-key_f-requires-in-loop-i : tie.Need-key_after-key_f-requires-in-loop-i invariant_loop decreases_loop
+key_after-key_f-requires-in-loop-i c κs =
+    let l = (d (x c)).loop-i in
+    asked c true (first c) l.i l.key-f (on (told c)).0 l.invariant.7
 
-key-after-requires-4 : tie.Need-key-after-requires-4 invariant_loop decreases_loop
-key-after-requires-4 c κs =
+key_after-key_g-requires-in-loop-i : tie.Need-key_after-key_g-requires-in-loop-i invariant_loop decreases_loop
+key_after-key_g-requires-in-loop-i c κs =
     let t = c.before in
-    let l = (d (x t)).loop in
-    asked t false (not (first t)) l.j l.key-g (on (told t)).1 l.inv.8
+    let l = (d (x t)).loop-i in
+    asked t false (not (first t)) l.j l.key-g (on (told t)).1 l.invariant.8
 
-loop-less : tie.Need-loop-smaller invariant_loop decreases_loop
-loop-less c = let t = c.before.before in omega (arith, (on (told t)).2, left (x t))
+loop-i-smaller : tie.Need-loop-i-smaller invariant_loop decreases_loop
+loop-i-smaller c = let t = c.before.before in omega (arith, (on (told t)).2, left (x t))
 
-loop-again : tie.Need-loop-preserved invariant_loop decreases_loop
-loop-again c =
+loop-i-preserved : tie.Need-loop-i-preserved invariant_loop decreases_loop
+loop-i-preserved c =
     let t = c.before.before in (
-      (told t).before.before.before.before.before.take-event.ensures.0 ∙ (d (x t)).loop.inv.0,
-      length-set (d (x t)).loop.notes t.slot.result (v (told t)) ∙ (d (x t)).loop.inv.1,
+      (told t).take_event.ensures.0 ∙ (d (x t)).loop-i.invariant.0,
+      length-set (d (x t)).loop-i.notes t.slot.result (v (told t)) ∙ (d (x t)).loop-i.invariant.1,
       (on (told t)).0,
       (on (told t)).1,
       (done (told t)).0,
       run_on t,
       noted_on t,
-      c.before.key-after3.ensures,
-      c.key-after4.ensures,
+      c.key_after-key_f-in-loop-i.ensures,
+      c.key_after-key_g-in-loop-i.ensures,
       after_on t,
       later_on t,
     )
 
-same-length-3 : tie.Need-same-length-3 invariant_loop decreases_loop
-same-length-3 c = c.before.loop.invariant.0
+shape_of-status : tie.Need-shape_of-status invariant_loop decreases_loop
+shape_of-status c = c.loop-i.invariant.0
 
-same-length-4 : tie.Need-same-length-4 invariant_loop decreases_loop
-same-length-4 c = c.before.loop.invariant.1
+shape_of-notes : tie.Need-shape_of-notes invariant_loop decreases_loop
+shape_of-notes c = c.loop-i.invariant.1
 
 -- all elements have been taken
-module _ (c : tie.After-loop invariant_loop decreases_loop) where
-  abbrev b : tie.At-loop invariant_loop decreases_loop
+module _ (c : tie.After-loop-i invariant_loop decreases_loop) where
+  abbrev b : tie.At-loop-i invariant_loop decreases_loop
   b = c.before
 
   abbrev all_of : Bool → ℕ
   all_of = total (z b).args.s.now (z b).args.scene
 
-  of_f_lem : b.loop.i ≡ all_of true
-  of_f_lem = omega (arith, b.loop.inv.2, b.loop.inv.3, b.before.before.before.before.event-count.ensures, b.before.before.before.event-count2.ensures)
+  of_f_lem : b.loop-i.i ≡ all_of true
+  of_f_lem = omega (arith, b.loop-i.invariant.2, b.loop-i.invariant.3, b.event_count.ensures, b.event_count-2.ensures)
 
-  of_g_lem : b.loop.j ≡ all_of false
-  of_g_lem = omega (arith, b.loop.inv.2, b.loop.inv.3, b.before.before.before.before.event-count.ensures, b.before.before.before.event-count2.ensures)
+  of_g_lem : b.loop-i.j ≡ all_of false
+  of_g_lem = omega (arith, b.loop-i.invariant.2, b.loop-i.invariant.3, b.event_count.ensures, b.event_count-2.ensures)
 
-  ends : (P : ℕ → ℕ → List ℕ → Type 0) → b.loop.n ≡ 0 → P b.loop.i b.loop.j (take b.loop.n b.loop.status) → P (all_of true) (all_of false) []
-  ends = at_end_lem (z b).args.s.now (z b).args.scene b.loop.status of_f_lem of_g_lem
+  ends : (P : ℕ → ℕ → List ℕ → Type 0) → b.loop-i.n ≡ 0 → P b.loop-i.i b.loop-i.j (take b.loop-i.n b.loop-i.status-1) → P (all_of true) (all_of false) []
+  ends = at_end_lem (z b).args.s.now (z b).args.scene b.loop-i.status-1 of_f_lem of_g_lem
 
-  run_at_end : b.loop.n ≡ 0 → Run (z b).args.s.now (z b).args.scene (all_of true) (all_of false) []
-  run_at_end none = ends (Run (z b).args.s.now (z b).args.scene) none b.loop.inv.5
+  run_at_end : b.loop-i.n ≡ 0 → Run (z b).args.s.now (z b).args.scene (all_of true) (all_of false) []
+  run_at_end none = ends (Run (z b).args.s.now (z b).args.scene) none b.loop-i.invariant.5
 
-returns-2 : tie.Need-returns-2 invariant_loop decreases_loop
-returns-2 c =
+returns : tie.Need-returns invariant_loop decreases_loop
+returns c =
     let b = c.before in
     let s = (z b).args.s.now in
     let sc = (z b).args.scene in
     let evenly = (z b).requires.2 in (
-      b.loop.invariant.0,
-      b.loop.invariant.1,
-      same_as (λ none. passes s sc (start b) (run_at_end c none) evenly) (λ pass. none_left s sc b.loop.status (of_f_lem c) (of_g_lem c) b.loop.invariant.4 (b.loop.invariant.10 pass))
-          (by_equality b.loop.n 0),
-      λ t. let none = eqb→eq b.loop.n 0 t in
-          notes_hold s sc (start b) (run_at_end c none) evenly b.loop.notes (ends c (λ i j l. AllNoted s sc i j l b.loop.notes) none b.loop.invariant.6),
+      b.loop-i.invariant.0,
+      b.loop-i.invariant.1,
+      same_as (λ none. passes s sc (start b) (run_at_end c none) evenly) (λ pass. none_left s sc b.loop-i.status-1 (of_f_lem c) (of_g_lem c) b.loop-i.invariant.4 (b.loop-i.invariant.10 pass))
+          (by_equality b.loop-i.n 0),
+      λ t. let none = eqb→eq b.loop-i.n 0 t in
+          notes_hold s sc (start b) (run_at_end c none) evenly b.loop-i.notes (ends c (λ i j l. AllNoted s sc i j l b.loop-i.notes) none b.loop-i.invariant.6),
     )
 
-pub run-events-spec : {M : Type 1} → statement M
-run-events-spec =
+pub run_events_spec : {M : Type 1} → statement M
+run_events_spec =
     tie.close
     (tie.spec
     invariant_loop
     decreases_loop
-    event-count-requires
-    event-count-requires-2
-    add-all
-    key-after-requires
-    key-after-requires-2
-    loop-holds
-    add-loop
-    takes-first-requires
-    next-of-requires
-    take-event-requires
-    enum-known-m
-    enum_told
-    same_length
-    same-length-2
-    returns
+    event_count-requires
+    event_count-requires-2
+    overflow_add-all
+    key_after-key_f-requires
+    key_after-key_g-requires
+    loop-i-init
+    overflow_add-i
+    takes_first-first-requires
+    next_of-k-requires
+    take_event-requires
+    enum_known-m
+    enum_told-1
+    shape_of-status-in_default
+    shape_of-notes-in_default
+    returns-in_default
     slot-requires
-    slice-write-notes
-    cast-i
-    add-i
-    cast-j
-    add-j
-    key-after-requires-3
-    key-after-requires-4
-    loop-less
-    loop-again
-    same-length-3
-    same-length-4
-    returns-2)
+    bounds-notes-slot
+    overflow_cast-i
+    overflow_add-i-in-loop-i
+    overflow_cast-j
+    overflow_add-j
+    key_after-key_f-requires-in-loop-i
+    key_after-key_g-requires-in-loop-i
+    loop-i-smaller
+    loop-i-preserved
+    shape_of-status
+    shape_of-notes
+    returns)

@@ -24,65 +24,65 @@ use Rattle.sweep.proofs.take_event.Statement.{statement}
 use Rattle.sweep.proofs.take_event.Tie as tie
 
 -- the object
-module _ (c : tie.Joined1) where
+module _ (c : tie.Joined-first) where
   abbrev z : tie.Start
   z = c.before.before.before.before
 
-  object_is : c.if1.l ≡ object_of z.args.s.now z.args.scene z.args.first
+  object_is : c.if-first.l ≡ object_of z.args.s.now z.args.scene z.args.first
   object_is =
       let of = object_of z.args.s.now z.args.scene in
-      ⊎_elim (λ w. w.2 ∙ sym (ap of w.0.taken)) (λ w. w.2 ∙ sym (ap of w.0.left)) c.if1.branch
+      ⊎_elim (λ w. w.l-is ∙ sym (ap of w.0.taken)) (λ w. w.2 ∙ sym (ap of w.0.left)) c.if-first.branch-raw
 
-  there : place c.if1.l z.args.k + 18 ≤ length z.args.s.now
+  there : place c.if-first.l z.args.k + 18 ≤ length z.args.s.now
   there = subst (λ (l : Layout). place l z.args.k + 18 ≤ length z.args.s.now) (sym object_is)
-      (good z.args.s.now z.args.scene z.pre.0 z.args.first z.args.k z.pre.1).there
+      (good z.args.s.now z.args.scene z.requires.0 z.args.first z.args.k z.requires.1).there
 
 -- its record
-module _ (c : tie.After-place) where
+module _ (c : tie.After-place-at) where
   abbrev a : tie.Start
   a = z c.before
 
-  at_is : c.place.result ≡ place (object_of a.args.s.now a.args.scene a.args.first) a.args.k
-  at_is = c.place.ensures ∙ ap (λ (l : Layout). place l a.args.k) (object_is c.before)
+  at_is : c.place-at.result ≡ place (object_of a.args.s.now a.args.scene a.args.first) a.args.k
+  at_is = c.place-at.ensures ∙ ap (λ (l : Layout). place l a.args.k) (object_is c.before)
 
-  ready : Ready a.args.s.now a.args.scene a.args.first c.place.result a.args.status.now a.args.n
+  ready : Ready a.args.s.now a.args.scene a.args.first c.place-at.result a.args.status.now a.args.n
   ready =
       let s = a.args.s.now in
       let sc = a.args.scene in
       record {
-        scene = a.pre.0;
-        event = subst (Entry s sc) (sym at_is) (entry s sc a.pre.0 a.args.first a.args.k a.pre.1);
-        object = ap (is_first s sc) at_is ∙ owned s sc a.pre.0 a.args.first a.args.k a.pre.1;
-        held = a.pre.2;
+        scene = a.requires.0;
+        event = subst (Entry s sc) (sym at_is) (entry s sc a.requires.0 a.args.first a.args.k a.requires.1);
+        object = ap (is_first s sc) at_is ∙ owned s sc a.requires.0 a.args.first a.args.k a.requires.1;
+        held = a.requires.2;
       }
 
-  readable : GoodHalfsegment a.args.s.now c.place.result
-  readable = entry_readable a.args.s.now a.args.scene a.pre.0 ready.event
+  readable : GoodHalfsegment a.args.s.now c.place-at.result
+  readable = entry_readable a.args.s.now a.args.scene a.requires.0 ready.event
 
 -- its halfsegment was read, and its point
-module _ (c : tie.After-dominating-point) where
-  abbrev r : tie.After-place
+module _ (c : tie.After-dominating_point) where
+  abbrev r : tie.After-place-at
   r = c.before.before
 
-  in_range_lem : T (in_range c.dominating-point.result)
+  in_range_lem : T (in_range c.dominating_point.result)
   in_range_lem =
-      let h = c.before.halfsegment.result in
-      subst (λ (p : Point). T (in_range p)) (sym c.dominating-point.ensures)
-      (dominating_in_range h (in_range_at (readable r) (ap (λ (h : Halfsegment). h.segment) c.before.halfsegment.ensures)))
+      let h = c.halfsegment-h.result in
+      subst (λ (p : Point). T (in_range p)) (sym c.dominating_point.ensures)
+      (dominating_in_range h (in_range_at (readable r) (ap (λ (h : Halfsegment). h.segment) c.halfsegment-h.ensures)))
 
 -- a place for the point was found
-module _ (c : tie.After-find) where
-  abbrev d : tie.After-dominating-point
-  d = c.before.before
+module _ (c : tie.After-find-p) where
+  abbrev d : tie.After-dominating_point
+  d = c.before
 
-  abbrev p : tie.After-place
+  abbrev p : tie.After-place-at
   p = r d
 
   abbrev s : List ℕ
   s = (a p).args.s.now
 
   abbrev at : ℕ
-  at = p.place.result
+  at = p.place-at.result
 
   abbrev old : List ℕ
   old = take (a p).args.n (a p).args.status.now
@@ -91,49 +91,49 @@ module _ (c : tie.After-find) where
   first = (a p).args.first
 
   -- it begins, or not
-  side_is : {b : Bool} → d.before.halfsegment.result.is_left ≡ b → (halfsegment_at s at).is_left ≡ b
-  side_is e = ap (λ (h : Halfsegment). h.is_left) (sym d.before.halfsegment.ensures) ∙ e
+  side_is : {b : Bool} → d.halfsegment-h.result.is_left ≡ b → (halfsegment_at s at).is_left ≡ b
+  side_is e = ap (λ (h : Halfsegment). h.is_left) (sym d.halfsegment-h.ensures) ∙ e
 
-  beginning_is : {b : Bool} → d.before.halfsegment.result.is_left ≡ b → is_beginning s (a p).args.scene first (a p).args.k ≡ b
+  beginning_is : {b : Bool} → d.halfsegment-h.result.is_left ≡ b → is_beginning s (a p).args.scene first (a p).args.k ≡ b
   beginning_is e = ap (λ (m : ℕ). (halfsegment_at s m).is_left) (sym (at_is p)) ∙ side_is e
 
-  end_is : {b : Bool} → d.before.halfsegment.result.is_left ≡ b → d.dominating-point.result ≡ choose b (segment_at s at).left (segment_at s at).right
+  end_is : {b : Bool} → d.halfsegment-h.result.is_left ≡ b → d.dominating_point.result ≡ choose b (segment_at s at).left (segment_at s at).right
   unfolding dominating
   end_is e =
-      d.dominating-point.ensures ∙ ap dominating d.before.halfsegment.ensures
+      d.dominating_point.ensures ∙ ap dominating d.halfsegment-h.ensures
       ∙ ap (λ (b : Bool). choose b (segment_at s at).left (segment_at s at).right) (side_is e)
 
-  at_place : {b : Bool} → d.before.halfsegment.result.is_left ≡ b → Place s old (choose b (segment_at s at).left (segment_at s at).right) c.find.result
-  at_place e = subst (λ (v : Point). Place s old v c.find.result) (end_is e) c.find.ensures
+  at_place : {b : Bool} → d.halfsegment-h.result.is_left ≡ b → Place s old (choose b (segment_at s at).left (segment_at s at).right) c.find-p.result
+  at_place e = subst (λ (v : Point). Place s old v c.find-p.result) (end_is e) c.find-p.ensures
 
-place-requires : tie.Need-place-requires
-place-requires c κs = omega (arith, there c, (z c).well-formed)
+place-at-requires : tie.Need-place-at-requires
+place-at-requires c κs = omega (arith, there c, (z c).well_formed)
 
-halfsegment-requires : tie.Need-halfsegment-requires
-halfsegment-requires c κs = (readable c).there
+halfsegment-h-requires : tie.Need-halfsegment-h-requires
+halfsegment-h-requires c κs = (readable c).there
 
-dominating-point-requires : tie.Need-dominating-point-requires
-dominating-point-requires c κs = search rules
+dominating_point-requires : tie.Need-dominating_point-requires
+dominating_point-requires c κs = search rules
 
-find-requires : tie.Need-find-requires
-find-requires c κs = let d = c.before in (in_range_lem d, held_readable (a (r d)).pre.2 (a (r d)).pre.0)
+find-p-requires : tie.Need-find-p-requires
+find-p-requires c κs = let d = c.before in (in_range_lem d, held_readable (a (r d)).requires.2 (a (r d)).requires.0)
 
 begin-requires : tie.Need-begin-requires
-begin-requires c κs = let t = c.before in (ready (p t.before), at_place t.before t.if2.true)
+begin-requires c κs = let t = c.before in (ready (p t.before), at_place t.before t.if-h.true)
 
 end-requires : tie.Need-end-requires
-end-requires c κs = let t = c.before in (ready (p t.before), at_place t.before t.if2.false, (a (p t.before)).pre.3)
+end-requires c κs = let t = c.before in (ready (p t.before), at_place t.before t.if-h.false, (a (p t.before)).requires.3)
 
-same_length : tie.Need-same-length
-same_length c = search rules
+shape_of-status-then-h : tie.Need-shape_of-status-then-h
+shape_of-status-then-h c = search rules
 
-returns : tie.Need-returns
-returns c =
+returns-then-h : tie.Need-returns-then-h
+returns-then-h c =
     let r = c.before.before in
     let t = r.before.before in
     let f = t.before in
     let x = (a (p f)).args in
-    let e = beginning_is f t.if2.true in (
+    let e = beginning_is f t.if-h.true in (
       r.begin.ensures.0,
       record {
         done = λ m v h q. let w = r.begin.ensures.1.done m v h q in (
@@ -141,20 +141,20 @@ returns c =
           it_began e (subst (λ (at : ℕ). Began x.s.now x.scene x.first at (old f) (take m r.begin.new.1.1.1.1.0) v) (at_is (p f)) w.1),
         );
         goes_on = λ can. r.begin.ensures.1.goes_on
-            (can.0 e, subst (λ (at : ℕ). CanBegin x.s.now x.scene x.first at (old f)) (sym (at_is (p f))) (can.1.can_begin e) f.find.result (at_place f t.if2.true));
+            (can.0 e, subst (λ (at : ℕ). CanBegin x.s.now x.scene x.first at (old f)) (sym (at_is (p f))) (can.1.can_begin e) f.find-p.result (at_place f t.if-h.true));
       },
     )
 
-same-length-2 : tie.Need-same-length-2
-same-length-2 c = search rules
+shape_of-status-else-h : tie.Need-shape_of-status-else-h
+shape_of-status-else-h c = search rules
 
-returns-2 : tie.Need-returns-2
-returns-2 c =
+returns-else-h : tie.Need-returns-else-h
+returns-else-h c =
     let r = c.before.before in
     let t = r.before.before in
     let f = t.before in
     let x = (a (p f)).args in
-    let e = beginning_is f t.if2.false in (
+    let e = beginning_is f t.if-h.false in (
       r.end.ensures.0,
       record {
         done = λ m v h q. let w = r.end.ensures.1.done m v h q in (
@@ -162,21 +162,21 @@ returns-2 c =
           it_ended e (subst (λ (at : ℕ). Ended x.s.now x.scene x.first at (old f) x.notes.now (take m r.end.new.1.1.1.1.0) v) (at_is (p f)) w.1),
         );
         goes_on = λ can. r.end.ensures.1.goes_on
-            (subst (λ (at : ℕ). CanEnd x.s.now x.scene x.first at (old f)) (sym (at_is (p f))) (can.1.can_end e) f.find.result (at_place f t.if2.false));
+            (subst (λ (at : ℕ). CanEnd x.s.now x.scene x.first at (old f)) (sym (at_is (p f))) (can.1.can_end e) f.find-p.result (at_place f t.if-h.false));
       },
     )
 
-pub take-event-spec : {M : Type 1} → statement M
-take-event-spec =
+pub take_event_spec : {M : Type 1} → statement M
+take_event_spec =
     tie.close
     (tie.spec
-    place-requires
-    halfsegment-requires
-    dominating-point-requires
-    find-requires
+    place-at-requires
+    halfsegment-h-requires
+    dominating_point-requires
+    find-p-requires
     begin-requires
     end-requires
-    same_length
-    returns
-    same-length-2
-    returns-2)
+    shape_of-status-then-h
+    returns-then-h
+    shape_of-status-else-h
+    returns-else-h)

@@ -23,102 +23,102 @@ abbrev later : List ℕ → Scene → ℕ → ℕ → Bool
 later s sc i j = comes_before (half s sc.g j) (half s sc.f i)
 
 -- F has an event left
-module _ (c : tie.Else1) where
+module _ (c : tie.Else-i-event_count) where
   abbrev z : tie.Start
   z = c.before.before.before.before.before
 
   of_f_lem : z.args.i < total z.args.s.now z.args.scene true
-  of_f_lem = omega (arith, z.pre.1, c.before.event-count.ensures, c.if1.false)
+  of_f_lem = omega (arith, z.requires.1, c.event_count.ensures, c.if-i-event_count.false)
 
 -- and so has G
-module _ (c : tie.Else2) where
+module _ (c : tie.Else-j-event_count) where
   abbrev y : tie.Start
   y = z c.before.before
 
   of_g_lem : y.args.j < total y.args.s.now y.args.scene false
-  of_g_lem = omega (arith, y.pre.2, c.before.event-count2.ensures, c.if2.false)
+  of_g_lem = omega (arith, y.requires.2, c.event_count-2.ensures, c.if-j-event_count.false)
 
   good_f : GoodHalfsegment y.args.s.now (place y.args.scene.f y.args.i)
-  good_f = good y.args.s.now y.args.scene y.pre.0 true y.args.i (of_f_lem c.before.before)
+  good_f = good y.args.s.now y.args.scene y.requires.0 true y.args.i (of_f_lem c.before.before)
 
   good_g : GoodHalfsegment y.args.s.now (place y.args.scene.g y.args.j)
-  good_g = good y.args.s.now y.args.scene y.pre.0 false y.args.j of_g_lem
+  good_g = good y.args.s.now y.args.scene y.requires.0 false y.args.j of_g_lem
 
 -- the halfsegments that were read
-module _ (c : tie.After-halfsegment2) where
-  abbrev d : tie.Else2
+module _ (c : tie.After-halfsegment-k) where
+  abbrev d : tie.Else-j-event_count
   d = c.before.before.before.before.before
 
-  is_f : c.before.before.halfsegment.result ≡ half (y d).args.s.now (y d).args.scene.f (y d).args.i
-  is_f = half_is (y d).args.s.now (y d).args.scene.f (y d).args.i c.before.before.halfsegment.ensures c.before.before.before.place.ensures
+  is_f : c.halfsegment-h.result ≡ half (y d).args.s.now (y d).args.scene.f (y d).args.i
+  is_f = half_is (y d).args.s.now (y d).args.scene.f (y d).args.i c.halfsegment-h.ensures c.place.ensures
 
-  is_g : c.halfsegment2.result ≡ half (y d).args.s.now (y d).args.scene.g (y d).args.j
-  is_g = half_is (y d).args.s.now (y d).args.scene.g (y d).args.j c.halfsegment2.ensures c.before.place2.ensures
+  is_g : c.halfsegment-k.result ≡ half (y d).args.s.now (y d).args.scene.g (y d).args.j
+  is_g = half_is (y d).args.s.now (y d).args.scene.g (y d).args.j c.halfsegment-k.ensures c.place-2.ensures
 
-event-count-requires : tie.Need-event-count-requires
-event-count-requires c κs = search rules
+event_count-requires : tie.Need-event_count-requires
+event_count-requires c κs = search rules
 
-returns : tie.Need-returns
-returns c =
+returns-then-i-event_count : tie.Need-returns-then-i-event_count
+returns-then-i-event_count c =
     let e = c.before in
-    let a = e.before.before.before.before.args in
-    sym (none_left a.i (total a.s.now a.scene true) a.j (total a.s.now a.scene false) (later a.s.now a.scene a.i a.j) (omega (arith, e.event-count.ensures, c.if1.true)))
+    let a = e.args in
+    sym (none_left a.i (total a.s.now a.scene true) a.j (total a.s.now a.scene false) (later a.s.now a.scene a.i a.j) (omega (arith, e.event_count.ensures, c.if-i-event_count.true)))
 
-event-count-requires-2 : tie.Need-event-count-requires-2
-event-count-requires-2 c κs = search rules
+event_count-requires-2 : tie.Need-event_count-requires-2
+event_count-requires-2 c κs = search rules
 
-returns-2 : tie.Need-returns-2
-returns-2 c =
+returns-then-j-event_count : tie.Need-returns-then-j-event_count
+returns-then-j-event_count c =
     let e = c.before in
     let a = (z e.before).args in
-    sym (one_left a.i (total a.s.now a.scene true) a.j (total a.s.now a.scene false) (later a.s.now a.scene a.i a.j) (of_f_lem e.before) (omega (arith, e.event-count2.ensures, c.if2.true)))
+    sym (one_left a.i (total a.s.now a.scene true) a.j (total a.s.now a.scene false) (later a.s.now a.scene a.i a.j) (of_f_lem e.before) (omega (arith, e.event_count-2.ensures, c.if-j-event_count.true)))
 
-returns-3 : tie.Need-returns-3
-returns-3 c =
+returns-then-key_f-key_g : tie.Need-returns-then-key_f-key_g
+returns-then-key_f-key_g c =
     let e = c.before in
     let a = (y e).args in
     let s = a.s.now in
     let f = has s a.scene true a.i (of_f_lem e.before.before) in
     let g = has s a.scene false a.j (of_g_lem e) in
     first_by_keys s a.scene.f a.scene.g (read s a.scene (y e).requires.0 true) (read s a.scene (y e).requires.0 false) a.i a.j f.1 g.1 f.0 g.0
-    (y e).requires.3 (y e).requires.4 c.if3.true
+    (y e).requires.3 (y e).requires.4 c.if-key_f-key_g.true
     ∙ sym (both_left a.i (total s a.scene true) a.j (total s a.scene false) (later s a.scene a.i a.j) (of_f_lem e.before.before) (of_g_lem e))
 
 place-requires : tie.Need-place-requires
-place-requires c κs = let d = c.before in omega (arith, (good_f d).there, (y d).well-formed)
+place-requires c κs = let d = c.before in omega (arith, (good_f d).there, (y d).well_formed)
 
-halfsegment-requires : tie.Need-halfsegment-requires
-halfsegment-requires c κs = omega (arith, (good_f c.before.before).there, c.place.ensures)
+halfsegment-h-requires : tie.Need-halfsegment-h-requires
+halfsegment-h-requires c κs = omega (arith, (good_f c.before.before).there, c.place.ensures)
 
 place-requires-2 : tie.Need-place-requires-2
-place-requires-2 c κs = let d = c.before.before.before in omega (arith, (good_g d).there, (y d).well-formed)
+place-requires-2 c κs = let d = c.before.before.before in omega (arith, (good_g d).there, (y d).well_formed)
 
-halfsegment-requires-2 : tie.Need-halfsegment-requires-2
-halfsegment-requires-2 c κs = omega (arith, (good_g c.before.before.before.before).there, c.place2.ensures)
+halfsegment-k-requires : tie.Need-halfsegment-k-requires
+halfsegment-k-requires c κs = omega (arith, (good_g c.before.before.before.before).there, c.place-2.ensures)
 
-comes-before-requires : tie.Need-comes-before-requires
-comes-before-requires c κs =
+comes_before-requires : tie.Need-comes_before-requires
+comes_before-requires c κs =
     let a = (y (d c)).args in
-    (half_in_range a.s.now a.scene.g a.j (is_g c) (good_g (d c)), half_in_range a.s.now a.scene.f a.i (is_f c) (good_f (d c)))
+    (half_in_range a.s.now a.scene.g a.j (is_g c) (good_g (d c)), half_in_range a.s.now a.scene.f-1 a.i (is_f c) (good_f (d c)))
 
-returns-4 : tie.Need-returns-4
-returns-4 c =
+returns : tie.Need-returns
+returns c =
     let r = c.before in
     let a = (y (d r)).args in
-    ap not (c.comes-before.ensures ∙ ap₂ comes_before (is_g r) (is_f r)) ∙ sym (both_left a.i (total a.s.now a.scene true) a.j (total a.s.now a.scene false) (later a.s.now a.scene a.i a.j) (of_f_lem (d r).before.before) (of_g_lem (d r)))
+    ap not (c.comes_before.ensures ∙ ap₂ comes_before (is_g r) (is_f r)) ∙ sym (both_left a.i (total a.s.now a.scene true) a.j (total a.s.now a.scene false) (later a.s.now a.scene a.i a.j) (of_f_lem (d r).before.before) (of_g_lem (d r)))
 
-pub takes-first-spec : {M : Type 1} → statement M
-takes-first-spec =
+pub takes_first_spec : {M : Type 1} → statement M
+takes_first_spec =
     tie.close
     (tie.spec
-    event-count-requires
-    returns
-    event-count-requires-2
-    returns-2
-    returns-3
+    event_count-requires
+    returns-then-i-event_count
+    event_count-requires-2
+    returns-then-j-event_count
+    returns-then-key_f-key_g
     place-requires
-    halfsegment-requires
+    halfsegment-h-requires
     place-requires-2
-    halfsegment-requires-2
-    comes-before-requires
-    returns-4)
+    halfsegment-k-requires
+    comes_before-requires
+    returns)

@@ -20,11 +20,11 @@ use Rattle.sweep_event.proofs.begin.Statement.{statement}
 use Rattle.sweep_event.proofs.begin.Tie as tie
 
 -- there is room for one more
-fits : (c : tie.Else1) → Fits w64 (c.before.before.before.args.n + 1)
+fits : (c : tie.Else-n-status) → Fits w64 (c.args.n + 1)
 fits c = search rules
 
 -- there is room
-module _ (c : tie.Else1) where
+module _ (c : tie.Else-n-status) where
   abbrev z : tie.Start
   z = c.before.before.before
 
@@ -41,13 +41,13 @@ module _ (c : tie.Else1) where
   k = z.args.k
 
   size : length old ≡ z.args.n
-  size = first_length status z.args.n z.pre.0.held.room
+  size = first_length status z.args.n z.requires.0.held.room
 
   below_all : k ≤ z.args.n
-  below_all = omega (arith, z.pre.1.within, size)
+  below_all = omega (arith, z.requires.1.within, size)
 
   event : GoodHalfsegment s z.args.at
-  event = entry_readable s z.args.scene z.pre.0.scene z.pre.0.event
+  event = entry_readable s z.args.scene z.requires.0.scene z.requires.0.event
 
   abbrev Fitting : ℕ → Type 0
   Fitting = FitsOver s z.args.scene z.args.first z.args.at
@@ -60,24 +60,24 @@ module _ (c : tie.Else1) where
   of_first object = ap (of object) (take-take k z.args.n status below_all)
 
 -- the segment has begun
-module _ (c : tie.After-other-note) where
+module _ (c : tie.After-other_note) where
   abbrev put : tie.After-insert
   put = c.before.before.before
 
-  abbrev ia : tie.Else4
+  abbrev ia : tie.Else-not-has_right_ia
   ia = put.before.before
 
-  abbrev counted : tie.After-has-odd-of
+  abbrev counted : tie.After-has_odd_of-own
   counted = ia.before.before
 
-  abbrev under : tie.Else3
-  under = counted.before.before
+  abbrev under : tie.Else-not-fits_under
+  under = counted.before
 
-  abbrev over : tie.Else2
-  over = under.before.before.before
+  abbrev over : tie.Else-not-fits_over
+  over = under.before.before
 
-  abbrev found : tie.Else1
-  found = over.before.before.before
+  abbrev found : tie.Else-n-status
+  found = over.before.before
 
   abbrev a : tie.Start
   a = z found
@@ -85,119 +85,119 @@ module _ (c : tie.After-other-note) where
   all : of found a.args.first (take (k found) (status found)) + of found (not a.args.first) (take (k found) (status found)) ≡ k found
   all =
       own_and_other a.args.first (is_first (s found) a.args.scene) (take (k found) (status found))
-      ∙ length-take-le (k found) (status found) (omega (arith, below_all found, a.pre.0.held.room))
+      ∙ length-take-le (k found) (status found) (omega (arith, below_all found, a.requires.0.held.room))
 
-  began : Began (s found) a.args.scene a.args.first a.args.at (old found) (take (a.args.n + 1) put.insert.last.0) c.other-note.result
+  began : Began (s found) a.args.scene a.args.first a.args.at (old found) (take (a.args.n + 1) put.insert.new.status) c.other_note.result
   began =
       record {
         position = k found;
-        at_place = a.pre.1;
+        at_place = a.requires.1;
         fits = record {
-          over = to_below (status found) a.args.n a.pre.0.held.room (Fitting found) (k found) (below_all found) (accepted over.before.fits-over.ensures over.if2.left);
-          under = accepted under.before.Fits-under.ensures under.if3.left;
-          right_ia = λ region. ap odd (of_first found a.args.first) ∙ sym (counted.has-odd-of.ensures (s found)) ∙ accepted ia.before.has-right-ia.ensures ia.if4.left region;
+          over = to_below (status found) a.args.n a.requires.0.held.room (Fitting found) (k found) (below_all found) (accepted over.fits_over.ensures over.if-not-fits_over.false-raw);
+          under = accepted under.fits_under.ensures under.if-not-fits_under.false-raw;
+          right_ia = λ region. ap odd (of_first found a.args.first) ∙ sym (counted.has_odd_of-own.ensures (s found)) ∙ accepted ia.has_right_ia.ensures ia.if-not-has_right_ia.false-raw region;
         };
         new_is = put.insert.ensures.1;
-        noted = c.other-note.ensures (of found a.args.first (take (k found) (status found))) (of found (not a.args.first) (take (k found) (status found))) all (counted.has-odd-of.ensures (s found))
+        noted = c.other_note.ensures (of found a.args.first (take (k found) (status found))) (of found (not a.args.first) (take (k found) (status found))) all (counted.has_odd_of-own.ensures (s found))
             ∙ ap (λ (m : ℕ). bit (odd m)) (sym (of_first found (not a.args.first)));
       }
 
-returns : tie.Need-returns
-returns c = (refl, stops (λ can. omega (arith, can.0)))
+returns-then-n-status : tie.Need-returns-then-n-status
+returns-then-n-status c = (refl, stops (λ can. omega (arith, can.0)))
 
-fits-over-requires : tie.Need-fits-over-requires
-fits-over-requires c κs =
-    let d = c.before in
+fits_over-requires : tie.Need-fits_over-requires
+fits_over-requires c κs =
+    let d = c in
     (event d, held_readable (held_fewer (z d).requires.0.held (k d) (below_all d)) (z d).requires.0.scene)
 
-same_length : tie.Need-same-length
-same_length c = search rules
+shape_of-status-then-not-fits_over : tie.Need-shape_of-status-then-not-fits_over
+shape_of-status-then-not-fits_over c = search rules
 
-returns-2 : tie.Need-returns-2
-returns-2 c =
+returns-then-not-fits_over : tie.Need-returns-then-not-fits_over
+returns-then-not-fits_over c =
     let f = c.before in
-    let d = f.before.before in
-    (refl, stops (λ can. refused f.fits-over.result c.if2.true (f.fits-over.ensures.complete (from_below (status d) (z d).args.n (z d).requires.0.held.room (Fitting d) (k d) (below_all d) can.1.over))))
+    let d = f.before in
+    (refl, stops (λ can. refused f.fits_over.result c.if-not-fits_over.true-raw (f.fits_over.ensures.complete (from_below (status d) (z d).args.n (z d).requires.0.held.room (Fitting d) (k d) (below_all d) can.1.over))))
 
-fits-under-requires : tie.Need-fits-under-requires
-fits-under-requires c κs =
-    let d = c.before.before.before.before in
+fits_under-requires : tie.Need-fits_under-requires
+fits_under-requires c κs =
+    let d = c.before.before in
     (event d, held_readable (z d).requires.0.held (z d).requires.0.scene)
 
-same-length-2 : tie.Need-same-length-2
-same-length-2 c = search rules
+shape_of-status-then-not-fits_under : tie.Need-shape_of-status-then-not-fits_under
+shape_of-status-then-not-fits_under c = search rules
 
-returns-3 : tie.Need-returns-3
-returns-3 c =
+returns-then-not-fits_under : tie.Need-returns-then-not-fits_under
+returns-then-not-fits_under c =
     let f = c.before in
     let d = f.before.before.before.before.before in
-    (refl, stops (λ can. refused f.Fits-under.result c.if3.true (f.Fits-under.ensures.complete can.1.under)))
+    (refl, stops (λ can. refused f.fits_under.result c.if-not-fits_under.true-raw (f.fits_under.ensures.complete can.1.under)))
 
-has-odd-of-requires : tie.Need-has-odd-of-requires
-has-odd-of-requires c κs =
-    let d = c.before.before.before.before.before.before.before in
+has_odd_of-own-requires : tie.Need-has_odd_of-own-requires
+has_odd_of-own-requires c κs =
+    let d = c.before.before.before.before in
     (omega (arith, below_all d, (z d).requires.0.held.room), start_small (s d) (z d).args.scene (z d).requires.0.scene)
 
-has-right-ia-requires : tie.Need-has-right-ia-requires
-has-right-ia-requires c κs = search rules
+has_right_ia-requires : tie.Need-has_right_ia-requires
+has_right_ia-requires c κs = search rules
 
-same-length-3 : tie.Need-same-length-3
-same-length-3 c = search rules
+shape_of-status-then-not-has_right_ia : tie.Need-shape_of-status-then-not-has_right_ia
+shape_of-status-then-not-has_right_ia c = search rules
 
-returns-4 : tie.Need-returns-4
-returns-4 c =
+returns-then-not-has_right_ia : tie.Need-returns-then-not-has_right_ia
+returns-then-not-has_right_ia c =
     let f = c.before in
     let o = f.before in
-    let d = o.before.before.before.before.before.before.before.before in
-    (refl, stops (λ can. refused f.has-right-ia.result c.if4.true (f.has-right-ia.ensures.complete (λ region. o.has-odd-of.ensures (s d) ∙ ap odd (sym (of_first d (z d).args.first)) ∙ can.1.right_ia region))))
+    let d = o.before.before.before.before.before in
+    (refl, stops (λ can. refused f.has_right_ia.result c.if-not-has_right_ia.true-raw (f.has_right_ia.ensures.complete (λ region. o.has_odd_of-own.ensures (s d) ∙ ap odd (sym (of_first d (z d).args.first)) ∙ can.1.right_ia region))))
 
-cast-insert : tie.Need-overflow-cast-insert
-cast-insert c =
-    let z = z c.before.before.before.before.before.before.before.before.before.before.before in
-    omega (arith, entry_small z.args.s.now z.args.scene z.pre.0.scene z.pre.0.event)
+overflow_cast-at : tie.Need-overflow_cast-at
+overflow_cast-at c =
+    let z = z c.before.before.before.before.before.before.before.before in
+    omega (arith, entry_small z.args.s.now z.args.scene z.requires.0.scene z.requires.0.event)
 
 insert-requires : tie.Need-insert-requires
 insert-requires c κs =
-    let d = c.before.before.before.before.before.before.before.before.before.before.before in
-    (below_all d, omega (arith, (z d).requires.0.held.room, d.if1.false))
+    let d = c.before.before.before.before.before.before.before.before in
+    (below_all d, omega (arith, (z d).requires.0.held.room, d.if-n-status.false))
 
-add-t9 : tie.Need-overflow-add-t9
-add-t9 c = fits (c.before.before.before.before.before.before.before.before.before.before.before.before.before.before)
+overflow_add-result : tie.Need-overflow_add-result
+overflow_add-result c = fits (c.before.before.before.before.before.before.before.before.before.before.before)
 
-other-note-requires : tie.Need-other-note-requires
-other-note-requires c κs = search rules
+other_note-requires : tie.Need-other_note-requires
+other_note-requires c κs = search rules
 
-add-t23 : tie.Need-overflow-add-t23
-add-t23 c = let d = found c in omega (arith, below_all d, fits d)
+overflow_add-result-2 : tie.Need-overflow_add-result-2
+overflow_add-result-2 c = let d = found c in omega (arith, below_all d, fits d)
 
-same-length-4 : tie.Need-same-length-4
-same-length-4 c = search rules
+shape_of-status : tie.Need-shape_of-status
+shape_of-status c = search rules
 
-returns-5 : tie.Need-returns-5
-returns-5 c = (
+returns : tie.Need-returns
+returns c = (
   (put c).insert.ensures.0,
-  on (omega (arith, (put c).insert.ensures.0, (a c).requires.0.held.room, (found c).if1.false), began c),
+  on (omega (arith, (put c).insert.ensures.0, (a c).requires.0.held.room, (found c).if-n-status.false), began c),
 )
 
-pub begin-spec : {M : Type 1} → statement M
-begin-spec =
+pub begin_spec : {M : Type 1} → statement M
+begin_spec =
     tie.close
     (tie.spec
-    returns
-    fits-over-requires
-    same_length
-    returns-2
-    fits-under-requires
-    same-length-2
-    returns-3
-    has-odd-of-requires
-    has-right-ia-requires
-    same-length-3
-    returns-4
-    cast-insert
+    returns-then-n-status
+    fits_over-requires
+    shape_of-status-then-not-fits_over
+    returns-then-not-fits_over
+    fits_under-requires
+    shape_of-status-then-not-fits_under
+    returns-then-not-fits_under
+    has_odd_of-own-requires
+    has_right_ia-requires
+    shape_of-status-then-not-has_right_ia
+    returns-then-not-has_right_ia
+    overflow_cast-at
     insert-requires
-    add-t9
-    other-note-requires
-    add-t23
-    same-length-4
-    returns-5)
+    overflow_add-result
+    other_note-requires
+    overflow_add-result-2
+    shape_of-status
+    returns)

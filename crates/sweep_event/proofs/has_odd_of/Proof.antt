@@ -25,28 +25,28 @@ same_side_lem false true false = refl
 same_side_lem false false true = refl
 same_side_lem false false false = refl
 
-given-second-requires : tie.Need-given-second-requires
-given-second-requires c κs = search rules
+given_second-second-requires : tie.Need-given_second-second-requires
+given_second-second-requires c κs = search rules
 
-cast-has-odd-beside : tie.Need-overflow-cast-has-odd-beside
-cast-has-odd-beside c =
+overflow_cast-second : tie.Need-overflow_cast-second
+overflow_cast-second c =
     let z = c.before.before.before in
-    omega (arith, z.requires.1, ap (λ (l : Layout). l.start) c.before.given-second.ensures)
+    omega (arith, z.requires.1, ap (λ (l : Layout). l.start) c.given_second-second.ensures)
 
-is-turned-requires : tie.Need-is-turned-requires
-is-turned-requires c κs = search rules
+is_turned-requires : tie.Need-is_turned-requires
+is_turned-requires c κs = search rules
 
-has-odd-beside-requires : tie.Need-has-odd-beside-requires
-has-odd-beside-requires c κs = search rules
+has_odd_beside-requires : tie.Need-has_odd_beside-requires
+has_odd_beside-requires c κs = search rules
 
 returns : tie.Need-returns
 returns c s =
     let d = c.before.before.before in
     let z = d.before.before in
     let entries = take z.args.k z.args.status.now in
-    c.has-odd-beside.ensures
-    ∙ ap₂ (λ (l : Layout) (t : Bool). odd (count (λ (e : ℕ). beq (not (beq z.args.first t)) (ltb e l.start)) entries)) d.given-second.ensures c.before.is_turned.ensures
+    c.has_odd_beside.ensures
+    ∙ ap₂ (λ (l : Layout) (t : Bool). odd (count (λ (e : ℕ). beq (not (beq z.args.first t)) (ltb e l.start)) entries)) d.given_second-second.ensures c.is_turned.ensures
     ∙ ap odd (count_same _ (λ (e : ℕ). beq z.args.first (is_first s z.args.scene e)) entries (λ e m. same_side_lem z.args.first (turned z.args.scene) (ltb e (given_second z.args.scene).start)))
 
-pub has-odd-of-spec : {M : Type 1} → statement M
-has-odd-of-spec = tie.close (tie.spec given-second-requires cast-has-odd-beside is-turned-requires has-odd-beside-requires returns)
+pub has_odd_of_spec : {M : Type 1} → statement M
+has_odd_of_spec = tie.close (tie.spec given_second-second-requires overflow_cast-second is_turned-requires has_odd_beside-requires returns)

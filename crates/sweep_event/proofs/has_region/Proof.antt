@@ -7,17 +7,17 @@ use Rattle.sweep_laws.specs.Swept.{object_of}
 use Rattle.sweep_event.proofs.has_region.Statement.{statement}
 use Rattle.sweep_event.proofs.has_region.Tie as tie
 
-is-region-requires : tie.Need-is-region-requires
-is-region-requires c κs = search rules
+is_region-requires : tie.Need-is_region-requires
+is_region-requires c κs = search rules
 
-is-region-requires-2 : tie.Need-is-region-requires-2
-is-region-requires-2 c κs = search rules
+is_region-requires-else-first : tie.Need-is_region-requires-else-first
+is_region-requires-else-first c κs = search rules
 
-returns : tie.Need-returns
-returns c = λ s. c.is-region.ensures ∙ sym (ap (λ (b : Bool). is_region (object_of s c.before.before.before.args.scene b).shape) c.before.before.if1.true)
+returns-then-first : tie.Need-returns-then-first
+returns-then-first c = λ s. c.is_region.ensures ∙ sym (ap (λ (b : Bool). is_region (object_of s c.args.scene b).shape) c.if-first.true)
 
-returns-2 : tie.Need-returns-2
-returns-2 c = λ s. c.is-region2.ensures ∙ sym (ap (λ (b : Bool). is_region (object_of s c.before.before.before.args.scene b).shape) c.before.before.if1.false)
+returns-else-first : tie.Need-returns-else-first
+returns-else-first c = λ s. c.is_region-else-first.ensures ∙ sym (ap (λ (b : Bool). is_region (object_of s c.args.scene b).shape) c.if-first.false)
 
-pub has-region-spec : {M : Type 1} → statement M
-has-region-spec = tie.close (tie.spec is-region-requires is-region-requires-2 returns returns-2)
+pub has_region_spec : {M : Type 1} → statement M
+has_region_spec = tie.close (tie.spec is_region-requires is_region-requires-else-first returns-then-first returns-else-first)

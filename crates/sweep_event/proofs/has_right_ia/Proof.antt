@@ -14,29 +14,29 @@ apart : (b : Bool) → b ≡ not b → ⊥
 apart true e = true≢false e
 apart false e = true≢false (sym e)
 
-has-region-requires : tie.Need-has-region-requires
-has-region-requires c κs = search rules
+has_region-requires : tie.Need-has_region-requires
+has_region-requires c κs = search rules
 
-returns : tie.Need-returns
-returns c =
-    let a = c.before.before.before.args in
-    yes (λ region. absurd (subst T (refuted (c.before.has-region.ensures a.s.now) c.if1.true) region))
+returns-then-not-has_region : tie.Need-returns-then-not-has_region
+returns-then-not-has_region c =
+    let a = c.args in
+    yes (λ region. absurd (subst T (refuted (c.has_region.ensures a.s.now) c.if-not-has_region.true-raw) region))
 
 ia-requires : tie.Need-ia-requires
 ia-requires c κs =
     let z = c.before.before.before in
     entry_ia z.args.s.now z.args.scene z.requires.0 z.requires.2 z.requires.1
-    (is_true _ (upheld (c.before.has-region.ensures z.args.s.now) c.if1.false))
+    (is_true _ (upheld (c.has_region.ensures z.args.s.now) c.if-not-has_region.false-raw))
 
-returns-2 : tie.Need-returns-2
-returns-2 c =
-    let own = c.before.before.before.before.args.own in
+returns : tie.Need-returns
+returns c =
+    let own = c.args.own in
     let z = c.before.before.before.before in
     let d = c.before in
     record {
       sound = λ t region. beq_other own c.ia.result (false_is (beq own c.ia.result) t) ∙ ap not c.ia.ensures;
-      complete = λ w. not_T (beq own c.ia.result) (λ t. apart c.ia.result (sym (beq_same own c.ia.result (true_is _ t)) ∙ w (is_true _ (upheld (d.before.has-region.ensures z.args.s.now) d.if1.false)) ∙ ap not (sym c.ia.ensures)));
+      complete = λ w. not_T (beq own c.ia.result) (λ t. apart c.ia.result (sym (beq_same own c.ia.result (true_is _ t)) ∙ w (is_true _ (upheld (d.has_region.ensures z.args.s.now) d.if-not-has_region.false-raw)) ∙ ap not (sym c.ia.ensures)));
     }
 
-pub has-right-ia-spec : {M : Type 1} → statement M
-has-right-ia-spec = tie.close (tie.spec has-region-requires returns ia-requires returns-2)
+pub has_right_ia_spec : {M : Type 1} → statement M
+has_right_ia_spec = tie.close (tie.spec has_region-requires returns-then-not-has_region ia-requires returns)

@@ -10,12 +10,12 @@ use Rattle.sweep_event.proofs.Odd.{odd_rest}
 use Rattle.sweep_event.proofs.other_note.Statement.{statement}
 use Rattle.sweep_event.proofs.other_note.Tie as tie
 
-cast-result : tie.Need-overflow-cast-result
-cast-result c = search rules
+overflow_cast-result : tie.Need-overflow_cast-result
+overflow_cast-result c = search rules
 
 returns : tie.Need-returns
 unfolding odd
 returns c = λ a b sum own. ap (λ (x : Bool). bool_byte (not (beq x (odd c.args.k)))) own ∙ ap (λ (n : ℕ). bool_byte (not (beq (odd a) (odd n)))) (sym sum) ∙ ap bool_byte (odd_rest a b) ∙ byte_bit (odd b)
 
-pub other-note-spec : {M : Type 1} → statement M
-other-note-spec = tie.close (tie.spec cast-result returns)
+pub other_note_spec : {M : Type 1} → statement M
+other_note_spec = tie.close (tie.spec overflow_cast-result returns)

@@ -12,76 +12,76 @@ use Rattle.sweep_laws.proofs.Shifted.{lowered, lowered_none, lowered_more, lower
 use Rattle.sweep_status.proofs.remove.Statement.{statement}
 use Rattle.sweep_status.proofs.remove.Tie as tie
 
-abbrev invariant_loop : tie.invariant-loop
+abbrev invariant_loop : tie.invariant-loop-i
 invariant_loop status₀ n k last i₀ status i =
     (k ≤ i) × (i ≤ last) × (n ≤ last + 1) × (last < length status₀) × (length status ≡ length status₀) × (status ≡ lowered 0 status₀ k i)
 
-abbrev decreases_loop : tie.decreases-loop
+abbrev decreases_loop : tie.decreases-loop-i
 decreases_loop status₀ n k last i₀ status i = last - i
 
 -- at the end
-done : (c : tie.After-loop invariant_loop decreases_loop) → c.before.loop.i ≡ c.before.before.block-end.result
+done : (c : tie.After-loop-i invariant_loop decreases_loop) → c.loop-i.i ≡ c.block_end-last.result
 done c = omega arith
 
-sub-block-end : tie.Need-overflow-sub-block-end invariant_loop decreases_loop
-sub-block-end c = omega arith
+overflow_sub-n : tie.Need-overflow_sub-n invariant_loop decreases_loop
+overflow_sub-n c = omega arith
 
-block-end-requires : tie.Need-block-end-requires invariant_loop decreases_loop
-block-end-requires c κs = search rules
+block_end-last-requires : tie.Need-block_end-last-requires invariant_loop decreases_loop
+block_end-last-requires c κs = search rules
 
-loop-holds : tie.Need-loop-init invariant_loop decreases_loop
-loop-holds c =
+loop-i-init : tie.Need-loop-i-init invariant_loop decreases_loop
+loop-i-init c =
     let z = c.before.before in
-    (omega arith, omega (arith, c.block-end.ensures.0), omega (arith, c.block-end.ensures.0), c.block-end.ensures.1, refl, lowered_none 0 z.args.status.now z.args.k)
+    (omega arith, omega (arith, c.block_end-last.ensures.0), omega (arith, c.block_end-last.ensures.0), c.block_end-last.ensures.1, refl, lowered_none 0 z.args.status.now z.args.k)
 
-add-status : tie.Need-overflow-add-status invariant_loop decreases_loop
-add-status c = omega arith
+overflow_add-status : tie.Need-overflow_add-status invariant_loop decreases_loop
+overflow_add-status c = omega arith
 
-mul-status : tie.Need-overflow-mul-status invariant_loop decreases_loop
-mul-status c = omega arith
+offset_bounds-status-i : tie.Need-offset_bounds-status-i invariant_loop decreases_loop
+offset_bounds-status-i c = omega arith
 
-slice-read-status : tie.Need-slice-read-status invariant_loop decreases_loop
-slice-read-status c = omega arith
+bounds-status-i : tie.Need-bounds-status-i invariant_loop decreases_loop
+bounds-status-i c = omega arith
 
-mul-status-2 : tie.Need-overflow-mul-status-2 invariant_loop decreases_loop
-mul-status-2 c = omega arith
+offset_bounds-status-i-in-loop-i : tie.Need-offset_bounds-status-i-in-loop-i invariant_loop decreases_loop
+offset_bounds-status-i-in-loop-i c = omega arith
 
-slice-write-status : tie.Need-slice-write-status invariant_loop decreases_loop
-slice-write-status c = omega arith
+bounds-status-i-in-loop-i : tie.Need-bounds-status-i-in-loop-i invariant_loop decreases_loop
+bounds-status-i-in-loop-i c = omega arith
 
-add-i : tie.Need-overflow-add-i invariant_loop decreases_loop
-add-i c = omega arith
+overflow_add-i : tie.Need-overflow_add-i invariant_loop decreases_loop
+overflow_add-i c = omega arith
 
-loop-less : tie.Need-loop-smaller invariant_loop decreases_loop
-loop-less c = omega arith
+loop-i-smaller : tie.Need-loop-i-smaller invariant_loop decreases_loop
+loop-i-smaller c = omega arith
 
-loop-again : tie.Need-loop-preserved invariant_loop decreases_loop
-loop-again c =
+loop-i-preserved : tie.Need-loop-i-preserved invariant_loop decreases_loop
+loop-i-preserved c =
     let d = c.before.before in
-    let i = d.loop.invariant in
+    let i = d.loop-i.invariant in
     let z = d.before.before.before in (
       omega arith,
       omega arith,
       i.2,
       i.3,
       simp length-set i.4,
-      ap (λ (l : List ℕ). set l d.loop.i (get_or l (d.loop.i + 1) 0)) i.5
-          ∙ lowered_more 0 z.args.status.now z.args.k d.loop.i i.0 (omega arith),
+      ap (λ (l : List ℕ). set l d.loop-i.i (get_or l (d.loop-i.i + 1) 0)) i.5
+          ∙ lowered_more 0 z.args.status.now z.args.k d.loop-i.i i.0 (omega arith),
     )
 
-same_length : tie.Need-same-length invariant_loop decreases_loop
-same_length c = c.before.loop.invariant.4
+shape_of-status : tie.Need-shape_of-status invariant_loop decreases_loop
+shape_of-status c = c.loop-i.invariant.4
 
 returns : tie.Need-returns invariant_loop decreases_loop
 returns c =
     let d = c.before in
     let z = d.before.before.before in
     let a = z.args in
-    let i = d.loop.invariant in
-    let last = d.before.block-end.result in
+    let i = d.loop-i.invariant in
+    let last = d.block_end-last.result in
     let less : last + 1 - 1 ≡ last = omega arith in (
       i.4,
-      sym (take-take (a.n - 1) last d.loop.status (omega (arith, i.2)))
+      sym (take-take (a.n - 1) last d.loop-i.status (omega (arith, i.2)))
           ∙ ap (take (a.n - 1))
           (ap (take last) (i.5 ∙ ap (lowered 0 a.status.now a.k) (done c))
           ∙ subst (λ (m : ℕ). take m (lowered 0 a.status.now a.k m) ≡ removed a.k (take (last + 1) a.status.now)) less
@@ -89,22 +89,22 @@ returns c =
           ∙ removed_fewer a.k a.n (last + 1) a.status.now z.requires.0 i.2,
     )
 
-pub remove-spec : {M : Type 1} → statement M
-remove-spec =
+pub remove_spec : {M : Type 1} → statement M
+remove_spec =
     tie.close
     (tie.spec
     invariant_loop
     decreases_loop
-    sub-block-end
-    block-end-requires
-    loop-holds
-    add-status
-    mul-status
-    slice-read-status
-    mul-status-2
-    slice-write-status
-    add-i
-    loop-less
-    loop-again
-    same_length
+    overflow_sub-n
+    block_end-last-requires
+    loop-i-init
+    overflow_add-status
+    offset_bounds-status-i
+    bounds-status-i
+    offset_bounds-status-i-in-loop-i
+    bounds-status-i-in-loop-i
+    overflow_add-i
+    loop-i-smaller
+    loop-i-preserved
+    shape_of-status
     returns)

@@ -56,8 +56,8 @@ overflow_add-out c = omega arith
 bounds-out-k-in-loop-k : tie.Need-bounds-out-k-in-loop-k invariant_loop decreases_loop
 bounds-out-k-in-loop-k c = let h = c.loop-k in rw length-set (omega (arith, h.invariant.1))
 
-overflow_add-k : tie.Need-overflow_add-k invariant_loop decreases_loop
-overflow_add-k c = omega arith
+overflow_add-k-in-loop-k : tie.Need-overflow_add-k-in-loop-k invariant_loop decreases_loop
+overflow_add-k-in-loop-k c = omega arith
 
 loop-k-smaller : tie.Need-loop-k-smaller invariant_loop decreases_loop
 loop-k-smaller c = omega arith
@@ -93,7 +93,7 @@ write_block_spec =
     overflow_mul-out-in-loop-k
     overflow_add-out
     bounds-out-k-in-loop-k
-    overflow_add-k
+    overflow_add-k-in-loop-k
     loop-k-smaller
     loop-k-preserved
     overflow_mul-result-2

@@ -53,7 +53,7 @@ ia-requires c κs =
 
 interior_above-requires : tie.Need-interior_above-requires
 interior_above-requires c κs =
-    let r = c.before.before in
+    let r = c.before.before.before in
     let d = r.before.before in
     let a = (z d).args in
     ((z d).requires.0, is_true (has_segments a.l.shape) (region_segments a.l.shape (region d)), half_in_range a.s.now a.l a.i (is_half r) (good d))
@@ -61,7 +61,7 @@ interior_above-requires c κs =
 returns-then-h : tie.Need-returns-then-h
 returns-then-h c =
     let t = c.before.before in
-    let r = t.before in
+    let r = t.before.before in
     let d = r.before.before in
     let a = (z d).args in
     rw (region d, is_side r t.if-h.true)

@@ -38,7 +38,7 @@ module _ (c : tie.After-place_for-j) where
   is_place : c.place_for-j.result ≡ sought
   is_place =
       c.place_for-j.ensures
-      ∙ ap (λ (h : Halfsegment). place_for start.args.s.now start.args.l (record { segment = h.segment-1; is_left = not h.is_left })) (half_own c.before.before.before)
+      ∙ ap (λ (h : Halfsegment). place_for start.args.s.now start.args.l (record { segment = h.segment; is_left = not h.is_left })) (half_own c.before.before.before)
 
 place-own-requires : tie.Need-place-own-requires
 place-own-requires c κs = let z = c.before in omega (arith, (good z z.args.i z.requires.1).there, z.well_formed.0)

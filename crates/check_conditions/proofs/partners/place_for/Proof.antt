@@ -21,10 +21,10 @@ use Rattle.check_conditions.proofs.partners.place_for.Tie as tie
 abbrev test : List ℕ → Layout → Halfsegment → ℕ → Bool
 test s l h j = comes_before (half s l j) h
 
-abbrev invariant_loop : tie.invariant-loop
+abbrev invariant_loop : tie.invariant-loop-low
 invariant_loop s l h low₀ high₀ low high = (low ≤ high) × (high ≤ l.count) × Halving (test s l h) (place_for s l h) low high
 
-abbrev decreases_loop : tie.decreases-loop
+abbrev decreases_loop : tie.decreases-loop-low
 decreases_loop s l h low₀ high₀ low high = high - low
 
 -- a turn: the element in the middle

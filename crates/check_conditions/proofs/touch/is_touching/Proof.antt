@@ -50,13 +50,13 @@ halfsegment-h-requires c κs = omega (arith, (good c.before).there, c.place.ensu
 
 touches_from-requires : tie.Need-touches_from-requires
 touches_from-requires c κs =
-    let d = c.before.before.before in
-    let e = ap (λ (h : Halfsegment). h.segment) (is_half c.before) in
+    let d = c.before.before.before.before in
+    let e = ap (λ (h : Halfsegment). h.segment) (is_half c.before.before) in
     ((z d).requires.1, in_range_at e (good d).in_range_lem, in_order_at e (good d).in_order, (z d).requires.2)
 
 returns-then-h : tie.Need-returns-then-h
 returns-then-h c =
-    let r = c.before.before in
+    let r = c.before.before.before in
     let d = r.before.before in
     rw (← touching_by d (is_half r), c.if-h.true) c.touches_from.ensures
 

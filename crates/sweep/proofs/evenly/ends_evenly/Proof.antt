@@ -18,101 +18,101 @@ use Rattle.sweep_laws.proofs.Evenly.{parity_from, parity_all, parity_end, parity
 use Rattle.sweep.proofs.evenly.ends_evenly.Statement.{statement}
 use Rattle.sweep.proofs.evenly.ends_evenly.Tie as tie
 
-abbrev invariant_loop : tie.invariant-loop
+abbrev invariant_loop : tie.invariant-loop-i
 invariant_loop s l size at₀ i₀ at i =
     (at ≡ place l i) × (i % 2 ≡ 0) × ((v : Point) → parity (dominated_by s l v) (elements l) ≡ parity_from (dominated_by s l v) i l.count)
 
-abbrev decreases_loop : tie.decreases-loop
+abbrev decreases_loop : tie.decreases-loop-i
 decreases_loop s l size at₀ i₀ at i = l.count - i
 
 -- a turn
-module _ (c : tie.Then2 invariant_loop decreases_loop) where
-  abbrev d : tie.At-loop invariant_loop decreases_loop
+module _ (c : tie.In-loop-i invariant_loop decreases_loop) where
+  abbrev d : tie.At-loop-i invariant_loop decreases_loop
   d = c.before.before
 
   abbrev z : tie.Start invariant_loop decreases_loop
   z = d.before.before.before.before.before.before
 
-  pair_left : d.loop.i + 1 < z.args.l.count
+  pair_left : d.loop-i.i + 1 < z.args.l.count
   pair_left = omega arith
 
-  here : Pair z.args.s.now z.args.l d.loop.at d.before.before.size.result d.loop.i
-  here = pair z.pre.0 z.pre.1 d.loop.inv.0 d.before.before.size.ensures pair_left
+  here : Pair z.args.s.now z.args.l d.loop-i.at d.size-size.result d.loop-i.i
+  here = pair z.requires.0 z.requires.1 d.loop-i.invariant.0 d.size-size.ensures pair_left
 
-returns : tie.Need-returns invariant_loop decreases_loop
-returns c = let z = c.before.before.before in no (λ evenly. omega (arith, even_count z.args.s.now z.args.l evenly, c.if1.true))
+returns-then-l-ne0 : tie.Need-returns-then-l-ne0 invariant_loop decreases_loop
+returns-then-l-ne0 c = let z = c.before.before.before in no (λ evenly. omega (arith, even_count z.args.s.now z.args.l evenly, c.if-l-ne0.true))
 
-size-requires : tie.Need-size-requires invariant_loop decreases_loop
-size-requires c κs = search rules
+size-size-requires : tie.Need-size-size-requires invariant_loop decreases_loop
+size-size-requires c κs = search rules
 
-add_at : tie.Need-overflow-add-at invariant_loop decreases_loop
-add_at c = let z = c.before.before.before.before.before in omega (arith, (taken_object z.args.s.now z.args.l.start z.args.l z.requires.0).ends)
+overflow_add-at : tie.Need-overflow_add-at invariant_loop decreases_loop
+overflow_add-at c = let z = c.before.before.before.before.before in omega (arith, (taken_object z.args.s.now z.args.l.start z.args.l z.requires.0).ends)
 
-loop-holds : tie.Need-loop-init invariant_loop decreases_loop
-loop-holds c =
-    let z = c.before.before.before.before.before.args in
+loop-i-init : tie.Need-loop-i-init invariant_loop decreases_loop
+loop-i-init c =
+    let z = c.args in
     (omega arith, omega arith, λ v. parity_all (dominated_by z.s.now z.l v) z.l.count)
 
-add-share-point : tie.Need-overflow-add-share-point invariant_loop decreases_loop
-add-share-point c = omega (arith, (here c).ranges)
+overflow_add-at-in-loop-i : tie.Need-overflow_add-at-in-loop-i invariant_loop decreases_loop
+overflow_add-at-in-loop-i c = omega (arith, (here c).ranges)
 
-share-point-requires : tie.Need-share-point-requires invariant_loop decreases_loop
-share-point-requires c κs = ((here c).first, (here c).second)
+share_point-requires : tie.Need-share_point-requires invariant_loop decreases_loop
+share_point-requires c κs = ((here c).first, (here c).second)
 
-returns-2 : tie.Need-returns-2 invariant_loop decreases_loop
-returns-2 c =
+returns-then-not-share_point : tie.Need-returns-then-not-share_point invariant_loop decreases_loop
+returns-then-not-share_point c =
     let e = c.before.before in
     let a = (z e).args in
     let p = (z e).requires in
     no
-    (λ evenly. next_shares a.s.now a.l p.0 p.1 p.2 (d e).loop.i (pair_left e) (λ v. sym ((d e).loop.invariant.2 v) ∙ evenly v)
-    (ap₂ (λ (m n : ℕ). is_same_point (dominating (halfsegment_at a.s.now m)) (dominating (halfsegment_at a.s.now n))) (sym (d e).loop.invariant.0) (sym (here e).next) ∙ refuted c.before.share-point.ensures c.if3.true))
+    (λ evenly. next_shares a.s.now a.l p.0 p.1 p.2 (d e).loop-i.i (pair_left e) (λ v. sym ((d e).loop-i.invariant.2 v) ∙ evenly v)
+    (ap₂ (λ (m n : ℕ). is_same_point (dominating (halfsegment_at a.s.now m)) (dominating (halfsegment_at a.s.now n))) (sym (d e).loop-i.invariant.0) (sym (here e).next) ∙ refuted c.share_point.ensures c.if-not-share_point.true-raw))
 
-mul_at : tie.Need-overflow-mul-at invariant_loop decreases_loop
-mul_at c = omega (arith, (here c.before.before).fits)
+overflow_mul-at : tie.Need-overflow_mul-at invariant_loop decreases_loop
+overflow_mul-at c = omega (arith, (here c.before.before).fits)
 
-add-at-2 : tie.Need-overflow-add-at-2 invariant_loop decreases_loop
-add-at-2 c = omega (arith, (here c.before.before).fits)
+overflow_add-at-in-loop-i-2 : tie.Need-overflow_add-at-in-loop-i-2 invariant_loop decreases_loop
+overflow_add-at-in-loop-i-2 c = omega (arith, (here c.before.before).fits)
 
-add-i : tie.Need-overflow-add-i invariant_loop decreases_loop
-add-i c = omega (arith, pair_left c.before.before)
+overflow_add-i : tie.Need-overflow_add-i invariant_loop decreases_loop
+overflow_add-i c = omega (arith, pair_left c.before.before)
 
-loop-less : tie.Need-loop-smaller invariant_loop decreases_loop
-loop-less c = omega arith
+loop-i-smaller : tie.Need-loop-i-smaller invariant_loop decreases_loop
+loop-i-smaller c = omega arith
 
-loop-again : tie.Need-loop-preserved invariant_loop decreases_loop
-loop-again c =
+loop-i-preserved : tie.Need-loop-i-preserved invariant_loop decreases_loop
+loop-i-preserved c =
     let e = c.before.before in
     let a = (z e).args in (
       (here e).beyond,
       omega arith,
-      λ v. (d e).loop.invariant.2 v
-          ∙ parity_pair (dominated_by a.s.now a.l v) (d e).loop.i a.l.count (pair_left e)
-          (shared a.s.now a.l (d e).loop.i (d e).loop.invariant.0 (here e).next (is_true _ (upheld c.before.share-point.ensures c.if3.false)) v),
+      λ v. (d e).loop-i.invariant.2 v
+          ∙ parity_pair (dominated_by a.s.now a.l v) (d e).loop-i.i a.l.count (pair_left e)
+          (shared a.s.now a.l (d e).loop-i.i (d e).loop-i.invariant.0 (here e).next (is_true _ (upheld c.share_point.ensures c.if-not-share_point.false-raw)) v),
     )
 
-returns-3 : tie.Need-returns-3 invariant_loop decreases_loop
-returns-3 c =
+returns : tie.Need-returns invariant_loop decreases_loop
+returns c =
     let d = c.before.before in
-    let a = d.before.before.before.before.before.before.args in
-    yes (λ v. d.loop.invariant.2 v ∙ parity_end (dominated_by a.s.now a.l v) d.loop.i a.l.count c.if2.false)
+    let a = d.args in
+    yes (λ v. d.loop-i.invariant.2 v ∙ parity_end (dominated_by a.s.now a.l v) d.loop-i.i a.l.count c.loop-i-test.false)
 
-pub ends-evenly-spec : {M : Type 1} → statement M
-ends-evenly-spec =
+pub ends_evenly_spec : {M : Type 1} → statement M
+ends_evenly_spec =
     tie.close
     (tie.spec
     invariant_loop
     decreases_loop
-    returns
-    size-requires
-    add_at
-    loop-holds
-    add-share-point
-    share-point-requires
-    returns-2
-    mul_at
-    add-at-2
-    add-i
-    loop-less
-    loop-again
-    returns-3)
+    returns-then-l-ne0
+    size-size-requires
+    overflow_add-at
+    loop-i-init
+    overflow_add-at-in-loop-i
+    share_point-requires
+    returns-then-not-share_point
+    overflow_mul-at
+    overflow_add-at-in-loop-i-2
+    overflow_add-i
+    loop-i-smaller
+    loop-i-preserved
+    returns)

@@ -9,20 +9,20 @@ use Rattle.scene_segments.proofs.Elements.{region_segments}
 use Rattle.sweep.proofs.evenly.is_even.Statement.{statement}
 use Rattle.sweep.proofs.evenly.is_even.Tie as tie
 
-is-region-requires : tie.Need-is-region-requires
-is-region-requires c κs = search rules
+is_region-requires : tie.Need-is_region-requires
+is_region-requires c κs = search rules
 
-returns : tie.Need-returns
-returns c = yes (λ region. absurd (subst T (refuted c.before.is-region.ensures c.if1.true) region))
+returns-then-not-is_region : tie.Need-returns-then-not-is_region
+returns-then-not-is_region c = yes (λ region. absurd (subst T (refuted c.is_region.ensures c.if-not-is_region.true-raw) region))
 
-ends-evenly-requires : tie.Need-ends-evenly-requires
-ends-evenly-requires c κs =
+ends_evenly-requires : tie.Need-ends_evenly-requires
+ends_evenly-requires c κs =
     let r = c.before in
     let z = r.before.before in
-    (z.requires.0, is_true _ (region_segments z.args.l.shape (upheld r.is-region.ensures c.if1.false)), z.requires.1)
+    (z.requires.0, is_true _ (region_segments z.args.l.shape (upheld r.is_region.ensures c.if-not-is_region.false-raw)), z.requires.1)
 
-returns-2 : tie.Need-returns-2
-returns-2 c = same_as (λ evenly region. evenly) (λ p. p (is_true _ (upheld c.before.before.is-region.ensures c.before.if1.false))) c.ends-evenly.ensures
+returns : tie.Need-returns
+returns c = same_as (λ evenly region. evenly) (λ p. p (is_true _ (upheld c.is_region.ensures c.if-not-is_region.false-raw))) c.ends_evenly.ensures
 
-pub is-even-spec : {M : Type 1} → statement M
-is-even-spec = tie.close (tie.spec is-region-requires returns ends-evenly-requires returns-2)
+pub is_even_spec : {M : Type 1} → statement M
+is_even_spec = tie.close (tie.spec is_region-requires returns-then-not-is_region ends_evenly-requires returns)

@@ -9,28 +9,28 @@ use Rattle.sweep.proofs.evenly.regions_end_evenly.Statement.{statement}
 use Rattle.sweep.proofs.evenly.regions_end_evenly.Tie as tie
 
 -- both were asked
-module _ (c : tie.After-is-even2) where
-  abbrev d : tie.Then1
+module _ (c : tie.After-is_even-then-is_even) where
+  abbrev d : tie.Then-is_even
   d = c.before
 
   abbrev z : tie.Start
   z = d.before.before.before.before.before
 
-  both : T c.is-even2.result → RegionsEndEvenly z.args.s.now z.args.scene
-  both t true = holds d.before.is-even.ensures d.if1.taken
-  both t false = c.is-even2.ensures.sound t
+  both : T c.is_even-then-is_even.result → RegionsEndEvenly z.args.s.now z.args.scene
+  both t true = holds d.is_even.ensures d.if-is_even.taken
+  both t false = c.is_even-then-is_even.ensures.sound t
 
-is-even-requires : tie.Need-is-even-requires
-is-even-requires c κs = let z = c.before.before.before in (read z.args.s.now z.args.scene z.requires.0 true, z.requires.1 true)
+is_even-requires : tie.Need-is_even-requires
+is_even-requires c κs = let z = c.before.before.before in (read z.args.s.now z.args.scene z.requires.0 true, z.requires.1 true)
 
-is-even-requires-2 : tie.Need-is-even-requires-2
-is-even-requires-2 c κs = let z = c.before.before.before.before.before in (read z.args.s.now z.args.scene z.requires.0 false, z.requires.1 false)
+is_even-requires-then-is_even : tie.Need-is_even-requires-then-is_even
+is_even-requires-then-is_even c κs = let z = c.before.before.before.before.before in (read z.args.s.now z.args.scene z.requires.0 false, z.requires.1 false)
 
-returns : tie.Need-returns
-returns c = record { sound = both c; complete = λ p. c.is-even2.ensures.complete (p false) }
+returns-then-is_even : tie.Need-returns-then-is_even
+returns-then-is_even c = record { sound = both c; complete = λ p. c.is_even-then-is_even.ensures.complete (p false) }
 
-returns-2 : tie.Need-returns-2
-returns-2 c = record { sound = λ t. absurd (subst T c.if1.false t); complete = λ p. c.before.is-even.ensures.complete (p true) }
+returns-else-is_even : tie.Need-returns-else-is_even
+returns-else-is_even c = record { sound = λ t. absurd (subst T c.if-is_even.false t); complete = λ p. c.is_even.ensures.complete (p true) }
 
-pub regions-end-evenly-spec : {M : Type 1} → statement M
-regions-end-evenly-spec = tie.close (tie.spec is-even-requires is-even-requires-2 returns returns-2)
+pub regions_end_evenly_spec : {M : Type 1} → statement M
+regions_end_evenly_spec = tie.close (tie.spec is_even-requires is_even-requires-then-is_even returns-then-is_even returns-else-is_even)

@@ -23,79 +23,79 @@ abbrev later : List ℕ → Scene → ℕ → ℕ → Bool
 later s sc i j = before (dominating (half s sc.g j)) (point_by s sc i)
 
 -- F has a point left
-module _ (c : tie.Else1) where
+module _ (c : tie.Else-i-f) where
   abbrev z : tie.Start
   z = c.before.before.before.before.before
 
   of_f_lem : z.args.i < z.args.scene.f.count
-  of_f_lem = omega (arith, z.pre.2, c.if1.false)
+  of_f_lem = omega (arith, z.requires.2, c.if-i-f.false)
 
 -- and G a halfsegment
-module _ (c : tie.Else2) where
+module _ (c : tie.Else-j-event_count) where
   abbrev y : tie.Start
   y = z c.before.before
 
   of_g_lem : y.args.j < total y.args.s.now y.args.scene false
-  of_g_lem = omega (arith, y.pre.3, c.before.event-count.ensures, c.if2.false)
+  of_g_lem = omega (arith, y.requires.3, c.event_count.ensures, c.if-j-event_count.false)
 
   good_f : GoodPoint y.args.s.now (place y.args.scene.f y.args.i)
-  good_f = point_good y.args.s.now y.args.scene y.pre.0 y.pre.1 y.args.i (of_f_lem c.before.before)
+  good_f = point_good y.args.s.now y.args.scene y.requires.0 y.requires.1 y.args.i (of_f_lem c.before.before)
 
   good_g : GoodHalfsegment y.args.s.now (place y.args.scene.g y.args.j)
-  good_g = good y.args.s.now y.args.scene y.pre.0 false y.args.j of_g_lem
+  good_g = good y.args.s.now y.args.scene y.requires.0 false y.args.j of_g_lem
+
+returns-then-i-f : tie.Need-returns-then-i-f
+returns-then-i-f c =
+    let a = c.args in
+    sym (none_left a.i a.scene.f.count a.j (total a.s.now a.scene false) (later a.s.now a.scene a.i a.j) (omega (arith, c.if-i-f.true)))
+
+event_count-requires : tie.Need-event_count-requires
+event_count-requires c κs = search rules
+
+returns-then-j-event_count : tie.Need-returns-then-j-event_count
+returns-then-j-event_count c =
+    let e = c.before in
+    let a = (z e.before).args in
+    sym (one_left a.i a.scene.f.count a.j (total a.s.now a.scene false) (later a.s.now a.scene a.i a.j) (of_f_lem e.before) (omega (arith, e.event_count.ensures, c.if-j-event_count.true)))
+
+place-requires : tie.Need-place-requires
+place-requires c κs = omega (arith, (good_g c).there, (y c).well_formed)
+
+halfsegment-h-requires : tie.Need-halfsegment-h-requires
+halfsegment-h-requires c κs = omega (arith, (good_g c.before).there, c.place.ensures)
+
+place-requires-2 : tie.Need-place-requires-2
+place-requires-2 c κs = let d = c.before.before in omega (arith, (good_f d).there, (y d).well_formed)
+
+point-v-requires : tie.Need-point-v-requires
+point-v-requires c κs = omega (arith, (good_f c.before.before.before).there, c.place-2.ensures)
+
+dominating_point-requires : tie.Need-dominating_point-requires
+dominating_point-requires c κs = search rules
+
+is_before-requires : tie.Need-is_before-requires
+is_before-requires c κs = search rules
 
 returns : tie.Need-returns
 returns c =
-    let a = c.before.before.before.before.before.args in
-    sym (none_left a.i a.scene.f.count a.j (total a.s.now a.scene false) (later a.s.now a.scene a.i a.j) (omega (arith, c.if1.true)))
-
-event-count-requires : tie.Need-event-count-requires
-event-count-requires c κs = search rules
-
-returns-2 : tie.Need-returns-2
-returns-2 c =
-    let e = c.before in
-    let a = (z e.before).args in
-    sym (one_left a.i a.scene.f.count a.j (total a.s.now a.scene false) (later a.s.now a.scene a.i a.j) (of_f_lem e.before) (omega (arith, e.event-count.ensures, c.if2.true)))
-
-place-requires : tie.Need-place-requires
-place-requires c κs = omega (arith, (good_g c).there, (y c).well-formed)
-
-halfsegment-requires : tie.Need-halfsegment-requires
-halfsegment-requires c κs = omega (arith, (good_g c.before).there, c.place.ensures)
-
-place-requires-2 : tie.Need-place-requires-2
-place-requires-2 c κs = let d = c.before.before in omega (arith, (good_f d).there, (y d).well-formed)
-
-point-requires : tie.Need-point-requires
-point-requires c κs = omega (arith, (good_f c.before.before.before).there, c.place2.ensures)
-
-dominating-point-requires : tie.Need-dominating-point-requires
-dominating-point-requires c κs = search rules
-
-is-before-requires : tie.Need-is-before-requires
-is-before-requires c κs = search rules
-
-returns-3 : tie.Need-returns-3
-returns-3 c =
     let p = c.before.before in
     let h = p.before.before in
     let d = h.before.before in
     let a = (y d).args in
-    ap not (c.is-before.ensures ∙ ap₂ before (c.before.dominating-point.ensures ∙ ap dominating (half_is a.s.now a.scene.g a.j h.halfsegment.ensures h.before.place.ensures)) (p.point.ensures ∙ ap (point_at a.s.now) p.before.place2.ensures))
+    ap not (c.is_before.ensures ∙ ap₂ before (c.dominating_point.ensures ∙ ap dominating (half_is a.s.now a.scene.g a.j h.halfsegment-h.ensures h.place.ensures)) (p.point-v.ensures ∙ ap (point_at a.s.now) p.place-2.ensures))
     ∙ sym (both_left a.i a.scene.f.count a.j (total a.s.now a.scene false) (later a.s.now a.scene a.i a.j) (of_f_lem d.before.before) (of_g_lem d))
 
-pub is-point-next-spec : {M : Type 1} → statement M
-is-point-next-spec =
+pub is_point_next_spec : {M : Type 1} → statement M
+is_point_next_spec =
     tie.close
     (tie.spec
-    returns
-    event-count-requires
-    returns-2
+    returns-then-i-f
+    event_count-requires
+    returns-then-j-event_count
     place-requires
-    halfsegment-requires
+    halfsegment-h-requires
     place-requires-2
-    point-requires
-    dominating-point-requires
-    is-before-requires
-    returns-3)
+    point-v-requires
+    dominating_point-requires
+    is_before-requires
+    returns)

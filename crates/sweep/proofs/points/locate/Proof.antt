@@ -24,26 +24,26 @@ use Rattle.sweep.proofs.points.locate.Statement.{statement}
 use Rattle.sweep.proofs.points.locate.Tie as tie
 
 -- the place was found
-module _ (c : tie.After-first-over) where
+module _ (c : tie.After-first_over-k) where
   abbrev z : tie.Start
   z = c.before.before.before
 
   abbrev k : ℕ
-  k = c.first-over.result
+  k = c.first_over-k.result
 
   abbrev entries : List ℕ
   entries = take z.args.n z.args.status.now
 
   within : k ≤ z.args.n
-  within = omega (arith, c.first-over.ensures.within, first_length z.args.status.now z.args.n z.pre.0.room)
+  within = omega (arith, c.first_over-k.ensures.within, first_length z.args.status.now z.args.n z.requires.0.room)
 
 -- the entry just below it
-module _ (c : tie.Else1) where
+module _ (c : tie.Else-k-eq0) where
   last : k c.before - 1 < (z c.before).args.n
-  last = omega (arith, within c.before, c.if1.false)
+  last = omega (arith, within c.before, c.if-k-eq0.false)
 
 module _ (c : tie.After-wide) where
-  abbrev d : tie.Else1
+  abbrev d : tie.Else-k-eq0
   d = c.before.before
 
   abbrev y : tie.Start
@@ -53,85 +53,85 @@ module _ (c : tie.After-wide) where
   i = k d.before - 1
 
   here : GoodHalfsegment y.args.s.now c.wide.result
-  here = subst (GoodHalfsegment y.args.s.now) (sym c.wide.ensures) (y.pre.0.entries i (last d))
+  here = subst (GoodHalfsegment y.args.s.now) (sym c.wide.ensures) (y.requires.0.entries i (last d))
 
 -- and whether it has the point in its line
-module _ (c : tie.After-is-in-line) where
+module _ (c : tie.After-is_in_line) where
   abbrev e : tie.After-wide
-  e = c.before.before
+  e = c.before.before.before.before
 
-  abbrev at : tie.After-first-over
+  abbrev at : tie.After-first_over-k
   at = (d e).before
 
   abbrev side_of : ℕ → ℤ
   side_of m = let t = segment_at (y e).args.s.now (get_or (entries at) m 0) in side t.left t.right (y e).args.v
 
-  test_is : c.is-in-line.result ≡ eq_z (side_of (i e)) (pos 0)
+  test_is : c.is_in_line.result ≡ eq_z (side_of (i e)) (pos 0)
   test_is =
-      c.is-in-line.ensures
+      c.is_in_line.ensures
       ∙ ap (λ (u : Segment). eq_z (side u.left u.right (y e).args.v) (pos 0))
-      (c.before.segment.ensures ∙ ap (segment_at (y e).args.s.now) (e.wide.ensures ∙ sym (get_or-take (y e).args.n (y e).args.status.now (i e) 0 (last (d e)))))
+      (c.segment-u.ensures ∙ ap (segment_at (y e).args.s.now) (e.wide.ensures ∙ sym (get_or-take (y e).args.n (y e).args.status.now (i e) 0 (last (d e)))))
 
   below : (m : ℕ) → suc m ≡ k at → i e ≡ m
   below m q = omega arith
 
-first-over-requires : tie.Need-first-over-requires
-first-over-requires c κs = let p = c.before.before.requires in (p.1, p.0)
+first_over-k-requires : tie.Need-first_over-k-requires
+first_over-k-requires c κs = let p = c.requires in (p.1, p.0)
+
+returns-then-k-eq0 : tie.Need-returns-then-k-eq0
+unfolding odd
+returns-then-k-eq0 c =
+    let b = c.before in
+    let p = b.first_over-k.ensures in
+    between (k b) p.within (none_below (entries b) (k b) (λ e. T (passes_under (segment_at (z b).args.s.now e) (z b).args.v)) c.if-k-eq0.true) p.over_it (ap (λ (m : ℕ). bit (odd m)) (sym c.if-k-eq0.true))
+
+overflow_sub-k : tie.Need-overflow_sub-k
+overflow_sub-k c = search rules
+
+offset_bounds-status-k : tie.Need-offset_bounds-status-k
+offset_bounds-status-k c = let z = z c.before in omega (arith, last c, z.requires.0.room, z.good)
+
+bounds-status-k : tie.Need-bounds-status-k
+bounds-status-k c = omega (arith, last c.before, (z c.before.before).requires.0.room)
+
+wide-requires : tie.Need-wide-requires
+wide-requires c κs = search rules
+
+segment-u-requires : tie.Need-segment-u-requires
+segment-u-requires c κs = (here c).there
+
+is_in_line-requires : tie.Need-is_in_line-requires
+is_in_line-requires c κs = let w = c.before in turn-asks c.segment-u.result (y w.before.before).args.v (in_range_at (here w.before.before) c.segment-u.ensures) (y w).requires.1
+
+returns-then-is_in_line : tie.Need-returns-then-is_in_line
+returns-then-is_in_line c =
+    let b = c.before in
+    on_entry (i (e b)) (omega (arith, last (d (e b)), first_length (y (e b)).args.status.now (y (e b)).args.n (y (e b)).requires.0.room))
+    (is_true _ (sym (test_is b) ∙ c.if-is_in_line.true)) refl
+
+overflow_cast-result : tie.Need-overflow_cast-result
+overflow_cast-result c = tt
 
 returns : tie.Need-returns
 unfolding odd
 returns c =
     let b = c.before in
-    let p = b.first-over.ensures in
-    between (k b) p.within (none_below (entries b) (k b) (λ e. T (passes_under (segment_at (z b).args.s.now e) (z b).args.v)) c.if1.true) p.over_it (ap (λ (m : ℕ). bit (odd m)) (sym c.if1.true))
-
-sub_wide : tie.Need-overflow-sub-wide
-sub_wide c = search rules
-
-mul_wide : tie.Need-overflow-mul-wide
-mul_wide c = let z = z c.before in omega (arith, last c, z.pre.0.room, z.good)
-
-shared-slice-read-wide : tie.Need-shared-slice-read-wide
-shared-slice-read-wide c = omega (arith, last c.before, (z c.before.before).pre.0.room)
-
-wide-requires : tie.Need-wide-requires
-wide-requires c κs = search rules
-
-segment-requires : tie.Need-segment-requires
-segment-requires c κs = (here c).there
-
-is-in-line-requires : tie.Need-is-in-line-requires
-is-in-line-requires c κs = let w = c.before in turn-asks c.segment.result (y w).args.v (in_range_at (here w) c.segment.ensures) (y w).requires.1
-
-returns-2 : tie.Need-returns-2
-returns-2 c =
-    let b = c.before in
-    on_entry (i (e b)) (omega (arith, last (d (e b)), first_length (y (e b)).args.status.now (y (e b)).args.n (y (e b)).pre.0.room))
-    (is_true _ (sym (test_is b) ∙ c.if2.true)) refl
-
-cast-result : tie.Need-overflow-cast-result
-cast-result c = tt
-
-returns-3 : tie.Need-returns-3
-unfolding odd
-returns-3 c =
-    let b = c.before in
-    let p = (at b).first-over.ensures in
+    let p = (at b).first_over-k.ensures in
     between (k (at b)) p.within
-    (λ m q. under_else (side_of b m) (eq_z_false (side_of b m) (pos 0) (sym (test_is b ∙ ap (λ (n : ℕ). eq_z (side_of b n) (pos 0)) (below b m q)) ∙ c.if2.false)) (p.not_below m q)) p.over_it (byte_bit (odd (k (at b))))
+    (λ m q. under_else (side_of b m) (eq_z_false (side_of b m) (pos 0) (sym (test_is b ∙ ap (λ (n : ℕ). eq_z (side_of b n) (pos 0)) (below b m q)) ∙ c.if-is_in_line.false)) (p.not_below m q)) p.over_it (byte_bit (odd (k (at b))))
 
-pub locate-spec : {M : Type 1} → statement M
-locate-spec =
+pub locate_spec : {M : Type 1} → statement M
+locate_spec =
     tie.close
     (tie.spec
-    first-over-requires
-    returns
-    sub_wide
-    mul_wide
-    shared-slice-read-wide
+    first_over-k-requires
+    returns-then-k-eq0
+    overflow_sub-k
+    offset_bounds-status-k
+    bounds-status-k
     wide-requires
-    segment-requires
-    is-in-line-requires
-    returns-2
-    cast-result
-    returns-3)
+    segment-u-requires
+    is_in_line-requires
+    returns-then-is_in_line
+    overflow_cast-result
+    returns)

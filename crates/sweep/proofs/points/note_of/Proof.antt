@@ -22,10 +22,10 @@ module _ (c : tie.After-point) where
   z = c.before.before.before.before.before
 
   point_is : c.point.result ≡ point_by z.args.s.now z.args.scene z.args.i
-  point_is = c.point.ensures ∙ ap (point_at z.args.s.now) c.before.place.ensures
+  point_is = c.point.ensures ∙ ap (point_at z.args.s.now) c.place.ensures
 
 place-requires : tie.Need-place-requires
-place-requires c κs = let z = c.before.before.before in omega (arith, (good_f z).there, z.well-formed)
+place-requires c κs = let z = c.before.before.before in omega (arith, (good_f z).there, z.well_formed)
 
 point-requires : tie.Need-point-requires
 point-requires c κs = omega (arith, (good_f c.before.before.before.before).there, c.place.ensures)
@@ -40,5 +40,5 @@ returns c =
     let p = c.before in
     subst (λ (v : Point). NearNote (z p).args.s.now (take (z p).args.n (z p).args.status.now) v c.locate.result) (point_is p) c.locate.ensures
 
-pub note-of-spec : {M : Type 1} → statement M
-note-of-spec = tie.close (tie.spec place-requires point-requires locate-requires returns)
+pub note_of_spec : {M : Type 1} → statement M
+note_of_spec = tie.close (tie.spec place-requires point-requires locate-requires returns)

@@ -24,31 +24,31 @@ module _ (l : Layout) (at k : ℕ) (is : at ≡ place l k) where
   of_region : l.shape ≡ Region → (at - l.start - 2) / 19 ≡ k
   of_region e = omega (arith, of_shape_lem e)
 
-sub-d : tie.Need-overflow-sub-d
-sub-d c = search rules
+overflow_sub-d : tie.Need-overflow_sub-d
+overflow_sub-d c = search rules
 
-sub-d-2 : tie.Need-overflow-sub-d-2
-sub-d-2 c = search rules
+overflow_sub-d-2 : tie.Need-overflow_sub-d-2
+overflow_sub-d-2 c = search rules
 
-enum_told : tie.Need-enum-told
-enum_told c = search rules
+enum_told-1 : tie.Need-enum_told-1
+enum_told-1 c = search rules
 
-enum-told-2 : tie.Need-enum-told-2
-enum-told-2 c = search rules
+enum_told-in-Line : tie.Need-enum_told-in-Line
+enum_told-in-Line c = search rules
 
-enum-told-3 : tie.Need-enum-told-3
-enum-told-3 c = search rules
+enum_told-in-Region : tie.Need-enum_told-in-Region
+enum_told-in-Region c = search rules
 
-returns : tie.Need-returns
-returns c = let a = c.before.before.before.args in λ k is. of_points a.l a.at k is c.enum_told.given.1
+returns-in-Points : tie.Need-returns-in-Points
+returns-in-Points c = let a = c.args in λ k is. of_points a.l a.at k is c.in-Points.is
 
-returns-2 : tie.Need-returns-2
-returns-2 c = let a = c.before.before.before.args in λ k is. of_line a.l a.at k is c.enum-told2.given.1
+returns-in-Line : tie.Need-returns-in-Line
+returns-in-Line c = let a = c.args in λ k is. of_line a.l a.at k is c.in-Line.is
 
-returns-3 : tie.Need-returns-3
-returns-3 c = let a = c.before.before.before.args in λ k is. of_region a.l a.at k is c.enum-told3.given.1
+returns-in-Region : tie.Need-returns-in-Region
+returns-in-Region c = let a = c.args in λ k is. of_region a.l a.at k is c.in-Region.is
 
-pub index-at-spec : {M : Type 1} → statement M
-index-at-spec =
+pub index_at_spec : {M : Type 1} → statement M
+index_at_spec =
     tie.close
-    (tie.spec sub-d sub-d-2 enum_told enum-told-2 enum-told-3 returns returns-2 returns-3)
+    (tie.spec overflow_sub-d overflow_sub-d-2 enum_told-1 enum_told-in-Line enum_told-in-Region returns-in-Points returns-in-Line returns-in-Region)

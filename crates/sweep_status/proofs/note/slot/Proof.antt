@@ -6,14 +6,14 @@ use Rattle.sweep_laws.specs.Swept.{slot}
 use Rattle.sweep_status.proofs.note.slot.Statement.{statement}
 use Rattle.sweep_status.proofs.note.slot.Tie as tie
 
-add-result : tie.Need-overflow-add-result
-add-result c = search rules
+overflow_add-result : tie.Need-overflow_add-result
+overflow_add-result c = search rules
 
-returns : tie.Need-returns
-returns c = search rules
+returns-then-first : tie.Need-returns-then-first
+returns-then-first c = search rules
 
-returns-2 : tie.Need-returns-2
-returns-2 c = sym (ap (λ (b : Bool). slot b c.before.args.k) c.if1.false)
+returns-else-first : tie.Need-returns-else-first
+returns-else-first c = sym (ap (λ (b : Bool). slot b c.args.k) c.if-first.false)
 
-pub slot-spec : {M : Type 1} → statement M
-slot-spec = tie.close (tie.spec add-result returns returns-2)
+pub slot_spec : {M : Type 1} → statement M
+slot_spec = tie.close (tie.spec overflow_add-result returns-then-first returns-else-first)

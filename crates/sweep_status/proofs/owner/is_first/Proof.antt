@@ -7,16 +7,16 @@ use Rattle.scene.specs.declared.Layout.{Layout}
 use Rattle.sweep_status.proofs.owner.is_first.Statement.{statement}
 use Rattle.sweep_status.proofs.owner.is_first.Tie as tie
 
-given-second-requires : tie.Need-given-second-requires
-given-second-requires c κs = search rules
+given_second-second-requires : tie.Need-given_second-second-requires
+given_second-second-requires c κs = search rules
 
-is-turned-requires : tie.Need-is-turned-requires
-is-turned-requires c κs = search rules
+is_turned-requires : tie.Need-is_turned-requires
+is_turned-requires c κs = search rules
 
 returns : tie.Need-returns
 returns c s =
     let d = c.before.before in
-    ap₂ (λ (l : Layout) (t : Bool). not (beq (ltb d.before.args.at l.start) t)) d.given-second.ensures c.is_turned.ensures
+    ap₂ (λ (l : Layout) (t : Bool). not (beq (ltb d.args.at l.start) t)) d.given_second-second.ensures c.is_turned.ensures
 
-pub is-first-spec : {M : Type 1} → statement M
-is-first-spec = tie.close (tie.spec given-second-requires is-turned-requires returns)
+pub is_first_spec : {M : Type 1} → statement M
+is_first_spec = tie.close (tie.spec given_second-second-requires is_turned-requires returns)

@@ -18,40 +18,40 @@ use Rattle.sweep_status.proofs.place.can_meet.Tie as tie
 abbrev Meets : (s entries : List ℕ) → ℕ → ℕ → Type 0
 Meets s entries k e = AtPlace entries (suc k) (LowerNext s e)
 
-returns : tie.Need-returns
-returns c =
-    let a = c.before.before.before.args in
-    yes (none_below (take a.n a.status.now) a.k (Meets a.s.now (take a.n a.status.now) a.k) c.if1.true)
+returns-then-k-eq0 : tie.Need-returns-then-k-eq0
+returns-then-k-eq0 c =
+    let a = c.args in
+    yes (none_below (take a.n a.status.now) a.k (Meets a.s.now (take a.n a.status.now) a.k) c.if-k-eq0.true)
 
-add-if2 : tie.Need-overflow-add-if2
-add-if2 c = search rules
+overflow_add-k : tie.Need-overflow_add-k
+overflow_add-k c = search rules
 
-returns-2 : tie.Need-returns-2
-returns-2 c =
+returns-then-k-n : tie.Need-returns-then-k-n
+returns-then-k-n c =
     let z = c.before.before.before.before in
     let a = z.args in
-    yes (λ i e. none_at (take a.n a.status.now) (suc a.k) (LowerNext a.s.now (get_or (take a.n a.status.now) i 0)) (omega (arith, c.if2.true, first_length a.status.now a.n z.requires.1.room)))
+    yes (λ i e. none_at (take a.n a.status.now) (suc a.k) (LowerNext a.s.now (get_or (take a.n a.status.now) i 0)) (omega (arith, c.if-k-n.true, first_length a.status.now a.n z.requires.1.room)))
 
-sub-segment-of : tie.Need-overflow-sub-segment-of
-sub-segment-of c = search rules
+overflow_sub-k : tie.Need-overflow_sub-k
+overflow_sub-k c = search rules
 
-segment-of-requires : tie.Need-segment-of-requires
-segment-of-requires c κs = let z = c.before.before.before.before in (omega (arith, z.requires.1.room), z.requires.1.entries (z.args.k - 1) (omega arith))
+segment_of-u-requires : tie.Need-segment_of-u-requires
+segment_of-u-requires c κs = let z = c.before.before.before.before in (omega (arith, z.requires.1.room), z.requires.1.entries (z.args.k - 1) (omega arith))
 
-add-segment-of : tie.Need-overflow-add-segment-of
-add-segment-of c = search rules
+overflow_add-k-2 : tie.Need-overflow_add-k-2
+overflow_add-k-2 c = search rules
 
-segment-of-requires-2 : tie.Need-segment-of-requires-2
-segment-of-requires-2 c κs =
+segment_of-requires : tie.Need-segment_of-requires
+segment_of-requires c κs =
     let z = c.before.before.before.before.before in
     let b : z.args.k + 1 < z.args.n = omega arith in
     (omega (arith, z.requires.1.room), z.requires.1.entries (z.args.k + 1) b)
 
-is-lower-requires : tie.Need-is-lower-requires
-is-lower-requires c κs = search rules
+is_lower-requires : tie.Need-is_lower-requires
+is_lower-requires c κs = search rules
 
-returns-3 : tie.Need-returns-3
-returns-3 c =
+returns : tie.Need-returns
+returns c =
     let z = c.before.before.before.before.before.before.before in
     let a = z.args in
     let s = a.s.now in
@@ -61,19 +61,19 @@ returns-3 c =
     let one : a.k + 1 ≡ suc a.k = omega arith in
     by_below entries a.k (Meets s entries a.k) (a.k - 1) (omega arith)
     (by_at entries (suc a.k) (LowerNext s (get_or entries (a.k - 1) 0)) (omega (arith, first_length a.status.now a.n z.requires.1.room))
-    (tested lower_at_right c.is-lower.ensures (c.before.before.segment-of.ensures.0 ∙ ap (segment_at s) (sym (get_or-take a.n a.status.now (a.k - 1) 0 l)))
-    (c.before.segment-of2.ensures.0 ∙ ap (λ (m : ℕ). segment_at s (get_or a.status.now m 0)) one ∙ ap (segment_at s) (sym (get_or-take a.n a.status.now (suc a.k) 0 h)))))
+    (tested lower_at_right c.is_lower.ensures (c.segment_of-u.ensures.0 ∙ ap (segment_at s) (sym (get_or-take a.n a.status.now (a.k - 1) 0 l)))
+    (c.segment_of.ensures.0 ∙ ap (λ (m : ℕ). segment_at s (get_or a.status.now m 0)) one ∙ ap (segment_at s) (sym (get_or-take a.n a.status.now (suc a.k) 0 h)))))
 
-pub can-meet-spec : {M : Type 1} → statement M
-can-meet-spec =
+pub can_meet_spec : {M : Type 1} → statement M
+can_meet_spec =
     tie.close
     (tie.spec
-    returns
-    add-if2
-    returns-2
-    sub-segment-of
-    segment-of-requires
-    add-segment-of
-    segment-of-requires-2
-    is-lower-requires
-    returns-3)
+    returns-then-k-eq0
+    overflow_add-k
+    returns-then-k-n
+    overflow_sub-k
+    segment_of-u-requires
+    overflow_add-k-2
+    segment_of-requires
+    is_lower-requires
+    returns)

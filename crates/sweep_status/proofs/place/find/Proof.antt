@@ -10,7 +10,7 @@ use Rattle.sweep_status.proofs.place.find.Statement.{statement}
 use Rattle.sweep_status.proofs.place.find.Tie as tie
 
 -- the entry just below the hint is there
-module _ (c : tie.Else3) where
+module _ (c : tie.Else-hint-eq0) where
   abbrev y : tie.Start
   y = c.before.before.before.before.before
 
@@ -18,69 +18,69 @@ module _ (c : tie.Else3) where
   hint = y.args.hint
 
   below : hint - 1 < y.args.n
-  below = omega (arith, c.if3.false, ltb-false)
+  below = omega (arith, c.if-hint-eq0.false, ltb-false)
 
   all : Bracket y.args.s.now y.args.status.now y.args.n y.args.p 0 y.args.n
   all = anywhere y.args.s.now y.args.status.now y.args.n y.args.p
 
-first-over-requires : tie.Need-first-over-requires
-first-over-requires c κs = search rules
+first_over-requires : tie.Need-first_over-requires
+first_over-requires c κs = search rules
 
-returns : tie.Need-returns
-returns c = search rules
+returns-then-n-lt-FEW : tie.Need-returns-then-n-lt-FEW
+returns-then-n-lt-FEW c = search rules
 
-from-place-requires : tie.Need-from-place-requires
-from-place-requires c κs =
+from_place-requires : tie.Need-from_place-requires
+from_place-requires c κs =
     let z = c.before.before.before.before.before in
     (z.requires.0, z.requires.1, anywhere z.args.s.now z.args.status.now z.args.n z.args.p)
 
-returns-2 : tie.Need-returns-2
-returns-2 c = search rules
+returns-then-hint-eq0 : tie.Need-returns-then-hint-eq0
+returns-then-hint-eq0 c = search rules
 
-sub-is-entry-over : tie.Need-overflow-sub-is-entry-over
-sub-is-entry-over c = search rules
+overflow_sub-hint : tie.Need-overflow_sub-hint
+overflow_sub-hint c = search rules
 
-is-entry-over-requires : tie.Need-is-entry-over-requires
-is-entry-over-requires c κs = let z = y c in (z.pre.0, omega (arith, below c, z.pre.1.room), z.pre.1.entries (hint c - 1) (below c))
+is_entry_over-requires : tie.Need-is_entry_over-requires
+is_entry_over-requires c κs = let z = y c in (z.requires.0, omega (arith, below c, z.requires.1.room), z.requires.1.entries (hint c - 1) (below c))
 
-sub-search : tie.Need-overflow-sub-search
-sub-search c = search rules
+overflow_sub-hint-then-is_entry_over : tie.Need-overflow_sub-hint-then-is_entry_over
+overflow_sub-hint-then-is_entry_over c = search rules
 
 search-requires : tie.Need-search-requires
 search-requires c κs =
     let d = c.before.before in
     let z = y d in
-    (z.pre.0, z.pre.1, up_to z.args.s.now z.args.status.now z.args.n z.args.p (all d) (hint d - 1) (omega arith) (below d) c.before.is-entry-over.ensures c.if4.true)
+    (z.requires.0, z.requires.1, up_to z.args.s.now z.args.status.now z.args.n z.args.p (all d) (hint d - 1) (omega arith) (below d) c.is_entry_over.ensures c.if-is_entry_over.true)
 
-returns-3 : tie.Need-returns-3
-returns-3 c = search rules
+returns-then-is_entry_over : tie.Need-returns-then-is_entry_over
+returns-then-is_entry_over c = search rules
 
-from-place-requires-2 : tie.Need-from-place-requires-2
-from-place-requires-2 c κs =
+from_place-requires-2 : tie.Need-from_place-requires-2
+from_place-requires-2 c κs =
     let d = c.before.before in
     let z = y d in
-    let same : hint d - 1 + 1 ≡ hint d = omega (arith, d.if3.false) in (
-      z.pre.0,
-      z.pre.1,
+    let same : hint d - 1 + 1 ≡ hint d = omega (arith, d.if-hint-eq0.false) in (
+      z.requires.0,
+      z.requires.1,
       subst (λ k. Bracket z.args.s.now z.args.status.now z.args.n z.args.p k z.args.n) same
-          (above z.args.s.now z.args.status.now z.args.n z.args.p (all d) (hint d - 1) (omega arith) (below d) c.before.is-entry-over.ensures c.if4.false),
+          (above z.args.s.now z.args.status.now z.args.n z.args.p (all d) (hint d - 1) (omega arith) (below d) c.is_entry_over.ensures c.if-is_entry_over.false),
     )
 
-returns-4 : tie.Need-returns-4
-returns-4 c = search rules
+returns : tie.Need-returns
+returns c = search rules
 
 pub find_spec : {M : Type 1} → statement M
 find_spec =
     tie.close
     (tie.spec
-    first-over-requires
-    returns
-    from-place-requires
-    returns-2
-    sub-is-entry-over
-    is-entry-over-requires
-    sub-search
+    first_over-requires
+    returns-then-n-lt-FEW
+    from_place-requires
+    returns-then-hint-eq0
+    overflow_sub-hint
+    is_entry_over-requires
+    overflow_sub-hint-then-is_entry_over
     search-requires
-    returns-3
-    from-place-requires-2
-    returns-4)
+    returns-then-is_entry_over
+    from_place-requires-2
+    returns)

@@ -10,5 +10,5 @@ search-requires c κs = let z = c.before.before in (z.requires.0, z.requires.1, 
 returns : tie.Need-returns
 returns c = search rules
 
-pub first-over-spec : {M : Type 1} → statement M
-first-over-spec = tie.close (tie.spec search-requires returns)
+pub first_over_spec : {M : Type 1} → statement M
+first_over_spec = tie.close (tie.spec search-requires returns)

@@ -5,28 +5,28 @@ use Rattle.plane.proofs.Machine.{right_in_range}
 use Rattle.sweep_status.proofs.place.is_lower.Statement.{statement}
 use Rattle.sweep_status.proofs.place.is_lower.Tie as tie
 
-is-under-requires : tie.Need-is-under-requires
-is-under-requires c κs = (c.requires.0, right_in_range c.args.t c.requires.1)
+is_under-requires : tie.Need-is_under-requires
+is_under-requires c κs = (c.requires.0, right_in_range c.args.t c.requires.1)
 
-returns : tie.Need-returns
-returns c = rw (sym c.before.is-under.ensures, c.if1.true)
+returns-then-is_under : tie.Need-returns-then-is_under
+returns-then-is_under c = rw (sym c.is_under.ensures, c.if-is_under.true)
 
-is-over-requires : tie.Need-is-over-requires
-is-over-requires c κs = let z = c.before.before in (z.requires.1, right_in_range z.args.u z.requires.0)
+is_over-requires : tie.Need-is_over-requires
+is_over-requires c κs = let z = c.before.before in (z.requires.1, right_in_range z.args.u z.requires.0)
 
-is-same-point-requires : tie.Need-is-same-point-requires
-is-same-point-requires c κs = search rules
+is_same_point-requires : tie.Need-is_same_point-requires
+is_same_point-requires c κs = search rules
 
-returns-2 : tie.Need-returns-2
-returns-2 c =
+returns-then-is_over : tie.Need-returns-then-is_over
+returns-then-is_over c =
     let d = c.before.before in
-    rw (sym d.before.is-under.ensures ∙ d.if1.false, sym c.before.is-over.ensures ∙ c.if2.true) c.if2.true
+    rw (sym d.is_under.ensures ∙ d.if-is_under.false, sym c.is_over.ensures ∙ c.if-is_over.true) c.if-is_over.true
 
-returns-3 : tie.Need-returns-3
-returns-3 c =
+returns-else-is_over : tie.Need-returns-else-is_over
+returns-else-is_over c =
     let e = c.before in
     let d = e.before.before in
-    rw (sym d.before.is-under.ensures ∙ d.if1.false, sym e.before.is-over.ensures ∙ e.if2.false) c.is-same-point.ensures
+    rw (sym d.is_under.ensures ∙ d.if-is_under.false, sym e.is_over.ensures ∙ e.if-is_over.false) c.is_same_point.ensures
 
-pub is-lower-spec : {M : Type 1} → statement M
-is-lower-spec = tie.close (tie.spec is-under-requires returns is-over-requires is-same-point-requires returns-2 returns-3)
+pub is_lower_spec : {M : Type 1} → statement M
+is_lower_spec = tie.close (tie.spec is_under-requires returns-then-is_under is_over-requires is_same_point-requires returns-then-is_over returns-else-is_over)

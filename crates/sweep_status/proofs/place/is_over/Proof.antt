@@ -10,52 +10,52 @@ use Rattle.sweep_status.proofs.place.is_over.Statement.{statement}
 use Rattle.sweep_status.proofs.place.is_over.Tie as tie
 
 -- what is told of the turn, and the turn of the test
-module _ (c : tie.After-beside-box) where
+module _ (c : tie.After-beside_box) where
   abbrev y : tie.Start
   y = c.before.before.before.before.before.before.before
 
-  told : Told c.beside-box.result (turn y.args.u.left y.args.u.right y.args.p)
+  told : Told c.beside_box.result (turn y.args.u.left y.args.u.right y.args.p)
   told =
-      let h = turn-asks y.args.u y.args.p y.pre.0 y.pre.1 in
-      rw (point_back y.args.u.left (doubled_held _ h.0), point_back y.args.u.right (doubled_held _ h.1), point_back y.args.p (doubled_held _ h.2)) at c.beside-box.ensures
+      let h = turn-asks y.args.u y.args.p y.requires.0 y.requires.1 in
+      rw (point_back y.args.u.left (doubled_held _ h.0), point_back y.args.u.right (doubled_held _ h.1), point_back y.args.p (doubled_held _ h.2)) at c.beside_box.ensures
 
   by_turn : (t : Turn) → turn y.args.u.left y.args.u.right y.args.p ≡ t → is_right t ≡ passes_over y.args.u y.args.p
   unfolding turn
   by_turn t e = ap is_right (sym e) ∙ right_is (side y.args.u.left y.args.u.right y.args.p)
 
-beside-box-requires : tie.Need-beside-box-requires
-beside-box-requires c κs = search rules
+beside_box-requires : tie.Need-beside_box-requires
+beside_box-requires c κs = search rules
 
-enum_told : tie.Need-enum-told
-enum_told c = search rules
+enum_told-1 : tie.Need-enum_told-1
+enum_told-1 c = search rules
 
-enum-told-2 : tie.Need-enum-told-2
-enum-told-2 c = search rules
+enum_told-in-Under : tie.Need-enum_told-in-Under
+enum_told-in-Under c = search rules
 
-enum-told-3 : tie.Need-enum-told-3
-enum-told-3 c = search rules
+enum_told-in-Neither : tie.Need-enum_told-in-Neither
+enum_told-in-Neither c = search rules
 
-is-right-of-requires : tie.Need-is-right-of-requires
-is-right-of-requires c κs = let z = y c.before.before in turn-asks z.args.u z.args.p z.pre.0 z.pre.1
+is_right_of-requires : tie.Need-is_right_of-requires
+is_right_of-requires c κs = let z = y c.before.before.before in turn-asks z.args.u z.args.p z.requires.0 z.requires.1
 
-returns : tie.Need-returns
-returns c = let d = c.before.before in by_turn d _ ((told d).over c.enum_told.given.1)
+returns-in-Over : tie.Need-returns-in-Over
+returns-in-Over c = let d = c.before in by_turn d _ ((told d).over c.in-Over.is)
 
-returns-2 : tie.Need-returns-2
-returns-2 c = let d = c.before.before in by_turn d _ ((told d).under c.enum-told2.given.1)
+returns-in-Under : tie.Need-returns-in-Under
+returns-in-Under c = let d = c.before in by_turn d _ ((told d).under c.in-Under.is)
 
-returns-3 : tie.Need-returns-3
-returns-3 c = search rules
+returns-in-Neither : tie.Need-returns-in-Neither
+returns-in-Neither c = search rules
 
-pub is-over-spec : {M : Type 1} → statement M
-is-over-spec =
+pub is_over_spec : {M : Type 1} → statement M
+is_over_spec =
     tie.close
     (tie.spec
-    beside-box-requires
-    enum_told
-    enum-told-2
-    enum-told-3
-    is-right-of-requires
-    returns
-    returns-2
-    returns-3)
+    beside_box-requires
+    enum_told-1
+    enum_told-in-Under
+    enum_told-in-Neither
+    is_right_of-requires
+    returns-in-Over
+    returns-in-Under
+    returns-in-Neither)

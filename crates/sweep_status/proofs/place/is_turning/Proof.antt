@@ -5,17 +5,17 @@ use Rattle.plane.proofs.Machine.{right_in_range}
 use Rattle.sweep_status.proofs.place.is_turning.Statement.{statement}
 use Rattle.sweep_status.proofs.place.is_turning.Tie as tie
 
-is-same-point-requires : tie.Need-is-same-point-requires
-is-same-point-requires c κs = search rules
+is_same_point-requires : tie.Need-is_same_point-requires
+is_same_point-requires c κs = search rules
 
-is-under-requires : tie.Need-is-under-requires
-is-under-requires c κs = let z = c.before.before in (z.requires.0, right_in_range z.args.t z.requires.1)
+is_under-requires : tie.Need-is_under-requires
+is_under-requires c κs = let z = c.before.before in (z.requires.0, right_in_range z.args.t z.requires.1)
 
-returns : tie.Need-returns
-returns c = rw (sym c.before.before.is-same-point.ensures ∙ c.before.if1.true) c.is-under.ensures
+returns-then-is_same_point : tie.Need-returns-then-is_same_point
+returns-then-is_same_point c = rw (sym c.is_same_point.ensures ∙ c.if-is_same_point.true) c.is_under.ensures
 
-returns-2 : tie.Need-returns-2
-returns-2 c = rw (sym c.before.is-same-point.ensures, c.if1.false)
+returns-else-is_same_point : tie.Need-returns-else-is_same_point
+returns-else-is_same_point c = rw (sym c.is_same_point.ensures, c.if-is_same_point.false)
 
-pub is-turning-spec : {M : Type 1} → statement M
-is-turning-spec = tie.close (tie.spec is-same-point-requires is-under-requires returns returns-2)
+pub is_turning_spec : {M : Type 1} → statement M
+is_turning_spec = tie.close (tie.spec is_same_point-requires is_under-requires returns-then-is_same_point returns-else-is_same_point)

@@ -4,11 +4,11 @@ use Rattle.plane.proofs.Machine.{turn-asks}
 use Rattle.sweep_status.proofs.place.is_under.Statement.{statement}
 use Rattle.sweep_status.proofs.place.is_under.Tie as tie
 
-is-left-of-requires : tie.Need-is-left-of-requires
-is-left-of-requires c κs = turn-asks c.args.u c.args.p c.requires.0 c.requires.1
+is_left_of-requires : tie.Need-is_left_of-requires
+is_left_of-requires c κs = turn-asks c.args.u c.args.p c.requires.0 c.requires.1
 
 returns : tie.Need-returns
 returns c = search rules
 
-pub is-under-spec : {M : Type 1} → statement M
-is-under-spec = tie.close (tie.spec is-left-of-requires returns)
+pub is_under_spec : {M : Type 1} → statement M
+is_under_spec = tie.close (tie.spec is_left_of-requires returns)

@@ -5,43 +5,43 @@ use Rattle.plane.proofs.Machine.{left_in_range}
 use Rattle.sweep_status.proofs.place.is_under_beginning.Statement.{statement}
 use Rattle.sweep_status.proofs.place.is_under_beginning.Tie as tie
 
-is-under-requires : tie.Need-is-under-requires
-is-under-requires c κs = (c.requires.0, left_in_range c.args.t c.requires.1)
+is_under-requires : tie.Need-is_under-requires
+is_under-requires c κs = (c.requires.0, left_in_range c.args.t c.requires.1)
 
-returns : tie.Need-returns
-returns c = rw (sym c.before.is-under.ensures, c.if1.true)
+returns-then-is_under : tie.Need-returns-then-is_under
+returns-then-is_under c = rw (sym c.is_under.ensures, c.if-is_under.true)
 
-is-turning-requires : tie.Need-is-turning-requires
-is-turning-requires c κs = search rules
+is_turning-requires : tie.Need-is_turning-requires
+is_turning-requires c κs = search rules
 
-returns-2 : tie.Need-returns-2
-returns-2 c =
+returns-then-is_turning : tie.Need-returns-then-is_turning
+returns-then-is_turning c =
     let d = c.before.before in
-    rw (sym d.before.is-under.ensures ∙ d.if1.false, sym c.before.is-turning.ensures ∙ c.if2.true)
+    rw (sym d.is_under.ensures ∙ d.if-is_under.false, sym c.is_turning.ensures ∙ c.if-is_turning.true)
 
-is-same-segment-requires : tie.Need-is-same-segment-requires
-is-same-segment-requires c κs = search rules
+is_same_segment-requires : tie.Need-is_same_segment-requires
+is_same_segment-requires c κs = search rules
 
-returns-3 : tie.Need-returns-3
-returns-3 c =
+returns-then-is_same_segment : tie.Need-returns-then-is_same_segment
+returns-then-is_same_segment c =
     let e = c.before.before in
     let d = e.before.before in
-    rw (sym d.before.is-under.ensures ∙ d.if1.false, sym e.before.is-turning.ensures ∙ e.if2.false, sym c.before.is-same-segment.ensures ∙ c.if3.true)
+    rw (sym d.is_under.ensures ∙ d.if-is_under.false, sym e.is_turning.ensures ∙ e.if-is_turning.false, sym c.is_same_segment.ensures ∙ c.if-is_same_segment.true)
 
-returns-4 : tie.Need-returns-4
-returns-4 c =
+returns-else-is_same_segment : tie.Need-returns-else-is_same_segment
+returns-else-is_same_segment c =
     let e = c.before.before in
     let d = e.before.before in
-    rw (sym d.before.is-under.ensures ∙ d.if1.false, sym e.before.is-turning.ensures ∙ e.if2.false, sym c.before.is-same-segment.ensures, c.if3.false)
+    rw (sym d.is_under.ensures ∙ d.if-is_under.false, sym e.is_turning.ensures ∙ e.if-is_turning.false, sym c.is_same_segment.ensures, c.if-is_same_segment.false)
 
-pub is-under-beginning-spec : {M : Type 1} → statement M
-is-under-beginning-spec =
+pub is_under_beginning_spec : {M : Type 1} → statement M
+is_under_beginning_spec =
     tie.close
     (tie.spec
-    is-under-requires
-    returns
-    is-turning-requires
-    returns-2
-    is-same-segment-requires
-    returns-3
-    returns-4)
+    is_under-requires
+    returns-then-is_under
+    is_turning-requires
+    returns-then-is_turning
+    is_same_segment-requires
+    returns-then-is_same_segment
+    returns-else-is_same_segment)

@@ -6,64 +6,64 @@ use Rattle.sweep_status.proofs.Narrowed.{up_to, above, found}
 use Rattle.sweep_status.proofs.place.search.Statement.{statement}
 use Rattle.sweep_status.proofs.place.search.Tie as tie
 
-abbrev invariant_loop : tie.invariant-loop
+abbrev invariant_loop : tie.invariant-loop-low
 invariant_loop s p status n from to low₀ high₀ low high = Bracket s status n p low high
 
-abbrev decreases_loop : tie.decreases-loop
+abbrev decreases_loop : tie.decreases-loop-low
 decreases_loop s p status n from to low₀ high₀ low high = high - low
 
-loop-holds : tie.Need-loop-init invariant_loop decreases_loop
-loop-holds c = c.before.before.requires.2
+loop-low-init : tie.Need-loop-low-init invariant_loop decreases_loop
+loop-low-init c = c.requires.2
 
-sub-middle : tie.Need-overflow-sub-middle invariant_loop decreases_loop
-sub-middle c = omega arith
+overflow_sub-middle : tie.Need-overflow_sub-middle invariant_loop decreases_loop
+overflow_sub-middle c = omega arith
 
-add-middle : tie.Need-overflow-add-middle invariant_loop decreases_loop
-add-middle c = omega (arith, c.before.loop.invariant.within)
+overflow_add-middle : tie.Need-overflow_add-middle invariant_loop decreases_loop
+overflow_add-middle c = omega (arith, c.loop-low.invariant.within)
 
-is-entry-over-requires : tie.Need-is-entry-over-requires invariant_loop decreases_loop
-is-entry-over-requires c κs =
+is_entry_over-requires : tie.Need-is_entry_over-requires invariant_loop decreases_loop
+is_entry_over-requires c κs =
     let z = c.before.before.before.before in
-    let b = c.before.loop.invariant in
+    let b = c.loop-low.invariant in
     (z.requires.0, omega (arith, b.within, z.requires.1.room), z.requires.1.entries _ (omega (arith, b.within)))
 
-loop-less : tie.Need-loop-smaller invariant_loop decreases_loop
-loop-less c = omega arith
+loop-low-smaller-then-is_entry_over : tie.Need-loop-low-smaller-then-is_entry_over invariant_loop decreases_loop
+loop-low-smaller-then-is_entry_over c = omega arith
 
-loop-again : tie.Need-loop-preserved invariant_loop decreases_loop
-loop-again c =
-    let z = c.before.before.before.before.before.before.args in
-    up_to z.s.now z.status.now z.n z.p c.before.before.before.loop.invariant _ (omega arith) (omega arith) c.before.is-entry-over.ensures c.if1.true
+loop-low-preserved-then-is_entry_over : tie.Need-loop-low-preserved-then-is_entry_over invariant_loop decreases_loop
+loop-low-preserved-then-is_entry_over c =
+    let z = c.args in
+    up_to z.s.now z.status.now z.n z.p c.loop-low.invariant _ (omega arith) (omega arith) c.is_entry_over.ensures c.if-is_entry_over.true
 
-add_low : tie.Need-overflow-add-low invariant_loop decreases_loop
-add_low c = omega arith
+overflow_add-low : tie.Need-overflow_add-low invariant_loop decreases_loop
+overflow_add-low c = omega arith
 
-loop-less-2 : tie.Need-loop-smaller-2 invariant_loop decreases_loop
-loop-less-2 c = omega arith
+loop-low-smaller : tie.Need-loop-low-smaller invariant_loop decreases_loop
+loop-low-smaller c = omega arith
 
-loop-again-2 : tie.Need-loop-preserved-2 invariant_loop decreases_loop
-loop-again-2 c =
-    let z = c.before.before.before.before.before.before.args in
-    above z.s.now z.status.now z.n z.p c.before.before.before.loop.invariant _ (omega arith) (omega arith) c.before.is-entry-over.ensures c.if1.false
+loop-low-preserved : tie.Need-loop-low-preserved invariant_loop decreases_loop
+loop-low-preserved c =
+    let z = c.args in
+    above z.s.now z.status.now z.n z.p c.loop-low.invariant _ (omega arith) (omega arith) c.is_entry_over.ensures c.if-is_entry_over.false
 
 returns : tie.Need-returns invariant_loop decreases_loop
 returns c =
     let z = c.before.before.before.before in
-    found z.args.s.now z.args.status.now z.args.n z.args.p c.before.loop.invariant z.requires.1.room (omega arith)
+    found z.args.s.now z.args.status.now z.args.n z.args.p c.loop-low.invariant z.requires.1.room (omega arith)
 
-pub search-spec : {M : Type 1} → statement M
-search-spec =
+pub search_spec : {M : Type 1} → statement M
+search_spec =
     tie.close
     (tie.spec
     invariant_loop
     decreases_loop
-    loop-holds
-    sub-middle
-    add-middle
-    is-entry-over-requires
-    loop-less
-    loop-again
-    add_low
-    loop-less-2
-    loop-again-2
+    loop-low-init
+    overflow_sub-middle
+    overflow_add-middle
+    is_entry_over-requires
+    loop-low-smaller-then-is_entry_over
+    loop-low-preserved-then-is_entry_over
+    overflow_add-low
+    loop-low-smaller
+    loop-low-preserved
     returns)

@@ -6,11 +6,11 @@ use Rattle.sweep_laws.proofs.Entries.{in_range_at}
 use Rattle.sweep_status.proofs.place.segment_of.Statement.{statement}
 use Rattle.sweep_status.proofs.place.segment_of.Tie as tie
 
-mul_wide : tie.Need-overflow-mul-wide
-mul_wide c = search rules
+offset_bounds-status-i : tie.Need-offset_bounds-status-i
+offset_bounds-status-i c = search rules
 
-shared-slice-read-wide : tie.Need-shared-slice-read-wide
-shared-slice-read-wide c = search rules
+bounds-status-i : tie.Need-bounds-status-i
+bounds-status-i c = search rules
 
 wide-requires : tie.Need-wide-requires
 wide-requires c κs = search rules
@@ -21,8 +21,8 @@ segment-requires c κs = search rules
 returns : tie.Need-returns
 returns c =
     let z = c.before.before.before.before.before in
-    let e = c.segment.ensures ∙ ap (segment_at z.args.s.now) c.before.wide.ensures in
+    let e = c.segment.ensures ∙ ap (segment_at z.args.s.now) c.wide.ensures in
     (e, in_range_at z.requires.1 e)
 
-pub segment-of-spec : {M : Type 1} → statement M
-segment-of-spec = tie.close (tie.spec mul_wide shared-slice-read-wide wide-requires segment-requires returns)
+pub segment_of_spec : {M : Type 1} → statement M
+segment_of_spec = tie.close (tie.spec offset_bounds-status-i bounds-status-i wide-requires segment-requires returns)
