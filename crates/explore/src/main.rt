@@ -2,7 +2,7 @@
 use answer_line::LINE_LIMIT;
 use libc::{STDIN_FILENO, STDOUT_FILENO};
 
-// One byte more than the longest scene has. A longer input has the line of its first 38,919 bytes: `line-of-first-bytes` (answer_line, `FirstBytes`).
+// One byte more than the longest scene has. A longer input has the line of its first 38,919 bytes: `line_of_first_bytes` (answer_line, `FirstBytes`).
 const ROOM: usize = 38919;
 
 fn main() {

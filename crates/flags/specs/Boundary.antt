@@ -12,7 +12,7 @@ pub data Different : List Point → Type 0 where
   none : Different []
   another : {v : Point} {m : List Point} → (v ∈ m → ⊥) → Different m → Different (v ∷ m)
 
--- the list has every end of the line, and each point once; points that are no ends may stand in it too. Every line has such a list (`ends-listed`).
+-- the list has every end of the line, and each point once; points that are no ends may stand in it too. Every line has such a list (`ends_listed`).
 pub record ListsEnds (l : List Segment) (m : List Point) : Type 0 where
   pub different : Different m
   pub every_end : (v : Point) → EndOfSome l v → v ∈ m

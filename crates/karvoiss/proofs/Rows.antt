@@ -1,7 +1,7 @@
 -- The literal of a struct of two numbers and an array of arrays, which the borrow checker does not cover. A function whose one statement is
 -- `_0 = aggregate [copy _1, copy _2, copy _3]` meets the contract that its result is the record of what it was passed: a walk of its MIR, by hand, over the
 -- element's type, the sizes, the widths and the record.
--- The record has the array as a list of lists, xs. As a field it stands at `map (map (λ v. v)) xs`, which is xs, but not by computation (`into-same`).
+-- The record has the array as a list of lists, xs. As a field it stands at `map (map (λ v. v)) xs`, which is xs, but not by computation (`into_same`).
 --     meets        the contract holds, at any tables. A function of this shape has its `signature`, `function` and `clauses` from here by computation
 -- Assumes nothing.
 use mathlib.Core.Path.{◌≡◌, refl, sym, subst}

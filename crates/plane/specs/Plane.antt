@@ -1,4 +1,4 @@
--- The plane: document 01's section "Objects", sentence by sentence. All tests compute; none but `inRange` knows a coordinate range.
+-- The plane: document 01's section "Objects", sentence by sentence. All tests compute; none but `in_range` knows a coordinate range.
 -- A quotation names the sentence that a definition renders.
 use Rattle.std.specs.Prelude.{ℕ, zero, suc, ◌*◌, ◌<◌, ◌≡◌, Bool, true, false, not, ◌&&◌, ◌||◌, List, T, leb, ℤ, pos, negsuc, nat_abs, ◌+ℤ◌, ◌-ℤ◌, ◌*ℤ◌}
 use Rattle.std.specs.Int.Signed.{lt_z, le_z}

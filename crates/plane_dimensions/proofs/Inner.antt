@@ -1,4 +1,4 @@
--- Along a segment there is one of non_zero length that holds no ends of any segments.
+-- Along a segment there is one of non-zero length that holds no ends of any segments.
 use mathlib.Core.Path.{◌≡◌, sym, ap₂, ◌∙◌}
 use mathlib.Core.Bool.{false, ◌||◌}
 use mathlib.Core.List.{List, [], ◌∷◌}
@@ -16,7 +16,7 @@ use Rattle.plane_dimensions.proofs.Spans.{Span, Smaller, clear_all}
 use Rattle.plane_dimensions.proofs.Around.{off_make}
 use Rattle.plane_dimensions.proofs.Border.{stretch_make}
 
--- in each segment of non_zero length there is one with no ends of some segments
+-- in each segment of non-zero length there is one with no ends of some segments
 pub clear_ends : (l : List Segment) (t : Span) → Smaller t (λ q. (r : Segment) → r ∈ l → is_end r q ≡ false)
 unfolding is_end
 clear_ends l t =

@@ -1,4 +1,4 @@
--- Segments of non_zero length: a smaller one at an end keeps what the end keeps; and in each there is one that is off any points.
+-- Segments of non-zero length: a smaller one at an end keeps what the end keeps; and in each there is one that is off any points.
 use Prim.Native.Nat.{ℕ, ◌≤◌}
 use native.Mathlib.Omega.{arith}
 use mathlib.Core.Path.{◌≡◌, sym, ap₂, ◌∙◌, subst}

@@ -98,7 +98,7 @@ module _ {A : FractionPoint → Type 0} where
           is : (x : ℤ) → x *ℤ (z.W *ℤ z.W) ≡ z.W *ℤ x *ℤ z.W
           is x = solve (x ∷ z.W ∷ []) (var 0 :* (var 1 :* var 1)) (var 1 :* var 0 :* var 1) tt
 
-  -- ---- a triangle with area has a side of non_zero length
+  -- ---- a triangle with area has a side of non-zero length
 
   pub patch_stretch : Patch A → Stretch A
   patch_stretch h =

@@ -1,4 +1,4 @@
--- Document 02, Paper 8: "Give each cell as F, 0, 1 or 2: empty; a finite number of points and at least one; all points of some segment of non_zero length but
+-- Document 02, Paper 8: "Give each cell as F, 0, 1 or 2: empty; a finite number of points and at least one; all points of some segment of non-zero length but
 -- of no triangle with area; all points of some triangle with area. Points, and the ends and corners of such segments and triangles, have fraction
 -- coordinates". Here of any set of points, given by what its points satisfy.
 use Rattle.std.specs.Prelude.{ℕ, ◌<◌, ◌≡◌, Bool, true, false, List, ℤ, pos, ◌+ℤ◌, ◌-ℤ◌, ◌*ℤ◌}
@@ -49,7 +49,7 @@ module _ (A : FractionPoint → Type 0) where
     pub list : List FractionPoint
     pub each : (p : FractionPoint) → A p → (q : FractionPoint) × (q ∈ list) × Same (fractions p) (fractions q)
 
-  -- "all points of some segment of non_zero length"
+  -- "all points of some segment of non-zero length"
   pub record Stretch : Type 0 where
     pub a : FractionPoint
     pub b : FractionPoint

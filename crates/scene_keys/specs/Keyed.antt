@@ -13,7 +13,7 @@ abbrev pub raised : ℤ → ℕ
 raised (pos n) = limit + n
 raised (negsuc n) = limit - suc n
 
--- the radix of a key, 2 ^ 25: above every raised coordinate (`room-enough`)
+-- the radix of a key, 2 ^ 25: above every raised coordinate (`room_enough`)
 abbrev pub room : ℕ
 room = 33554432
 

@@ -425,6 +425,6 @@ find Line false b false g t = closed_line b g (and_right (not (is_point b)) (not
 find Region false b true g t = some_region b g t
 find Region false b false g t = absurd t
 
--- "bad" is exactly "no accepted object has it", with made_good of Made.antt
+-- "bad" is exactly "no accepted object has it", with made-good of Made.antt
 pub good_made : (s : Summary) → T (is_good s) → MadeBy s
 good_made s t = find s.shape s.empty s.bounds s.boundary (and_left (good_box s.bounds) (good_for s.shape s.empty s.bounds s.boundary) t) (and_right (good_box s.bounds) (good_for s.shape s.empty s.bounds s.boundary) t)

@@ -182,7 +182,7 @@ abbrev pub size : ℕ
 size = 20
 
 -- "a record of kind 83: type, a byte 1 if it is empty, least x, least y, greatest x, greatest y, and a byte 1 if its boundary has a point": what the record
--- at an offset holds. `pointAt` reads the two coordinates that stand after an offset's own byte.
+-- at an offset holds. `point_at` reads the two coordinates that stand after an offset's own byte.
 abbrev pub summary_at : List ℕ → ℕ → Summary
 summary_at s at =
     record {

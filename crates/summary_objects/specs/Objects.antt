@@ -38,7 +38,7 @@ OnlyMade r = AreBytes r → T (good_bytes r) → (one : Made r) × AreBytes one.
 
 -- "A summary is bad if its length, kind, type, yes-or-no byte or range is wrong, a least is above its greatest, or it breaks the empty rule. So are points with
 -- boundary byte 1, and a non-empty line whose box is one point, or is flat with boundary byte 0. So is a non-empty region whose box is flat or whose boundary byte
--- is 0." That is, it is good (`goodBytes`) exactly if some accepted object has it.
+-- is 0." That is, it is good (`good_bytes`) exactly if some accepted object has it.
 abbrev pub GoodExactlyIfMade : List ℕ → Type 0
 GoodExactlyIfMade r = NeverBad r × OnlyMade r
 

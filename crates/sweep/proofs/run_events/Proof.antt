@@ -33,13 +33,13 @@ use Rattle.sweep.proofs.run_events.Statement.{statement}
 use Rattle.sweep.proofs.run_events.Tie as tie
 
 abbrev invariant_loop : tie.invariant-loop-i
-invariant_loop s scene status₀ notes₀ f g all i₀ j₀ n₀ hint₀ key-f₀ key-g₀ status notes i j n hint key_f_lem key_g_lem =
+invariant_loop s scene status₀ notes₀ f g all i₀ j₀ n₀ hint₀ key_f₀ key_g₀ status notes i j n hint key_f key_g =
     (length status ≡ length status₀) × (length notes ≡ length notes₀) × (i ≤ total s scene true) × (j ≤ total s scene false) × (n ≤ length status)
-    × Run s scene i j (take n status) × AllNoted s scene i j (take n status) notes × (key_f_lem ≡ next_key s scene.f i) × (key_g_lem ≡ next_key s scene.g-1 j)
+    × Run s scene i j (take n status) × AllNoted s scene i j (take n status) notes × (key_f ≡ next_key s scene.f i) × (key_g ≡ next_key s scene.g j)
     × After s scene i j × (Passes s scene → AllEndLater s scene i j (take n status))
 
 abbrev decreases_loop : tie.decreases-loop-i
-decreases_loop s scene status₀ notes₀ f g all i₀ j₀ n₀ hint₀ key-f₀ key-g₀ status notes i j n hint key_f_lem key_g_lem = total s scene true + total s scene false - (i + j)
+decreases_loop s scene status₀ notes₀ f g all i₀ j₀ n₀ hint₀ key_f₀ key_g₀ status notes i j n hint key_f key_g = total s scene true + total s scene false - (i + j)
 
 -- the loop's test
 module _ (d : tie.At-loop-i invariant_loop decreases_loop) where
@@ -88,18 +88,18 @@ module _ (c : tie.After-next_of-k invariant_loop decreases_loop) where
 
   -- where 11 to 15 find no fault, its tests hold, and there is room
   module _ (pass : Passes y.args.s.now y.args.scene) where
-    can : CanTake y.args.s.now y.args.scene c.takes_first-first.result c.next_of-k.result (take d.loop-i.n d.loop-i.status-1)
+    can : CanTake y.args.s.now y.args.scene c.takes_first-first.result c.next_of-k.result (take d.loop-i.n d.loop-i.status)
     can =
-        subst (λ (k : ℕ). CanTake y.args.s.now y.args.scene c.takes_first-first.result k (take d.loop-i.n d.loop-i.status-1)) its_index
+        subst (λ (k : ℕ). CanTake y.args.s.now y.args.scene c.takes_first-first.result k (take d.loop-i.n d.loop-i.status)) its_index
         (goes_on y.args.s.now y.args.scene y.requires.0 y.requires.1 pass d.loop-i.invariant.5 (d.loop-i.invariant.10 pass) c.takes_first-first.result it (reached_within d) d.loop-i.invariant.9 first_one)
 
-    has_room : is_beginning y.args.s.now y.args.scene c.takes_first-first.result c.next_of-k.result ≡ true → d.loop-i.n < length d.loop-i.status-1
+    has_room : is_beginning y.args.s.now y.args.scene c.takes_first-first.result c.next_of-k.result ≡ true → d.loop-i.n < length d.loop-i.status
     has_room e =
         omega (
           arith,
           GoesOn.room y.args.s.now y.args.scene y.requires.0 y.requires.1 pass d.loop-i.invariant.5 (d.loop-i.invariant.10 pass) c.takes_first-first.result it (reached_within d)
               (subst (λ (k : ℕ). is_beginning y.args.s.now y.args.scene c.takes_first-first.result k ≡ true) (sym its_index) e),
-          length-take-le d.loop-i.n d.loop-i.status-1 d.loop-i.invariant.4,
+          length-take-le d.loop-i.n d.loop-i.status d.loop-i.invariant.4,
           d.loop-i.invariant.0,
           y.requires.3,
         )
@@ -113,10 +113,10 @@ module _ (c : tie.After-next_of-k invariant_loop decreases_loop) where
 -- and taken
 module _ (c : tie.In-On invariant_loop decreases_loop) where
   abbrev e : tie.After-next_of-k invariant_loop decreases_loop
-  e = c.before.before.before.before.before.before.before.before
+  e = c.before.before.before.before.before
 
   abbrev new : List ℕ
-  new = c.take_event.new.1.1.1.1.0
+  new = c.take_event.new.status
 
   abbrev m : ℕ
   m = c.in-On.m
@@ -125,7 +125,7 @@ module _ (c : tie.In-On invariant_loop decreases_loop) where
   v = c.in-On.v
 
   done : (m ≤ length new)
-      × Taken (y e).args.s.now (y e).args.scene e.takes_first-first.result e.next_of-k.result (d e).loop-i.notes (take (d e).loop-i.n (d e).loop-i.status-1) (take m new) v
+      × Taken (y e).args.s.now (y e).args.scene e.takes_first-first.result e.next_of-k.result (d e).loop-i.notes (take (d e).loop-i.n (d e).loop-i.status) (take m new) v
   done = c.take_event.ensures.1.done m v c.in-On.h c.in-On.is
 
   on : ((d e).loop-i.i + bool_byte e.takes_first-first.result ≤ total (y e).args.s.now (y e).args.scene true)
@@ -144,9 +144,9 @@ module _ (c : tie.After-slot invariant_loop decreases_loop) where
   slot_is : slot x.takes_first-first.result (reached (y x).args.s.now (y x).args.scene (d x).loop-i.i (d x).loop-i.j x.takes_first-first.result) ≡ c.slot.result
   slot_is = ap (slot x.takes_first-first.result) (its_index x) ∙ sym c.slot.ensures
 
-  event : Taken (y x).args.s.now (y x).args.scene x.takes_first-first.result (reached (y x).args.s.now (y x).args.scene (d x).loop-i.i (d x).loop-i.j x.takes_first-first.result) (d x).loop-i.notes (take (d x).loop-i.n (d x).loop-i.status-1) (take (m told) (new told)) (v told)
+  event : Taken (y x).args.s.now (y x).args.scene x.takes_first-first.result (reached (y x).args.s.now (y x).args.scene (d x).loop-i.i (d x).loop-i.j x.takes_first-first.result) (d x).loop-i.notes (take (d x).loop-i.n (d x).loop-i.status) (take (m told) (new told)) (v told)
   event =
-      subst (λ (k : ℕ). Taken (y x).args.s.now (y x).args.scene x.takes_first-first.result k (d x).loop-i.notes (take (d x).loop-i.n (d x).loop-i.status-1) (take (m told) (new told)) (v told))
+      subst (λ (k : ℕ). Taken (y x).args.s.now (y x).args.scene x.takes_first-first.result k (d x).loop-i.notes (take (d x).loop-i.n (d x).loop-i.status) (take (m told) (new told)) (v told))
       (sym (its_index x)) (done told).1
 
   run_on : Run (y x).args.s.now (y x).args.scene ((d x).loop-i.i + bool_byte x.takes_first-first.result) ((d x).loop-i.j + bool_byte (not x.takes_first-first.result)) (take (m told) (new told))
@@ -214,7 +214,7 @@ next_of-k-requires c κs = search rules
 
 take_event-requires : tie.Need-take_event-requires invariant_loop decreases_loop
 take_event-requires c κs =
-    let x = c.before.before in (
+    let x = c.before in (
       (y x).requires.0,
       within x,
       record { room = (d x).loop-i.invariant.4; entries = entries_are (y x).args.s.now (y x).args.scene (start (d x)) (y x).requires.0 (d x).loop-i.invariant.5 (reached_within (d x)) },
@@ -230,12 +230,12 @@ enum_told-1 c = search rules
 -- the lengths stay, also where the sweep stops
 module _ (c : tie.In_default invariant_loop decreases_loop) where
   abbrev t : tie.After-take_event invariant_loop decreases_loop
-  t = c.before.before.before.before
+  t = c.before.before.before
 
   abbrev w : tie.At-loop-i invariant_loop decreases_loop
-  w = d t.before.before.before
+  w = d t.before.before
 
-  still : length t.take_event.last.1.1.1.1.0 ≡ length (z w).args.status-1.now
+  still : length t.take_event.new.status ≡ length (z w).args.status.now
   still = t.take_event.ensures.0 ∙ w.loop-i.invariant.0
 
 shape_of-status-in_default : tie.Need-shape_of-status-in_default invariant_loop decreases_loop
@@ -246,7 +246,7 @@ shape_of-notes-in_default c = (w c).loop-i.invariant.1
 
 returns-in_default : tie.Need-returns-in_default invariant_loop decreases_loop
 returns-in_default c =
-    let e = (t c).before.before.before in (
+    let e = (t c).before.before in (
       still c,
       (w c).loop-i.invariant.1,
       no (λ pass. (t c).take_event.ensures.1.goes_on (has_room e pass, can e pass) c.in_default.is),
@@ -292,13 +292,13 @@ module _ (c : tie.After-slot invariant_loop decreases_loop) where
 key_after-key_f-requires-in-loop-i : tie.Need-key_after-key_f-requires-in-loop-i invariant_loop decreases_loop
 key_after-key_f-requires-in-loop-i c κs =
     let l = (d (x c)).loop-i in
-    asked c true (first c) l.i l.key-f (on (told c)).0 l.invariant.7
+    asked c true (first c) l.i l.key_f (on (told c)).0 l.invariant.7
 
 key_after-key_g-requires-in-loop-i : tie.Need-key_after-key_g-requires-in-loop-i invariant_loop decreases_loop
 key_after-key_g-requires-in-loop-i c κs =
     let t = c.before in
     let l = (d (x t)).loop-i in
-    asked t false (not (first t)) l.j l.key-g (on (told t)).1 l.invariant.8
+    asked t false (not (first t)) l.j l.key_g (on (told t)).1 l.invariant.8
 
 loop-i-smaller : tie.Need-loop-i-smaller invariant_loop decreases_loop
 loop-i-smaller c = let t = c.before.before in omega (arith, (on (told t)).2, left (x t))
@@ -339,8 +339,8 @@ module _ (c : tie.After-loop-i invariant_loop decreases_loop) where
   of_g_lem : b.loop-i.j ≡ all_of false
   of_g_lem = omega (arith, b.loop-i.invariant.2, b.loop-i.invariant.3, b.event_count.ensures, b.event_count-2.ensures)
 
-  ends : (P : ℕ → ℕ → List ℕ → Type 0) → b.loop-i.n ≡ 0 → P b.loop-i.i b.loop-i.j (take b.loop-i.n b.loop-i.status-1) → P (all_of true) (all_of false) []
-  ends = at_end_lem (z b).args.s.now (z b).args.scene b.loop-i.status-1 of_f_lem of_g_lem
+  ends : (P : ℕ → ℕ → List ℕ → Type 0) → b.loop-i.n ≡ 0 → P b.loop-i.i b.loop-i.j (take b.loop-i.n b.loop-i.status) → P (all_of true) (all_of false) []
+  ends = at_end_lem (z b).args.s.now (z b).args.scene b.loop-i.status of_f_lem of_g_lem
 
   run_at_end : b.loop-i.n ≡ 0 → Run (z b).args.s.now (z b).args.scene (all_of true) (all_of false) []
   run_at_end none = ends (Run (z b).args.s.now (z b).args.scene) none b.loop-i.invariant.5
@@ -353,7 +353,7 @@ returns c =
     let evenly = (z b).requires.2 in (
       b.loop-i.invariant.0,
       b.loop-i.invariant.1,
-      same_as (λ none. passes s sc (start b) (run_at_end c none) evenly) (λ pass. none_left s sc b.loop-i.status-1 (of_f_lem c) (of_g_lem c) b.loop-i.invariant.4 (b.loop-i.invariant.10 pass))
+      same_as (λ none. passes s sc (start b) (run_at_end c none) evenly) (λ pass. none_left s sc b.loop-i.status (of_f_lem c) (of_g_lem c) b.loop-i.invariant.4 (b.loop-i.invariant.10 pass))
           (by_equality b.loop-i.n 0),
       λ t. let none = eqb→eq b.loop-i.n 0 t in
           notes_hold s sc (start b) (run_at_end c none) evenly b.loop-i.notes (ends c (λ i j l. AllNoted s sc i j l b.loop-i.notes) none b.loop-i.invariant.6),

@@ -31,7 +31,7 @@ module _ (c : tie.Joined-first) where
   object_is : c.if-first.l ≡ object_of z.args.s.now z.args.scene z.args.first
   object_is =
       let of = object_of z.args.s.now z.args.scene in
-      ⊎_elim (λ w. w.l-is ∙ sym (ap of w.0.taken)) (λ w. w.2 ∙ sym (ap of w.0.left)) c.if-first.branch-raw
+      ⊎_elim (λ w. w.l-is ∙ sym (ap of w.if-first.true)) (λ w. w.l-is ∙ sym (ap of w.if-first.false)) c.if-first.branch-raw
 
   there : place c.if-first.l z.args.k + 18 ≤ length z.args.s.now
   there = subst (λ (l : Layout). place l z.args.k + 18 ≤ length z.args.s.now) (sym object_is)
@@ -116,7 +116,7 @@ dominating_point-requires : tie.Need-dominating_point-requires
 dominating_point-requires c κs = search rules
 
 find-p-requires : tie.Need-find-p-requires
-find-p-requires c κs = let d = c.before in (in_range_lem d, held_readable (a (r d)).requires.2 (a (r d)).requires.0)
+find-p-requires c κs = let d = c in (in_range_lem d, held_readable (a (r d)).requires.2 (a (r d)).requires.0)
 
 begin-requires : tie.Need-begin-requires
 begin-requires c κs = let t = c.before in (ready (p t.before), at_place t.before t.if-h.true)
@@ -138,7 +138,7 @@ returns-then-h c =
       record {
         done = λ m v h q. let w = r.begin.ensures.1.done m v h q in (
           w.0,
-          it_began e (subst (λ (at : ℕ). Began x.s.now x.scene x.first at (old f) (take m r.begin.new.1.1.1.1.0) v) (at_is (p f)) w.1),
+          it_began e (subst (λ (at : ℕ). Began x.s.now x.scene x.first at (old f) (take m r.begin.new.status) v) (at_is (p f)) w.1),
         );
         goes_on = λ can. r.begin.ensures.1.goes_on
             (can.0 e, subst (λ (at : ℕ). CanBegin x.s.now x.scene x.first at (old f)) (sym (at_is (p f))) (can.1.can_begin e) f.find-p.result (at_place f t.if-h.true));
@@ -159,7 +159,7 @@ returns-else-h c =
       record {
         done = λ m v h q. let w = r.end.ensures.1.done m v h q in (
           w.0,
-          it_ended e (subst (λ (at : ℕ). Ended x.s.now x.scene x.first at (old f) x.notes.now (take m r.end.new.1.1.1.1.0) v) (at_is (p f)) w.1),
+          it_ended e (subst (λ (at : ℕ). Ended x.s.now x.scene x.first at (old f) x.notes.now (take m r.end.new.status) v) (at_is (p f)) w.1),
         );
         goes_on = λ can. r.end.ensures.1.goes_on
             (subst (λ (at : ℕ). CanEnd x.s.now x.scene x.first at (old f)) (sym (at_is (p f))) (can.1.can_end e) f.find-p.result (at_place f t.if-h.false));

@@ -99,7 +99,7 @@ halfsegment-k-requires c κs = omega (arith, (good_g c.before.before.before.befo
 comes_before-requires : tie.Need-comes_before-requires
 comes_before-requires c κs =
     let a = (y (d c)).args in
-    (half_in_range a.s.now a.scene.g a.j (is_g c) (good_g (d c)), half_in_range a.s.now a.scene.f-1 a.i (is_f c) (good_f (d c)))
+    (half_in_range a.s.now a.scene.g a.j (is_g c) (good_g (d c)), half_in_range a.s.now a.scene.f a.i (is_f c) (good_f (d c)))
 
 returns : tie.Need-returns
 returns c =

@@ -54,7 +54,7 @@ loop-i-init c =
     (omega arith, omega arith, λ v. parity_all (dominated_by z.s.now z.l v) z.l.count)
 
 overflow_add-at-in-loop-i : tie.Need-overflow_add-at-in-loop-i invariant_loop decreases_loop
-overflow_add-at-in-loop-i c = omega (arith, (here c).ranges)
+overflow_add-at-in-loop-i c = omega (arith, (here c).fits)
 
 share_point-requires : tie.Need-share_point-requires invariant_loop decreases_loop
 share_point-requires c κs = ((here c).first, (here c).second)

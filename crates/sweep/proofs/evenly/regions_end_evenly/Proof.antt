@@ -17,7 +17,7 @@ module _ (c : tie.After-is_even-then-is_even) where
   z = d.before.before.before.before.before
 
   both : T c.is_even-then-is_even.result → RegionsEndEvenly z.args.s.now z.args.scene
-  both t true = holds d.is_even.ensures d.if-is_even.taken
+  both t true = holds d.is_even.ensures d.if-is_even.true
   both t false = c.is_even-then-is_even.ensures.sound t
 
 is_even-requires : tie.Need-is_even-requires

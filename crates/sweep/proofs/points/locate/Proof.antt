@@ -89,7 +89,7 @@ overflow_sub-k : tie.Need-overflow_sub-k
 overflow_sub-k c = search rules
 
 offset_bounds-status-k : tie.Need-offset_bounds-status-k
-offset_bounds-status-k c = let z = z c.before in omega (arith, last c, z.requires.0.room, z.good)
+offset_bounds-status-k c = let z = z c.before in omega (arith, last c, z.requires.0.room, z.well_formed)
 
 bounds-status-k : tie.Need-bounds-status-k
 bounds-status-k c = omega (arith, last c.before, (z c.before.before).requires.0.room)
@@ -101,7 +101,7 @@ segment-u-requires : tie.Need-segment-u-requires
 segment-u-requires c κs = (here c).there
 
 is_in_line-requires : tie.Need-is_in_line-requires
-is_in_line-requires c κs = let w = c.before in turn-asks c.segment-u.result (y w.before.before).args.v (in_range_at (here w.before.before) c.segment-u.ensures) (y w).requires.1
+is_in_line-requires c κs = let w = c.before in turn-asks c.segment-u.result (y w.before.before).args.v (in_range_at (here w.before.before) c.segment-u.ensures) (y w.before.before).requires.1
 
 returns-then-is_in_line : tie.Need-returns-then-is_in_line
 returns-then-is_in_line c =

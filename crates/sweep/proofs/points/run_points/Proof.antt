@@ -67,7 +67,7 @@ module _ (c : tie.After-note_points-i invariant_loop decreases_loop) where
   y = z d
 
   abbrev noted : List ℕ
-  noted = c.note_points-i.new.notes.1.1.1.1.1.0
+  noted = c.note_points-i.new.notes
 
   more : d.loop-j.j < total y.args.s.now y.args.scene false
   more = omega (arith, c.loop-j-test.true, d.event_count-all.ensures)
@@ -78,12 +78,12 @@ module _ (c : tie.After-note_points-i invariant_loop decreases_loop) where
   wide : 2048 ≤ length noted
   wide = omega (arith, c.note_points-i.ensures.2.same_length, room d)
 
-  passed : Passed y.args.s.now y.args.scene c.note_points-i.result d.loop-j.j (take d.loop-j.n d.loop-j.status-1) noted
+  passed : Passed y.args.s.now y.args.scene c.note_points-i.result d.loop-j.j (take d.loop-j.n d.loop-j.status) noted
   passed =
       passed_points y.args.s.now y.args.scene y.requires.0 y.requires.1 y.requires.2 y.requires.3 d.loop-j.invariant.5 d.loop-j.invariant.3 d.loop-j.invariant.7
       c.note_points-i.ensures.0 c.note_points-i.ensures.2
 
-  all_so_far : AllNoted y.args.s.now y.args.scene 0 d.loop-j.j (take d.loop-j.n d.loop-j.status-1) noted
+  all_so_far : AllNoted y.args.s.now y.args.scene 0 d.loop-j.j (take d.loop-j.n d.loop-j.status) noted
   all_so_far = still_noted y.args.s.now y.args.scene c.note_points-i.ensures.2 (omega (arith, c.note_points-i.ensures.0, few d)) d.loop-j.invariant.6
 
   it : Chosen y.args.s.now y.args.scene (orderly d) 0 d.loop-j.j false
@@ -102,15 +102,15 @@ module _ (c : tie.After-note_points-i invariant_loop decreases_loop) where
 
   -- where 11 to 15 find no fault, its tests hold, and there is room
   module _ (pass : Passes y.args.s.now y.args.scene) where
-    can : CanTake y.args.s.now y.args.scene false d.loop-j.j (take d.loop-j.n d.loop-j.status-1)
+    can : CanTake y.args.s.now y.args.scene false d.loop-j.j (take d.loop-j.n d.loop-j.status)
     can = goes_on y.args.s.now y.args.scene y.requires.0 y.requires.1 pass d.loop-j.invariant.5 (d.loop-j.invariant.9 pass) false it (reached_within d) d.loop-j.invariant.8 first_one
 
-    has_room : is_beginning y.args.s.now y.args.scene false d.loop-j.j ≡ true → d.loop-j.n < length d.loop-j.status-1
+    has_room : is_beginning y.args.s.now y.args.scene false d.loop-j.j ≡ true → d.loop-j.n < length d.loop-j.status
     has_room e =
         omega (
           arith,
           GoesOn.room y.args.s.now y.args.scene y.requires.0 y.requires.1 pass d.loop-j.invariant.5 (d.loop-j.invariant.9 pass) false it (reached_within d) e,
-          length-take-le d.loop-j.n d.loop-j.status-1 d.loop-j.invariant.4,
+          length-take-le d.loop-j.n d.loop-j.status d.loop-j.invariant.4,
           d.loop-j.invariant.0,
           y.requires.5,
         )
@@ -121,7 +121,7 @@ module _ (c : tie.In-On invariant_loop decreases_loop) where
   e = c.before.before.before.before.before.before.before
 
   abbrev new : List ℕ
-  new = c.take_event.new.status.1.1.1.0
+  new = c.take_event.new.status
 
   abbrev m : ℕ
   m = c.in-On.m
@@ -129,7 +129,7 @@ module _ (c : tie.In-On invariant_loop decreases_loop) where
   abbrev v : ℕ
   v = c.in-On.v
 
-  done : (m ≤ length new) × Taken (y e).args.s.now (y e).args.scene false (d e).loop-j.j (noted e) (take (d e).loop-j.n (d e).loop-j.status-1) (take m new) v
+  done : (m ≤ length new) × Taken (y e).args.s.now (y e).args.scene false (d e).loop-j.j (noted e) (take (d e).loop-j.n (d e).loop-j.status) (take m new) v
   done = c.take_event.ensures.1.done m v c.in-On.h c.in-On.is
 
   run_on : Run (y e).args.s.now (y e).args.scene 0 ((d e).loop-j.j + 1) (take m new)
@@ -157,10 +157,10 @@ module _ (c : tie.In_default invariant_loop decreases_loop) where
   abbrev x : tie.After-note_points-i invariant_loop decreases_loop
   x = c.before.before.before.before.before.before.before
 
-  still : length c.take_event.new.status.1.1.1.0 ≡ length (y x).args.status-1.now
+  still : length c.take_event.new.status ≡ length (y x).args.status.now
   still = c.take_event.ensures.0 ∙ (d x).loop-j.invariant.0
 
-  still_notes : length (noted x) ≡ length (y x).args.notes-1.now
+  still_notes : length (noted x) ≡ length (y x).args.notes.now
   still_notes = x.note_points-i.ensures.2.same_length ∙ (d x).loop-j.invariant.1
 
 -- all elements of G have been taken, and the points after them
@@ -178,10 +178,10 @@ module _ (c : tie.After-note_points invariant_loop decreases_loop) where
   of_g_lem = omega (arith, c.loop-j-test.false, f.event_count-all.ensures, f.loop-j.invariant.3)
 
   abbrev noted_all : List ℕ
-  noted_all = c.note_points.new.notes.1.1.1.1.1.0
+  noted_all = c.note_points.new.notes
 
-  ends : (P : ℕ → ℕ → List ℕ → Type 0) → f.loop-j.n ≡ 0 → P 0 f.loop-j.j (take f.loop-j.n f.loop-j.status-1) → P (all_of true) (all_of false) []
-  ends = at_end_lem (z f).args.s.now (z f).args.scene f.loop-j.status-1 of_f_lem of_g_lem
+  ends : (P : ℕ → ℕ → List ℕ → Type 0) → f.loop-j.n ≡ 0 → P 0 f.loop-j.j (take f.loop-j.n f.loop-j.status) → P (all_of true) (all_of false) []
+  ends = at_end_lem (z f).args.s.now (z f).args.scene f.loop-j.status of_f_lem of_g_lem
 
   run_at_end : f.loop-j.n ≡ 0 → Run (z f).args.s.now (z f).args.scene (all_of true) (all_of false) []
   run_at_end none = ends (Run (z f).args.s.now (z f).args.scene) none f.loop-j.invariant.5
@@ -201,7 +201,7 @@ note_points-i-requires c κs =
 
 take_event-requires : tie.Need-take_event-requires invariant_loop decreases_loop
 take_event-requires c κs =
-    let b = c.before.before.before.before in
+    let b = c.before.before.before in
     ((y b).requires.0, more b, held (d b), wide b)
 
 enum_known-m : tie.Need-enum_known-m invariant_loop decreases_loop
@@ -271,7 +271,7 @@ returns c =
     let sc = (z (f b)).args.scene in (
       l.invariant.0,
       b.note_points.ensures.2.same_length ∙ l.invariant.1,
-      same_as (λ none. passes s sc (orderly (f b)) (run_at_end b none) p.4) (λ pass. none_left s sc l.status-1 (of_f_lem b) (of_g_lem b) l.invariant.4 (l.invariant.9 pass)) (by_equality l.n 0),
+      same_as (λ none. passes s sc (orderly (f b)) (run_at_end b none) p.4) (λ pass. none_left s sc l.status (of_f_lem b) (of_g_lem b) l.invariant.4 (l.invariant.9 pass)) (by_equality l.n 0),
       λ t.
           let none = eqb→eq l.n 0 t in
           record {
