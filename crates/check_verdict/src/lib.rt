@@ -1,5 +1,7 @@
 // The conditions 10 to 15 of document 01 over the bytes of a scene or of one object, and the whole check of either.
 // A question with conditions of its own calls them in their order: its 9, `geometry_verdict` or `noted_verdict`, then its 16 and 17.
+#![tactic(auto)]
+
 ghost use Rattle.std.specs.Prelude.{◌≡◌, ◌≤◌, T, length};
 ghost use Rattle.whole.specs.Decides.{Decides};
 ghost use Rattle.scene.specs.Read.{given_first, given_second, IsObject, IsScene};

@@ -25,62 +25,62 @@ module _ (s : List ℕ) (l : Layout) (e : read_alone s ≡ CheckedObject.Taken l
   taken q = rw (object_read s l e, q)
 
 -- an object that was read
-module _ (c : tie.After-known-told2) where
+module _ (c : tie.In-Taken) where
   abbrev bytes : List ℕ
-  bytes = c.before.before.before.before.before.args.s.now
+  bytes = c.args.s.now
 
   abbrev layout : Layout
-  layout = c.before.l.given.0.0
+  layout = c.in-Taken.l
 
   read : read_alone bytes ≡ CheckedObject.Taken layout
-  read = sym c.before.before.before.read-alone.ensures ∙ c.before.l.given.1
+  read = sym c.read_alone.ensures ∙ c.in-Taken.is
 
-read-alone-requires : tie.Need-read-alone-requires
-read-alone-requires c κs = search rules
+read_alone-requires : tie.Need-read_alone-requires
+read_alone-requires c κs = search rules
 
-enum-known-r : tie.Need-enum-known-r
-enum-known-r c = search rules
+enum_known-r : tie.Need-enum_known-r
+enum_known-r c = search rules
 
-enum-known-l : tie.Need-enum-known-l
-enum-known-l c = search rules
+enum_known-l : tie.Need-enum_known-l
+enum_known-l c = search rules
 
-object-verdict-requires : tie.Need-object-verdict-requires
-object-verdict-requires c κs = (taken_alone (bytes c) (layout c) (read c)).read
+object_verdict-requires : tie.Need-object_verdict-requires
+object_verdict-requires c κs = (taken_alone (bytes c) (layout c) (read c)).read
 
-enum-known-r-2 : tie.Need-enum-known-r-2
-enum-known-r-2 c = search rules
+enum_known-r-in-Refused-object_verdict : tie.Need-enum_known-r-in-Refused-object_verdict
+enum_known-r-in-Refused-object_verdict c = search rules
 
-enum_told : tie.Need-enum-told
-enum_told c = search rules
+enum_told-1 : tie.Need-enum_told-1
+enum_told-1 c = search rules
 
-returns : tie.Need-returns
-returns c =
-    let d = c.before.before.before in
-    let s = d.before.before.args.s.now in
-    object_with_meaning s (sym (object_refused s c.before.r.given.0.0 (sym d.read-alone.ensures ∙ c.before.r.given.1)))
+returns-in-Refused : tie.Need-returns-in-Refused
+returns-in-Refused c =
+    let d = c.before in
+    let s = d.args.s.now in
+    object_with_meaning s (sym (object_refused s c.in-Refused.r (sym d.read_alone.ensures ∙ c.in-Refused.is)))
 
-returns-2 : tie.Need-returns-2
-returns-2 c =
-    let v = c.before.before.before in
+returns-in-Refused-object_verdict : tie.Need-returns-in-Refused-object_verdict
+returns-in-Refused-object_verdict c =
+    let v = c.before in
     let d = v.before in
-    object_with_meaning (bytes d) (at_fault (bytes d) (layout d) (read d) c.before.r2.given.0.0 (sym v.object-verdict.ensures ∙ c.before.r2.given.1))
+    object_with_meaning (bytes d) (at_fault (bytes d) (layout d) (read d) c.in-Refused-object_verdict.r (sym v.object_verdict.ensures ∙ c.in-Refused-object_verdict.is))
 
-returns-3 : tie.Need-returns-3
-returns-3 c =
-    let v = c.before.before in
+returns-in-Sound : tie.Need-returns-in-Sound
+returns-in-Sound c =
+    let v = c.before in
     let d = v.before in
-    object_with_meaning (bytes d) (taken (bytes d) (layout d) (read d) (sym v.object-verdict.ensures ∙ c.enum_told.given.1))
+    object_with_meaning (bytes d) (taken (bytes d) (layout d) (read d) (sym v.object_verdict.ensures ∙ c.in-Sound.is))
 
-pub check-object-spec : {M : Type 1} → statement M
-check-object-spec =
+pub check_object_spec : {M : Type 1} → statement M
+check_object_spec =
     tie.close
     (tie.spec
-    read-alone-requires
-    enum-known-r
-    enum-known-l
-    object-verdict-requires
-    enum-known-r-2
-    enum_told
-    returns
-    returns-2
-    returns-3)
+    read_alone-requires
+    enum_known-r
+    enum_known-l
+    object_verdict-requires
+    enum_known-r-in-Refused-object_verdict
+    enum_told-1
+    returns-in-Refused
+    returns-in-Refused-object_verdict
+    returns-in-Sound)

@@ -26,63 +26,63 @@ module _ (s : List ℕ) (sc : Scene) (e : IsScene s sc) where
   taken q = rw (check_read [] [] s sc e, q)
 
 -- a scene that was read
-module _ (c : tie.After-known-told2) where
+module _ (c : tie.In-Taken) where
   abbrev bytes : List ℕ
-  bytes = c.before.before.before.before.before.args.s.now
+  bytes = c.args.s.now
 
   abbrev scene : Scene
-  scene = c.before.scene.given.0.0
+  scene = c.in-Taken.scene
 
   read : IsScene bytes scene
-  read = sym c.before.before.before.read-scene.ensures ∙ c.before.scene.given.1
+  read = sym c.read_scene.ensures ∙ c.in-Taken.is
 
-read-scene-requires : tie.Need-read-scene-requires
-read-scene-requires c κs = search rules
+read_scene-requires : tie.Need-read_scene-requires
+read_scene-requires c κs = search rules
 
-enum-known-r : tie.Need-enum-known-r
-enum-known-r c = search rules
+enum_known-r : tie.Need-enum_known-r
+enum_known-r c = search rules
 
-enum-known-scene : tie.Need-enum-known-scene
-enum-known-scene c = search rules
+enum_known-scene : tie.Need-enum_known-scene
+enum_known-scene c = search rules
 
-geometry-verdict-requires : tie.Need-geometry-verdict-requires
-geometry-verdict-requires c κs = read c
+geometry_verdict-requires : tie.Need-geometry_verdict-requires
+geometry_verdict-requires c κs = read c
 
-enum-known-r-2 : tie.Need-enum-known-r-2
-enum-known-r-2 c = search rules
+enum_known-r-in-Refused-geometry_verdict : tie.Need-enum_known-r-in-Refused-geometry_verdict
+enum_known-r-in-Refused-geometry_verdict c = search rules
 
-enum_told : tie.Need-enum-told
-enum_told c = search rules
+enum_told-1 : tie.Need-enum_told-1
+enum_told-1 c = search rules
 
-returns : tie.Need-returns
+returns-in-Refused : tie.Need-returns-in-Refused
 unfolding check_scene
-returns c =
-    let d = c.before.before.before in
-    let s = d.before.before.args.s.now in
-    with_meaning s (sym (check_refused (scene_rules [] []) s c.before.r.given.0.0 (sym d.read-scene.ensures ∙ c.before.r.given.1)))
+returns-in-Refused c =
+    let d = c.before in
+    let s = d.args.s.now in
+    with_meaning s (sym (check_refused (scene_rules [] []) s c.in-Refused.r (sym d.read_scene.ensures ∙ c.in-Refused.is)))
 
-returns-2 : tie.Need-returns-2
-returns-2 c =
-    let g = c.before.before.before in
+returns-in-Refused-geometry_verdict : tie.Need-returns-in-Refused-geometry_verdict
+returns-in-Refused-geometry_verdict c =
+    let g = c.before in
     let d = g.before in
-    with_meaning (bytes d) (at_fault (bytes d) (scene d) (read d) c.before.r2.given.0.0 (sym g.geometry-verdict.ensures ∙ c.before.r2.given.1))
+    with_meaning (bytes d) (at_fault (bytes d) (scene d) (read d) c.in-Refused-geometry_verdict.r (sym g.geometry_verdict.ensures ∙ c.in-Refused-geometry_verdict.is))
 
-returns-3 : tie.Need-returns-3
-returns-3 c =
-    let g = c.before.before in
+returns-in-Sound : tie.Need-returns-in-Sound
+returns-in-Sound c =
+    let g = c.before in
     let d = g.before in
-    with_meaning (bytes d) (taken (bytes d) (scene d) (read d) (sym g.geometry-verdict.ensures ∙ c.enum_told.given.1))
+    with_meaning (bytes d) (taken (bytes d) (scene d) (read d) (sym g.geometry_verdict.ensures ∙ c.in-Sound.is))
 
-pub check-scene-spec : {M : Type 1} → statement M
-check-scene-spec =
+pub check_scene_spec : {M : Type 1} → statement M
+check_scene_spec =
     tie.close
     (tie.spec
-    read-scene-requires
-    enum-known-r
-    enum-known-scene
-    geometry-verdict-requires
-    enum-known-r-2
-    enum_told
-    returns
-    returns-2
-    returns-3)
+    read_scene-requires
+    enum_known-r
+    enum_known-scene
+    geometry_verdict-requires
+    enum_known-r-in-Refused-geometry_verdict
+    enum_told-1
+    returns-in-Refused
+    returns-in-Refused-geometry_verdict
+    returns-in-Sound)

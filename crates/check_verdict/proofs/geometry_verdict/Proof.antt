@@ -3,14 +3,14 @@ use borrow.Author.Rules.{rules}
 use Rattle.check_verdict.proofs.geometry_verdict.Statement.{statement}
 use Rattle.check_verdict.proofs.geometry_verdict.Tie as tie
 
-slice-aggregate-noted-verdict : tie.Need-slice-aggregate-noted-verdict
-slice-aggregate-noted-verdict c = search rules
+slice_bounds-noted_verdict-end : tie.Need-slice_bounds-noted_verdict-end
+slice_bounds-noted_verdict-end c = search rules
 
-noted-verdict-requires : tie.Need-noted-verdict-requires
-noted-verdict-requires c κs = search rules
+noted_verdict-requires : tie.Need-noted_verdict-requires
+noted_verdict-requires c κs = search rules
 
 returns : tie.Need-returns
 returns c = search rules
 
-pub geometry-verdict-spec : {M : Type 1} → statement M
-geometry-verdict-spec = tie.close (tie.spec slice-aggregate-noted-verdict noted-verdict-requires returns)
+pub geometry_verdict_spec : {M : Type 1} → statement M
+geometry_verdict_spec = tie.close (tie.spec slice_bounds-noted_verdict-end noted_verdict-requires returns)

@@ -10,49 +10,49 @@ use Rattle.check_verdict.proofs.is_swept.Statement.{statement}
 use Rattle.check_verdict.proofs.is_swept.Tie as tie
 
 -- both objects are in order
-module _ (c : tie.Else2) where
-  abbrev e : tie.Else1
+module _ (c : tie.Else-not-is_ordered-2) where
+  abbrev e : tie.Else-not-is_ordered
   e = c.before.before
 
   abbrev z : tie.Start
   z = e.before.before.before.before.before.before
 
   in_order : InOrder z.args.s.now z.args.scene
-  in_order true = accepted e.before.is-ordered.ensures e.if1.left
-  in_order false = accepted c.before.is-ordered2.ensures c.if2.false
+  in_order true = accepted e.is_ordered.ensures e.if-not-is_ordered.false-raw
+  in_order false = accepted c.is_ordered-2.ensures c.if-not-is_ordered-2.false-raw
 
-is-ordered-requires : tie.Need-is-ordered-requires
-is-ordered-requires c κs = let z = c.before.before.before.before in read z.args.s.now z.args.scene z.requires.0 true
+is_ordered-requires : tie.Need-is_ordered-requires
+is_ordered-requires c κs = let z = c.before.before.before.before in read z.args.s.now z.args.scene z.requires.0 true
 
-returns : tie.Need-returns
-returns c =
-    let r = c.before.is-ordered in
+returns-then-not-is_ordered : tie.Need-returns-then-not-is_ordered
+returns-then-not-is_ordered c =
+    let r = c.is_ordered in
     let z = c.before.before.before.before.before.before in (
       refl,
-      no (λ sound. refused r.result c.if1.true (r.ensures.complete ((sound_passes z.args.s.now z.args.scene sound).0 true))),
+      no (λ sound. refused r.result c.if-not-is_ordered.true-raw (r.ensures.complete ((sound_passes z.args.s.now z.args.scene sound).0 true))),
       λ t. absurd t,
     )
 
-is-ordered-requires-2 : tie.Need-is-ordered-requires-2
-is-ordered-requires-2 c κs = let z = c.before.before.before.before.before.before in read z.args.s.now z.args.scene z.requires.0 false
+is_ordered-requires-2 : tie.Need-is_ordered-requires-2
+is_ordered-requires-2 c κs = let z = c.before.before.before.before.before.before in read z.args.s.now z.args.scene z.requires.0 false
 
-returns-2 : tie.Need-returns-2
-returns-2 c =
-    let r = c.before.is-ordered2 in
+returns-then-not-is_ordered-2 : tie.Need-returns-then-not-is_ordered-2
+returns-then-not-is_ordered-2 c =
+    let r = c.is_ordered-2 in
     let z = c.before.before.before.before.before.before.before.before in (
       refl,
-      no (λ sound. refused r.result c.if2.true (r.ensures.complete ((sound_passes z.args.s.now z.args.scene sound).0 false))),
+      no (λ sound. refused r.result c.if-not-is_ordered-2.true-raw (r.ensures.complete ((sound_passes z.args.s.now z.args.scene sound).0 false))),
       λ t. absurd t,
     )
 
 accepts-requires : tie.Need-accepts-requires
-accepts-requires c κs = let z = z c.before in (z.pre.0, in_order c.before, z.pre.1)
+accepts-requires c κs = let z = z c.before in (z.requires.0, in_order c.before, z.requires.1)
 
-same_length : tie.Need-same-length
-same_length c = search rules
+shape_of-notes : tie.Need-shape_of-notes
+shape_of-notes c = search rules
 
-returns-3 : tie.Need-returns-3
-returns-3 c =
+returns : tie.Need-returns
+returns c =
     let r = c.before.before in
     let o = r.before.before in (
       r.accepts.ensures.0,
@@ -60,14 +60,14 @@ returns-3 c =
       r.accepts.ensures.2,
     )
 
-pub is-swept-spec : {M : Type 1} → statement M
-is-swept-spec =
+pub is_swept_spec : {M : Type 1} → statement M
+is_swept_spec =
     tie.close
     (tie.spec
-    is-ordered-requires
-    returns
-    is-ordered-requires-2
-    returns-2
+    is_ordered-requires
+    returns-then-not-is_ordered
+    is_ordered-requires-2
+    returns-then-not-is_ordered-2
     accepts-requires
-    same_length
-    returns-3)
+    shape_of-notes
+    returns)

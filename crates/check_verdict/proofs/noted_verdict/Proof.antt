@@ -7,33 +7,33 @@ use Rattle.scene.proofs.Taken.{taken_scene}
 use Rattle.check_verdict.proofs.noted_verdict.Statement.{statement}
 use Rattle.check_verdict.proofs.noted_verdict.Tie as tie
 
-is-swept-requires : tie.Need-is-swept-requires
-is-swept-requires c κs = search rules
+is_swept-requires : tie.Need-is_swept-requires
+is_swept-requires c κs = search rules
 
-same_length : tie.Need-same-length
-same_length c = search rules
+shape_of-notes-then-is_swept : tie.Need-shape_of-notes-then-is_swept
+shape_of-notes-then-is_swept c = search rules
 
-returns : tie.Need-returns
-returns c =
-    let r = c.before.before.before.is-swept.ensures in
-    let t = is_true _ c.if1.true in
+returns-then-is_swept : tie.Need-returns-then-is_swept
+returns-then-is_swept c =
+    let r = c.is_swept.ensures in
+    let t = is_true _ c.if-is_swept.true in
     (r.0, sym (r.1.sound t), λ e. r.2 t)
 
-plain-verdict-requires : tie.Need-plain-verdict-requires
-plain-verdict-requires c κs =
+plain_verdict-requires : tie.Need-plain_verdict-requires
+plain_verdict-requires c κs =
     let z = c.before.before.before.before.before.before.before in
     let t = taken_scene z.args.s.now z.args.scene z.requires.0 in
     (t.first_read, t.second_taken.read)
 
-same-length-2 : tie.Need-same-length-2
-same-length-2 c = search rules
+shape_of-notes : tie.Need-shape_of-notes
+shape_of-notes c = search rules
 
-returns-2 : tie.Need-returns-2
-returns-2 c =
+returns : tie.Need-returns
+returns c =
     let r = c.before.before.before.before in
-    (r.is-swept.ensures.0, c.plain-verdict.ensures, λ e. absurd (subst T c.before.if1.false (r.is-swept.ensures.1.complete (sym c.plain-verdict.ensures ∙ e))))
+    (r.is_swept.ensures.0, c.plain_verdict.ensures, λ e. absurd (subst T c.if-is_swept.false (r.is_swept.ensures.1.complete (sym c.plain_verdict.ensures ∙ e))))
 
-pub noted-verdict-spec : {M : Type 1} → statement M
-noted-verdict-spec =
+pub noted_verdict_spec : {M : Type 1} → statement M
+noted_verdict_spec =
     tie.close
-    (tie.spec is-swept-requires same_length returns plain-verdict-requires same-length-2 returns-2)
+    (tie.spec is_swept-requires shape_of-notes-then-is_swept returns-then-is_swept plain_verdict-requires shape_of-notes returns)

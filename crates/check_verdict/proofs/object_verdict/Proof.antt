@@ -10,66 +10,66 @@ use Rattle.check_verdict.proofs.Verdicts.{numbered, refuses, passes, sound, obje
 use Rattle.check_verdict.proofs.object_verdict.Statement.{statement}
 use Rattle.check_verdict.proofs.object_verdict.Tie as tie
 
-abbrev invariant_loop : tie.invariant-loop
+abbrev invariant_loop : tie.invariant-loop-number
 invariant_loop s l number₀ number = (10 ≤ number) × (number ≤ 15) × (object_verdict s l ≡ verdict (numbered (fault_under s l l) number 15))
 
-abbrev decreases_loop : tie.decreases-loop
+abbrev decreases_loop : tie.decreases-loop-number
 decreases_loop s l number₀ number = 15 - number
 
-loop-holds : tie.Need-loop-init invariant_loop decreases_loop
-loop-holds c = let z = c.before in (omega arith, omega arith, object-numbered z.args.s.now z.args.l z.requires)
+loop-number-init : tie.Need-loop-number-init invariant_loop decreases_loop
+loop-number-init c = let z = c.before in (omega arith, omega arith, object-numbered z.args.s.now z.args.l z.requires)
 
-fault-under-requires : tie.Need-fault-under-requires invariant_loop decreases_loop
-fault-under-requires c κs = search rules
+fault_under-requires : tie.Need-fault_under-requires invariant_loop decreases_loop
+fault_under-requires c κs = search rules
 
-enum-known-place : tie.Need-enum-known-place invariant_loop decreases_loop
-enum-known-place c = search rules
+enum_known-place : tie.Need-enum_known-place invariant_loop decreases_loop
+enum_known-place c = search rules
+
+returns-in-At : tie.Need-returns-in-At invariant_loop decreases_loop
+returns-in-At c =
+    let r = c.before in
+    let t = r in
+    let z = t.args in
+    sym (t.loop-number.invariant.2
+    ∙ refuses (fault_under z.s.now z.l z.l) t.loop-number.number 15 c.loop-number-test.true c.in-At.place (sym r.fault_under.ensures ∙ c.in-At.is))
+
+enum_told-1 : tie.Need-enum_told-1 invariant_loop decreases_loop
+enum_told-1 c = search rules
+
+overflow_add-number : tie.Need-overflow_add-number invariant_loop decreases_loop
+overflow_add-number c = omega arith
+
+loop-number-smaller : tie.Need-loop-number-smaller invariant_loop decreases_loop
+loop-number-smaller c = omega arith
+
+loop-number-preserved : tie.Need-loop-number-preserved invariant_loop decreases_loop
+loop-number-preserved c =
+    let r = c.before in
+    let t = r.before in
+    let z = t.args in (
+      omega arith,
+      omega arith,
+      t.loop-number.invariant.2
+          ∙ passes (fault_under z.s.now z.l z.l) t.loop-number.number 15 c.loop-number-test.true (sym r.fault_under.ensures ∙ c.in-Nothing.is),
+    )
 
 returns : tie.Need-returns invariant_loop decreases_loop
 returns c =
-    let r = c.before.before.before in
-    let t = r.before in
-    let z = t.before.before.before.args in
-    sym (t.before.loop.invariant.2
-    ∙ refuses (fault_under z.s.now z.l z.l) t.before.loop.number 15 t.loop-test.true c.before.place.given.0.0 (sym r.fault-under.ensures ∙ c.before.place.given.1))
+    let z = c.args in
+    sym (c.loop-number.invariant.2 ∙ sound (fault_under z.s.now z.l z.l) c.loop-number.number 15 c.loop-number-test.false)
 
-enum_told : tie.Need-enum-told invariant_loop decreases_loop
-enum_told c = search rules
-
-add-number : tie.Need-overflow-add-number invariant_loop decreases_loop
-add-number c = omega arith
-
-loop-less : tie.Need-loop-smaller invariant_loop decreases_loop
-loop-less c = omega arith
-
-loop-again : tie.Need-loop-preserved invariant_loop decreases_loop
-loop-again c =
-    let r = c.before.before in
-    let t = r.before in
-    let z = t.before.before.before.args in (
-      omega arith,
-      omega arith,
-      t.before.loop.invariant.2
-          ∙ passes (fault_under z.s.now z.l z.l) t.before.loop.number 15 t.loop-test.true (sym r.fault-under.ensures ∙ c.enum_told.given.1),
-    )
-
-returns-2 : tie.Need-returns-2 invariant_loop decreases_loop
-returns-2 c =
-    let z = c.before.before.before.args in
-    sym (c.before.loop.invariant.2 ∙ sound (fault_under z.s.now z.l z.l) c.before.loop.number 15 c.loop-test.false)
-
-pub object-verdict-spec : {M : Type 1} → statement M
-object-verdict-spec =
+pub object_verdict_spec : {M : Type 1} → statement M
+object_verdict_spec =
     tie.close
     (tie.spec
     invariant_loop
     decreases_loop
-    loop-holds
-    fault-under-requires
-    enum-known-place
-    returns
-    enum_told
-    add-number
-    loop-less
-    loop-again
-    returns-2)
+    loop-number-init
+    fault_under-requires
+    enum_known-place
+    returns-in-At
+    enum_told-1
+    overflow_add-number
+    loop-number-smaller
+    loop-number-preserved
+    returns)

@@ -26,7 +26,7 @@ module _ (s : List ℕ) (sc : Scene) (n : ℕ) where
     in_second e = rw (ne_eqb n 15 ne, ← is, e)
 
 -- the two objects as they are given
-module _ (c : tie.After-given-second) where
+module _ (c : tie.After-given_second-second) where
   abbrev z : tie.Start
   z = c.before.before.before
 
@@ -34,74 +34,74 @@ module _ (c : tie.After-given-second) where
   s = z.args.s.now
 
   abbrev first : Layout
-  first = c.before.given-first.result
+  first = c.given_first-first.result
 
   abbrev second : Layout
-  second = c.given-second.result
+  second = c.given_second-second.result
 
   are_read : IsObject s first × IsObject s second
-  are_read = (subst (IsObject s) (sym c.before.given-first.ensures) z.pre.0, subst (IsObject s) (sym c.given-second.ensures) z.pre.1)
+  are_read = (subst (IsObject s) (sym c.given_first-first.ensures) z.requires.0, subst (IsObject s) (sym c.given_second-second.ensures) z.requires.1)
 
   fault_of_lem : (n : ℕ) → fault_under s first second n ≡ fault_under s (given_first z.args.scene) (given_second z.args.scene) n
-  fault_of_lem n = ap₂ (λ (a b : Layout). fault_under s a b n) c.before.given-first.ensures c.given-second.ensures
+  fault_of_lem n = ap₂ (λ (a b : Layout). fault_under s a b n) c.given_first-first.ensures c.given_second-second.ensures
 
   fault_of_other : (n : ℕ) → fault_under s second first n ≡ fault_under s (given_second z.args.scene) (given_first z.args.scene) n
-  fault_of_other n = ap₂ (λ (a b : Layout). fault_under s a b n) c.given-second.ensures c.before.given-first.ensures
+  fault_of_other n = ap₂ (λ (a b : Layout). fault_under s a b n) c.given_second-second.ensures c.given_first-first.ensures
 
-given-first-requires : tie.Need-given-first-requires
-given-first-requires c κs = search rules
+given_first-first-requires : tie.Need-given_first-first-requires
+given_first-first-requires c κs = search rules
 
-given-second-requires : tie.Need-given-second-requires
-given-second-requires c κs = search rules
+given_second-second-requires : tie.Need-given_second-second-requires
+given_second-second-requires c κs = search rules
 
-fault-under-requires : tie.Need-fault-under-requires
-fault-under-requires c κs = are_read c.before
+fault_under-requires : tie.Need-fault_under-requires
+fault_under-requires c κs = are_read c.before
 
-returns : tie.Need-returns
-returns c =
+returns-then-number-eq15 : tie.Need-returns-then-number-eq15
+returns-then-number-eq15 c =
     let d = c.before.before in
     let a = (z d).args in
-    c.fault-under.ensures ∙ fault_of_lem d a.number ∙ across (s d) a.scene a.number c.before.if1.true
+    c.fault_under.ensures ∙ fault_of_lem d a.number ∙ across (s d) a.scene a.number c.if-number-eq15.true
 
-fault-under-requires-2 : tie.Need-fault-under-requires-2
-fault-under-requires-2 c κs = are_read c.before
+fault_under-requires-2 : tie.Need-fault_under-requires-2
+fault_under-requires-2 c κs = are_read c.before
 
-enum-known-place : tie.Need-enum-known-place
-enum-known-place c = search rules
+enum_known-place : tie.Need-enum_known-place
+enum_known-place c = search rules
 
-enum_told : tie.Need-enum-told
-enum_told c = search rules
+enum_told-1 : tie.Need-enum_told-1
+enum_told-1 c = search rules
 
-fault-under-requires-3 : tie.Need-fault-under-requires-3
-fault-under-requires-3 c κs = let r = are_read c.before.before.before.before in (r.1, r.0)
+fault_under-requires-in-Nothing : tie.Need-fault_under-requires-in-Nothing
+fault_under-requires-in-Nothing c κs = let r = are_read c.before.before.before in (r.1, r.0)
 
-returns-2 : tie.Need-returns-2
-returns-2 c =
-    let r = c.before.before.before in
+returns-in-At : tie.Need-returns-in-At
+returns-in-At c =
+    let r = c.before in
     let d = r.before.before in
     let a = (z d).args in
-    in_first (s d) a.scene a.number r.before.if1.false (r.fault-under2.ensures ∙ fault_of_lem d a.number) c.before.place.given.1
+    in_first (s d) a.scene a.number r.if-number-eq15.false (r.fault_under-2.ensures ∙ fault_of_lem d a.number) c.in-At.is
 
-returns-3 : tie.Need-returns-3
-returns-3 c =
-    let r = c.before.before.before in
+returns-in-Nothing : tie.Need-returns-in-Nothing
+returns-in-Nothing c =
+    let r = c.before.before in
     let d = r.before.before in
     let a = (z d).args in
-    c.fault-under3.ensures
+    c.fault_under-in-Nothing.ensures
     ∙ fault_of_other d a.number
-    ∙ in_second (s d) a.scene a.number r.before.if1.false (r.fault-under2.ensures ∙ fault_of_lem d a.number) c.before.enum_told.given.1
+    ∙ in_second (s d) a.scene a.number r.if-number-eq15.false (r.fault_under-2.ensures ∙ fault_of_lem d a.number) c.in-Nothing.is
 
-pub scene-fault-spec : {M : Type 1} → statement M
-scene-fault-spec =
+pub scene_fault_spec : {M : Type 1} → statement M
+scene_fault_spec =
     tie.close
     (tie.spec
-    given-first-requires
-    given-second-requires
-    fault-under-requires
-    returns
-    fault-under-requires-2
-    enum-known-place
-    enum_told
-    fault-under-requires-3
-    returns-2
-    returns-3)
+    given_first-first-requires
+    given_second-second-requires
+    fault_under-requires
+    returns-then-number-eq15
+    fault_under-requires-2
+    enum_known-place
+    enum_told-1
+    fault_under-requires-in-Nothing
+    returns-in-At
+    returns-in-Nothing)
