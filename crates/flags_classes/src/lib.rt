@@ -1,5 +1,7 @@
 // The classes of the segments of two objects, each beside the other object: shared or not, by the sides of the interiors and the notes of the sweep.
 // Both are found in one walk over the left halfsegments of both objects in their order.
+#![tactic(auto)]
+
 ghost use Rattle.std.specs.Prelude.{◌≡◌, ◌<◌, ◌≤◌, length};
 ghost use Rattle.scene.specs.declared.CheckedScene.{CheckedScene as Checked};
 ghost use Rattle.scene.specs.Read.{IsObject};

@@ -1,4 +1,6 @@
 // The flags of two objects, read off how their elements meet at points and off the classes of their segments: the table of specs/Table.antt, pair by pair.
+#![tactic(auto)]
+
 ghost use Rattle.std.specs.Prelude.{◌≡◌};
 ghost use Rattle.flags_meetings.specs.declared.Meetings.{Meetings};
 ghost use Rattle.flags_classes.specs.declared.Classes.{Classes};

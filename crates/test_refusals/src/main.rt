@@ -1,5 +1,7 @@
 // Checks the scenes and objects of standard input, each `label: bytes;` on lines of its own, with the bytes as document 01 writes them, and writes
 // number and place of each, two zeros where it is taken. A label that begins with `object` is checked as one object alone.
+#![tactic(auto)]
+
 ghost use Rattle.std.specs.Prelude.{◌<◌, ◌≤◌, length};
 
 use libc::{STDIN_FILENO, STDOUT_FILENO};

@@ -7,8 +7,8 @@ use Rattle.scene_segments.proofs.Elements.{fits, ia_good}
 use Rattle.flags_classes.proofs.is_above.Statement.{statement}
 use Rattle.flags_classes.proofs.is_above.Tie as tie
 
-is-region-requires : tie.Need-is-region-requires
-is-region-requires c κs = search rules
+is_region-requires : tie.Need-is_region-requires
+is_region-requires c κs = search rules
 
 place-requires : tie.Need-place-requires
 place-requires c κs = let z = c.before.before.before in omega (arith, fits z.args.s.now z.args.l z.requires.0 z.args.i z.requires.1)
@@ -17,17 +17,17 @@ ia-requires : tie.Need-ia-requires
 ia-requires c κs =
     let t = c.before in
     let z = t.before.before.before in
-    omega (arith, ia_good z.args.s.now z.args.l z.requires.0 z.args.i z.requires.1 (sym t.before.is-region.ensures ∙ t.if1.true), c.place.ensures)
+    omega (arith, ia_good z.args.s.now z.args.l z.requires.0 z.args.i z.requires.1 (sym t.is_region.ensures ∙ t.if-is_region.true), c.place.ensures)
 
-returns : tie.Need-returns
-returns c =
+returns-then-is_region : tie.Need-returns-then-is_region
+returns-then-is_region c =
     let t = c.before.before in
     let z = t.before.before.before in
-    c.ia.ensures ∙ ap (ia_at z.args.s.now) c.before.place.ensures ∙ rw (sym t.before.is-region.ensures ∙ t.if1.true)
+    c.ia.ensures ∙ ap (ia_at z.args.s.now) c.place.ensures ∙ rw (sym t.is_region.ensures ∙ t.if-is_region.true)
 
-returns-2 : tie.Need-returns-2
-returns-2 c = search rules
+returns-else-is_region : tie.Need-returns-else-is_region
+returns-else-is_region c = search rules
 
-pub is-above-spec : {M : Type 1} → statement M
-is-above-spec =
-    tie.close (tie.spec is-region-requires place-requires ia-requires returns returns-2)
+pub is_above_spec : {M : Type 1} → statement M
+is_above_spec =
+    tie.close (tie.spec is_region-requires place-requires ia-requires returns-then-is_region returns-else-is_region)

@@ -16,5 +16,5 @@ returns c =
       opposite = test_bit m 6 i;
     }
 
-pub named-spec : {M : Type 1} → statement M
-named-spec = tie.close (tie.spec returns)
+pub named_spec : {M : Type 1} → statement M
+named_spec = tie.close (tie.spec returns)

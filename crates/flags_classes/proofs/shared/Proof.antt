@@ -2,17 +2,17 @@
 use Rattle.flags_classes.proofs.shared.Statement.{statement}
 use Rattle.flags_classes.proofs.shared.Tie as tie
 
-returns : tie.Need-returns
-returns c = simp (c.before.if1.true, c.if2.true)
+returns-then-other : tie.Need-returns-then-other
+returns-then-other c = simp (c.if-above.true, c.if-other.true)
 
-returns-2 : tie.Need-returns-2
-returns-2 c = simp (c.before.if1.true, c.if2.false)
+returns-else-other : tie.Need-returns-else-other
+returns-else-other c = simp (c.if-above.true, c.if-other.false)
 
-returns-3 : tie.Need-returns-3
-returns-3 c = simp (c.before.if1.false, c.if3.true)
+returns-then-other-2 : tie.Need-returns-then-other-2
+returns-then-other-2 c = simp (c.if-above.false, c.if-other-2.true)
 
-returns-4 : tie.Need-returns-4
-returns-4 c = simp (c.before.if1.false, c.if3.false)
+returns-else-other-2 : tie.Need-returns-else-other-2
+returns-else-other-2 c = simp (c.if-above.false, c.if-other-2.false)
 
-pub shared-spec : {M : Type 1} → statement M
-shared-spec = tie.close (tie.spec returns returns-2 returns-3 returns-4)
+pub shared_spec : {M : Type 1} → statement M
+shared_spec = tie.close (tie.spec returns-then-other returns-else-other returns-then-other-2 returns-else-other-2)

@@ -3,17 +3,17 @@ use borrow.Author.Tests.{ne_eqb}
 use Rattle.flags_classes.proofs.unshared.Statement.{statement}
 use Rattle.flags_classes.proofs.unshared.Tie as tie
 
-returns : tie.Need-returns
-returns c = simp (c.before.if1.true, c.if2.true)
+returns-then-above : tie.Need-returns-then-above
+returns-then-above c = simp (c.if-note-eq0.true, c.if-above.true)
 
-returns-2 : tie.Need-returns-2
-returns-2 c = simp (c.before.if1.true, c.if2.false)
+returns-else-above : tie.Need-returns-else-above
+returns-else-above c = simp (c.if-note-eq0.true, c.if-above.false)
 
-returns-3 : tie.Need-returns-3
-returns-3 c = simp (ne_eqb c.before.before.args.note 0 c.before.if1.false, c.if3.true)
+returns-then-above-2 : tie.Need-returns-then-above-2
+returns-then-above-2 c = simp (ne_eqb c.args.note 0 c.if-note-eq0.false, c.if-above-2.true)
 
-returns-4 : tie.Need-returns-4
-returns-4 c = simp (ne_eqb c.before.before.args.note 0 c.before.if1.false, c.if3.false)
+returns-else-above-2 : tie.Need-returns-else-above-2
+returns-else-above-2 c = simp (ne_eqb c.args.note 0 c.if-note-eq0.false, c.if-above-2.false)
 
-pub unshared-spec : {M : Type 1} → statement M
-unshared-spec = tie.close (tie.spec returns returns-2 returns-3 returns-4)
+pub unshared_spec : {M : Type 1} → statement M
+unshared_spec = tie.close (tie.spec returns-then-above returns-else-above returns-then-above-2 returns-else-above-2)

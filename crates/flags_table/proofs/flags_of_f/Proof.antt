@@ -3,115 +3,115 @@ use borrow.Author.Rules.{rules}
 use Rattle.flags_table.proofs.flags_of_f.Statement.{statement}
 use Rattle.flags_table.proofs.flags_of_f.Tie as tie
 
-enum_told : tie.Need-enum-told
-enum_told c = search rules
+enum_told-1 : tie.Need-enum_told-1
+enum_told-1 c = search rules
 
-enum-told-2 : tie.Need-enum-told-2
-enum-told-2 c = search rules
+enum_told-in-Points-g : tie.Need-enum_told-in-Points-g
+enum_told-in-Points-g c = search rules
 
-points-points-f-requires : tie.Need-points-points-f-requires
-points-points-f-requires c κs = search rules
+points_points_f-requires : tie.Need-points_points_f-requires
+points_points_f-requires c κs = search rules
 
-enum-told-3 : tie.Need-enum-told-3
-enum-told-3 c = search rules
+enum_told-in-Line-g : tie.Need-enum_told-in-Line-g
+enum_told-in-Line-g c = search rules
 
-points-line-f-requires : tie.Need-points-line-f-requires
-points-line-f-requires c κs = search rules
+points_line_f-requires : tie.Need-points_line_f-requires
+points_line_f-requires c κs = search rules
 
-enum-told-4 : tie.Need-enum-told-4
-enum-told-4 c = search rules
+enum_told-in-Region-g : tie.Need-enum_told-in-Region-g
+enum_told-in-Region-g c = search rules
 
-points-region-f-requires : tie.Need-points-region-f-requires
-points-region-f-requires c κs = search rules
+points_region_f-requires : tie.Need-points_region_f-requires
+points_region_f-requires c κs = search rules
 
-enum-told-5 : tie.Need-enum-told-5
-enum-told-5 c = search rules
+enum_told-in-Line : tie.Need-enum_told-in-Line
+enum_told-in-Line c = search rules
 
-enum-told-6 : tie.Need-enum-told-6
-enum-told-6 c = search rules
+enum_told-in-Points-g-2 : tie.Need-enum_told-in-Points-g-2
+enum_told-in-Points-g-2 c = search rules
 
-enum-told-7 : tie.Need-enum-told-7
-enum-told-7 c = search rules
+enum_told-in-Line-g-2 : tie.Need-enum_told-in-Line-g-2
+enum_told-in-Line-g-2 c = search rules
 
-line-line-f-requires : tie.Need-line-line-f-requires
-line-line-f-requires c κs = search rules
+line_line_f-requires : tie.Need-line_line_f-requires
+line_line_f-requires c κs = search rules
 
-enum-told-8 : tie.Need-enum-told-8
-enum-told-8 c = search rules
+enum_told-in-Region-g-2 : tie.Need-enum_told-in-Region-g-2
+enum_told-in-Region-g-2 c = search rules
 
-line-region-f-requires : tie.Need-line-region-f-requires
-line-region-f-requires c κs = search rules
+line_region_f-requires : tie.Need-line_region_f-requires
+line_region_f-requires c κs = search rules
 
-enum-told-9 : tie.Need-enum-told-9
-enum-told-9 c = search rules
+enum_told-in-Region : tie.Need-enum_told-in-Region
+enum_told-in-Region c = search rules
 
-enum-told-10 : tie.Need-enum-told-10
-enum-told-10 c = search rules
+enum_told-in-Points-g-3 : tie.Need-enum_told-in-Points-g-3
+enum_told-in-Points-g-3 c = search rules
 
-enum-told-11 : tie.Need-enum-told-11
-enum-told-11 c = search rules
+enum_told-in-Line-g-3 : tie.Need-enum_told-in-Line-g-3
+enum_told-in-Line-g-3 c = search rules
 
-enum-told-12 : tie.Need-enum-told-12
-enum-told-12 c = search rules
+enum_told-in-Region-g-3 : tie.Need-enum_told-in-Region-g-3
+enum_told-in-Region-g-3 c = search rules
 
-region-region-f-requires : tie.Need-region-region-f-requires
-region-region-f-requires c κs = search rules
+region_region_f-requires : tie.Need-region_region_f-requires
+region_region_f-requires c κs = search rules
 
-returns : tie.Need-returns
-returns c = rw (c.before.before.before.enum_told.given.1, c.before.enum-told2.given.1) (c.points-points-f.ensures c.before.before.before.before.before.args.c)
+returns-in-Points-g : tie.Need-returns-in-Points-g
+returns-in-Points-g c = rw (c.in-Points.is, c.in-Points-g.is) (c.points_points_f.ensures c.args.c)
 
-returns-2 : tie.Need-returns-2
-returns-2 c = rw (c.before.before.before.enum_told.given.1, c.before.enum-told3.given.1) (c.points-line-f.ensures c.before.before.before.before.before.args.c)
+returns-in-Line-g : tie.Need-returns-in-Line-g
+returns-in-Line-g c = rw (c.in-Points.is, c.in-Line-g.is) (c.points_line_f.ensures c.args.c)
 
-returns-3 : tie.Need-returns-3
-returns-3 c = rw (c.before.before.before.enum_told.given.1, c.before.enum-told4.given.1) (c.points-region-f.ensures c.before.before.before.before.before.args.c)
+returns-in-Region-g : tie.Need-returns-in-Region-g
+returns-in-Region-g c = rw (c.in-Points.is, c.in-Region-g.is) (c.points_region_f.ensures c.args.c)
 
-returns-4 : tie.Need-returns-4
-returns-4 c = rw (c.before.before.enum-told5.given.1, c.enum-told6.given.1)
+returns-in-Points-g-2 : tie.Need-returns-in-Points-g-2
+returns-in-Points-g-2 c = rw (c.in-Line.is, c.in-Points-g-2.is)
 
-returns-5 : tie.Need-returns-5
-returns-5 c = rw (c.before.before.before.enum-told5.given.1, c.before.enum-told7.given.1) c.line-line-f.ensures
+returns-in-Line-g-2 : tie.Need-returns-in-Line-g-2
+returns-in-Line-g-2 c = rw (c.in-Line.is, c.in-Line-g-2.is) c.line_line_f.ensures
 
-returns-6 : tie.Need-returns-6
-returns-6 c = rw (c.before.before.before.enum-told5.given.1, c.before.enum-told8.given.1) c.line-region-f.ensures
+returns-in-Region-g-2 : tie.Need-returns-in-Region-g-2
+returns-in-Region-g-2 c = rw (c.in-Line.is, c.in-Region-g-2.is) c.line_region_f.ensures
 
-returns-7 : tie.Need-returns-7
-returns-7 c = rw (c.before.before.enum-told9.given.1, c.enum-told10.given.1)
+returns-in-Points-g-3 : tie.Need-returns-in-Points-g-3
+returns-in-Points-g-3 c = rw (c.in-Region.is, c.in-Points-g-3.is)
 
-returns-8 : tie.Need-returns-8
-returns-8 c = rw (c.before.before.enum-told9.given.1, c.enum-told11.given.1)
+returns-in-Line-g-3 : tie.Need-returns-in-Line-g-3
+returns-in-Line-g-3 c = rw (c.in-Region.is, c.in-Line-g-3.is)
 
-returns-9 : tie.Need-returns-9
-returns-9 c = rw (c.before.before.before.enum-told9.given.1, c.before.enum-told12.given.1) c.region-region-f.ensures
+returns-in-Region-g-3 : tie.Need-returns-in-Region-g-3
+returns-in-Region-g-3 c = rw (c.in-Region.is, c.in-Region-g-3.is) c.region_region_f.ensures
 
-pub flags-of-f-spec : {M : Type 1} → statement M
-flags-of-f-spec =
+pub flags_of_f_spec : {M : Type 1} → statement M
+flags_of_f_spec =
     tie.close
     (tie.spec
-    enum_told
-    enum-told-2
-    points-points-f-requires
-    enum-told-3
-    points-line-f-requires
-    enum-told-4
-    points-region-f-requires
-    enum-told-5
-    enum-told-6
-    enum-told-7
-    line-line-f-requires
-    enum-told-8
-    line-region-f-requires
-    enum-told-9
-    enum-told-10
-    enum-told-11
-    enum-told-12
-    region-region-f-requires
-    returns
-    returns-2
-    returns-3
-    returns-4
-    returns-5
-    returns-6
-    returns-7
-    returns-8
-    returns-9)
+    enum_told-1
+    enum_told-in-Points-g
+    points_points_f-requires
+    enum_told-in-Line-g
+    points_line_f-requires
+    enum_told-in-Region-g
+    points_region_f-requires
+    enum_told-in-Line
+    enum_told-in-Points-g-2
+    enum_told-in-Line-g-2
+    line_line_f-requires
+    enum_told-in-Region-g-2
+    line_region_f-requires
+    enum_told-in-Region
+    enum_told-in-Points-g-3
+    enum_told-in-Line-g-3
+    enum_told-in-Region-g-3
+    region_region_f-requires
+    returns-in-Points-g
+    returns-in-Line-g
+    returns-in-Region-g
+    returns-in-Points-g-2
+    returns-in-Line-g-2
+    returns-in-Region-g-2
+    returns-in-Points-g-3
+    returns-in-Line-g-3
+    returns-in-Region-g-3)

@@ -3,111 +3,111 @@ use borrow.Author.Rules.{rules}
 use Rattle.flags_table.proofs.flags_of_g.Statement.{statement}
 use Rattle.flags_table.proofs.flags_of_g.Tie as tie
 
-enum_told : tie.Need-enum-told
-enum_told c = search rules
+enum_told-1 : tie.Need-enum_told-1
+enum_told-1 c = search rules
 
-enum-told-2 : tie.Need-enum-told-2
-enum-told-2 c = search rules
+enum_told-in-Points-g : tie.Need-enum_told-in-Points-g
+enum_told-in-Points-g c = search rules
 
-points-points-g-requires : tie.Need-points-points-g-requires
-points-points-g-requires c κs = search rules
+points_points_g-requires : tie.Need-points_points_g-requires
+points_points_g-requires c κs = search rules
 
-enum-told-3 : tie.Need-enum-told-3
-enum-told-3 c = search rules
+enum_told-in-Line-g : tie.Need-enum_told-in-Line-g
+enum_told-in-Line-g c = search rules
 
-points-line-g-requires : tie.Need-points-line-g-requires
-points-line-g-requires c κs = search rules
+points_line_g-requires : tie.Need-points_line_g-requires
+points_line_g-requires c κs = search rules
 
-enum-told-4 : tie.Need-enum-told-4
-enum-told-4 c = search rules
+enum_told-in-Region-g : tie.Need-enum_told-in-Region-g
+enum_told-in-Region-g c = search rules
 
-enum-told-5 : tie.Need-enum-told-5
-enum-told-5 c = search rules
+enum_told-in-Line : tie.Need-enum_told-in-Line
+enum_told-in-Line c = search rules
 
-enum-told-6 : tie.Need-enum-told-6
-enum-told-6 c = search rules
+enum_told-in-Points-g-2 : tie.Need-enum_told-in-Points-g-2
+enum_told-in-Points-g-2 c = search rules
 
-enum-told-7 : tie.Need-enum-told-7
-enum-told-7 c = search rules
+enum_told-in-Line-g-2 : tie.Need-enum_told-in-Line-g-2
+enum_told-in-Line-g-2 c = search rules
 
-line-line-g-requires : tie.Need-line-line-g-requires
-line-line-g-requires c κs = search rules
+line_line_g-requires : tie.Need-line_line_g-requires
+line_line_g-requires c κs = search rules
 
-enum-told-8 : tie.Need-enum-told-8
-enum-told-8 c = search rules
+enum_told-in-Region-g-2 : tie.Need-enum_told-in-Region-g-2
+enum_told-in-Region-g-2 c = search rules
 
-line-region-g-requires : tie.Need-line-region-g-requires
-line-region-g-requires c κs = search rules
+line_region_g-requires : tie.Need-line_region_g-requires
+line_region_g-requires c κs = search rules
 
-enum-told-9 : tie.Need-enum-told-9
-enum-told-9 c = search rules
+enum_told-in-Region : tie.Need-enum_told-in-Region
+enum_told-in-Region c = search rules
 
-enum-told-10 : tie.Need-enum-told-10
-enum-told-10 c = search rules
+enum_told-in-Points-g-3 : tie.Need-enum_told-in-Points-g-3
+enum_told-in-Points-g-3 c = search rules
 
-enum-told-11 : tie.Need-enum-told-11
-enum-told-11 c = search rules
+enum_told-in-Line-g-3 : tie.Need-enum_told-in-Line-g-3
+enum_told-in-Line-g-3 c = search rules
 
-enum-told-12 : tie.Need-enum-told-12
-enum-told-12 c = search rules
+enum_told-in-Region-g-3 : tie.Need-enum_told-in-Region-g-3
+enum_told-in-Region-g-3 c = search rules
 
-region-region-g-requires : tie.Need-region-region-g-requires
-region-region-g-requires c κs = search rules
+region_region_g-requires : tie.Need-region_region_g-requires
+region_region_g-requires c κs = search rules
 
-returns : tie.Need-returns
-returns c = rw (c.before.before.before.enum_told.given.1, c.before.enum-told2.given.1) (c.points-points-g.ensures c.before.before.before.before.before.args.c)
+returns-in-Points-g : tie.Need-returns-in-Points-g
+returns-in-Points-g c = rw (c.in-Points.is, c.in-Points-g.is) (c.points_points_g.ensures c.args.c)
 
-returns-2 : tie.Need-returns-2
-returns-2 c = rw (c.before.before.before.enum_told.given.1, c.before.enum-told3.given.1) (c.points-line-g.ensures c.before.before.before.before.before.args.c)
+returns-in-Line-g : tie.Need-returns-in-Line-g
+returns-in-Line-g c = rw (c.in-Points.is, c.in-Line-g.is) (c.points_line_g.ensures c.args.c)
 
-returns-3 : tie.Need-returns-3
-returns-3 c = rw (c.before.before.enum_told.given.1, c.enum-told4.given.1)
+returns-in-Region-g : tie.Need-returns-in-Region-g
+returns-in-Region-g c = rw (c.in-Points.is, c.in-Region-g.is)
 
-returns-4 : tie.Need-returns-4
-returns-4 c = rw (c.before.before.enum-told5.given.1, c.enum-told6.given.1)
+returns-in-Points-g-2 : tie.Need-returns-in-Points-g-2
+returns-in-Points-g-2 c = rw (c.in-Line.is, c.in-Points-g-2.is)
 
-returns-5 : tie.Need-returns-5
-returns-5 c = rw (c.before.before.before.enum-told5.given.1, c.before.enum-told7.given.1) c.line-line-g.ensures
+returns-in-Line-g-2 : tie.Need-returns-in-Line-g-2
+returns-in-Line-g-2 c = rw (c.in-Line.is, c.in-Line-g-2.is) c.line_line_g.ensures
 
-returns-6 : tie.Need-returns-6
-returns-6 c = rw (c.before.before.before.enum-told5.given.1, c.before.enum-told8.given.1) (c.line-region-g.ensures c.before.before.before.before.before.args.m)
+returns-in-Region-g-2 : tie.Need-returns-in-Region-g-2
+returns-in-Region-g-2 c = rw (c.in-Line.is, c.in-Region-g-2.is) (c.line_region_g.ensures c.args.m)
 
-returns-7 : tie.Need-returns-7
-returns-7 c = rw (c.before.before.enum-told9.given.1, c.enum-told10.given.1)
+returns-in-Points-g-3 : tie.Need-returns-in-Points-g-3
+returns-in-Points-g-3 c = rw (c.in-Region.is, c.in-Points-g-3.is)
 
-returns-8 : tie.Need-returns-8
-returns-8 c = rw (c.before.before.enum-told9.given.1, c.enum-told11.given.1)
+returns-in-Line-g-3 : tie.Need-returns-in-Line-g-3
+returns-in-Line-g-3 c = rw (c.in-Region.is, c.in-Line-g-3.is)
 
-returns-9 : tie.Need-returns-9
-returns-9 c = rw (c.before.before.before.enum-told9.given.1, c.before.enum-told12.given.1) (c.region-region-g.ensures c.before.before.before.before.before.args.m)
+returns-in-Region-g-3 : tie.Need-returns-in-Region-g-3
+returns-in-Region-g-3 c = rw (c.in-Region.is, c.in-Region-g-3.is) (c.region_region_g.ensures c.args.m)
 
-pub flags-of-g-spec : {M : Type 1} → statement M
-flags-of-g-spec =
+pub flags_of_g_spec : {M : Type 1} → statement M
+flags_of_g_spec =
     tie.close
     (tie.spec
-    enum_told
-    enum-told-2
-    points-points-g-requires
-    enum-told-3
-    points-line-g-requires
-    enum-told-4
-    enum-told-5
-    enum-told-6
-    enum-told-7
-    line-line-g-requires
-    enum-told-8
-    line-region-g-requires
-    enum-told-9
-    enum-told-10
-    enum-told-11
-    enum-told-12
-    region-region-g-requires
-    returns
-    returns-2
-    returns-3
-    returns-4
-    returns-5
-    returns-6
-    returns-7
-    returns-8
-    returns-9)
+    enum_told-1
+    enum_told-in-Points-g
+    points_points_g-requires
+    enum_told-in-Line-g
+    points_line_g-requires
+    enum_told-in-Region-g
+    enum_told-in-Line
+    enum_told-in-Points-g-2
+    enum_told-in-Line-g-2
+    line_line_g-requires
+    enum_told-in-Region-g-2
+    line_region_g-requires
+    enum_told-in-Region
+    enum_told-in-Points-g-3
+    enum_told-in-Line-g-3
+    enum_told-in-Region-g-3
+    region_region_g-requires
+    returns-in-Points-g
+    returns-in-Line-g
+    returns-in-Region-g
+    returns-in-Points-g-2
+    returns-in-Line-g-2
+    returns-in-Region-g-2
+    returns-in-Points-g-3
+    returns-in-Line-g-3
+    returns-in-Region-g-3)

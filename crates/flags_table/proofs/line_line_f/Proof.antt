@@ -12,12 +12,12 @@ unshared-requires c κs = search rules
 alone-requires : tie.Need-alone-requires
 alone-requires c κs = search rules
 
-packed-eight-requires : tie.Need-packed-eight-requires
-packed-eight-requires c κs = search rules
+packed_eight-requires : tie.Need-packed_eight-requires
+packed_eight-requires c κs = search rules
 
 returns : tie.Need-returns
 returns c = cc
 
-pub line-line-f-spec : {M : Type 1} → statement M
-line-line-f-spec =
-    tie.close (tie.spec shared-requires unshared-requires alone-requires packed-eight-requires returns)
+pub line_line_f_spec : {M : Type 1} → statement M
+line_line_f_spec =
+    tie.close (tie.spec shared-requires unshared-requires alone-requires packed_eight-requires returns)

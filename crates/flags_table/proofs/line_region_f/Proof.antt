@@ -6,11 +6,11 @@ use Rattle.flags_table.proofs.line_region_f.Tie as tie
 shared-requires : tie.Need-shared-requires
 shared-requires c κs = search rules
 
-packed-eight-requires : tie.Need-packed-eight-requires
-packed-eight-requires c κs = search rules
+packed_eight-requires : tie.Need-packed_eight-requires
+packed_eight-requires c κs = search rules
 
 returns : tie.Need-returns
 returns c = cc
 
-pub line-region-f-spec : {M : Type 1} → statement M
-line-region-f-spec = tie.close (tie.spec shared-requires packed-eight-requires returns)
+pub line_region_f_spec : {M : Type 1} → statement M
+line_region_f_spec = tie.close (tie.spec shared-requires packed_eight-requires returns)

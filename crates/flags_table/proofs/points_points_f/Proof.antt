@@ -9,11 +9,11 @@ use Rattle.flags_table.proofs.points_points_f.Tie as tie
 alone-requires : tie.Need-alone-requires
 alone-requires c κs = search rules
 
-packed-four-requires : tie.Need-packed-four-requires
-packed-four-requires c κs = search rules
+packed_four-requires : tie.Need-packed_four-requires
+packed_four-requires c κs = search rules
 
 returns : tie.Need-returns
-returns c _ = let m = c.before.before.args.m in c.packed-four.ensures.0 ∙ ap (λ b. pack (b ∷ m.bound_bound ∷ [])) c.before.alone.ensures
+returns c _ = let m = c.args.m in c.packed_four.ensures.0 ∙ ap (λ b. pack (b ∷ m.bound_bound ∷ [])) c.alone.ensures
 
-pub points-points-f-spec : {M : Type 1} → statement M
-points-points-f-spec = tie.close (tie.spec alone-requires packed-four-requires returns)
+pub points_points_f_spec : {M : Type 1} → statement M
+points_points_f_spec = tie.close (tie.spec alone-requires packed_four-requires returns)

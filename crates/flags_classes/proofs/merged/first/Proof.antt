@@ -4,26 +4,26 @@ use borrow.Author.Rules.{rules}
 use Rattle.flags_classes.proofs.merged.first.Statement.{statement}
 use Rattle.flags_classes.proofs.merged.first.Tie as tie
 
-is-same-segment-requires : tie.Need-is-same-segment-requires
-is-same-segment-requires c κs = search rules
+is_same_segment-requires : tie.Need-is_same_segment-requires
+is_same_segment-requires c κs = search rules
 
-returns : tie.Need-returns
-returns c = rw (sym c.before.is-same-segment.ensures ∙ c.if1.true)
+returns-then-is_same_segment : tie.Need-returns-then-is_same_segment
+returns-then-is_same_segment c = rw (sym c.is_same_segment.ensures ∙ c.if-is_same_segment.true)
 
-is-left-before-requires : tie.Need-is-left-before-requires
-is-left-before-requires c κs = search rules
+is_left_before-requires : tie.Need-is_left_before-requires
+is_left_before-requires c κs = search rules
 
-returns-2 : tie.Need-returns-2
-returns-2 c =
+returns-then-is_left_before : tie.Need-returns-then-is_left_before
+returns-then-is_left_before c =
     let d = c.before.before in
-    rw (sym d.before.is-same-segment.ensures ∙ d.if1.false, sym c.before.is-left-before.ensures ∙ c.if2.true)
+    rw (sym d.is_same_segment.ensures ∙ d.if-is_same_segment.false, sym c.is_left_before.ensures ∙ c.if-is_left_before.true)
 
-returns-3 : tie.Need-returns-3
-returns-3 c =
+returns-else-is_left_before : tie.Need-returns-else-is_left_before
+returns-else-is_left_before c =
     let d = c.before.before in
-    rw (sym d.before.is-same-segment.ensures ∙ d.if1.false, sym c.before.is-left-before.ensures ∙ c.if2.false)
+    rw (sym d.is_same_segment.ensures ∙ d.if-is_same_segment.false, sym c.is_left_before.ensures ∙ c.if-is_left_before.false)
 
 pub first_spec : {M : Type 1} → statement M
 first_spec =
     tie.close
-    (tie.spec is-same-segment-requires returns is-left-before-requires returns-2 returns-3)
+    (tie.spec is_same_segment-requires returns-then-is_same_segment is_left_before-requires returns-then-is_left_before returns-else-is_left_before)

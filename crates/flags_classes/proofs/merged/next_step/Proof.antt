@@ -8,76 +8,76 @@ use Rattle.flags_classes.proofs.merged.next_step.Statement.{statement}
 use Rattle.flags_classes.proofs.merged.next_step.Tie as tie
 
 -- the two places
-module _ (c : tie.After-next-left2) where
+module _ (c : tie.After-next_left-b) where
   abbrev z : tie.Start
   z = c.before.before.before
 
-  nexts : Nexts z.args.s.now z.args.f z.args.g z.args.i z.args.j c.before.next-left.result c.next-left2.result
-  nexts = record { of_f_lem = c.before.next-left.ensures; of_g_lem = c.next-left2.ensures }
+  nexts : Nexts z.args.s.now z.args.f z.args.g z.args.i z.args.j c.next_left-a.result c.next_left-b.result
+  nexts = record { of_f_lem = c.next_left-a.ensures; of_g_lem = c.next_left-b.ensures }
 
-next-left-requires : tie.Need-next-left-requires
-next-left-requires c κs = search rules
+next_left-a-requires : tie.Need-next_left-a-requires
+next_left-a-requires c κs = search rules
 
-next-left-requires-2 : tie.Need-next-left-requires-2
-next-left-requires-2 c κs = search rules
+next_left-b-requires : tie.Need-next_left-b-requires
+next_left-b-requires c κs = search rules
 
-segment-of-requires : tie.Need-segment-of-requires
-segment-of-requires c κs =
+segment_of-requires : tie.Need-segment_of-requires
+segment_of-requires c κs =
     let t = c.before.before in
     let d = t.before.before in
     let n = (nexts d).of_f_lem in
-    ((z d).requires.0, left_has (z d).args.s.now (z d).args.f d.before.next-left.result (n.there t.if1.true), t.if1.true)
+    ((z d).requires.0, left_has (z d).args.s.now (z d).args.f d.next_left-a.result (n.there t.if-a-f.true), t.if-a-f.true)
 
-segment-of-requires-2 : tie.Need-segment-of-requires-2
-segment-of-requires-2 c κs =
+segment_of-requires-then-b-g : tie.Need-segment_of-requires-then-b-g
+segment_of-requires-then-b-g c κs =
     let t = c.before in
     let d = t.before.before.before.before in
     let n = (nexts d).of_g_lem in
-    ((z d).requires.1, left_has (z d).args.s.now (z d).args.g d.next-left2.result (n.there t.if2.true), t.if2.true)
+    ((z d).requires.1, left_has (z d).args.s.now (z d).args.g d.next_left-b.result (n.there t.if-b-g.true), t.if-b-g.true)
 
 first-requires : tie.Need-first-requires
 first-requires c κs = search rules
 
-returns : tie.Need-returns
-returns c =
+returns-then-b-g : tie.Need-returns-then-b-g
+returns-then-b-g c =
     let e = c.before.before in
     let t = e.before.before.before in
     let d = t.before.before in
     let a = (z d).args in
     subst (λ (r : Step). Stepped a.s.now a.f a.g a.i a.j r) (sym c.first.ensures)
-    (step_first a.s.now a.f a.g (nexts d) t.if1.true e.before.if2.true e.segment-of.ensures.0 c.before.segment-of2.ensures.0)
+    (step_first a.s.now a.f a.g (nexts d) t.if-a-f.true e.if-b-g.true e.segment_of.ensures.0 c.segment_of-then-b-g.ensures.0)
 
-returns-2 : tie.Need-returns-2
-returns-2 c =
+returns-then-a-f : tie.Need-returns-then-a-f
+returns-then-a-f c =
     let t = c.before.before in
     let d = t.before.before in
     let a = (z d).args in
-    step_f a.s.now a.f a.g (nexts d) t.if1.true c.if2.false
+    step_f a.s.now a.f a.g (nexts d) t.if-a-f.true c.if-b-g.false
 
-returns-3 : tie.Need-returns-3
-returns-3 c =
+returns-then-b-g-2 : tie.Need-returns-then-b-g-2
+returns-then-b-g-2 c =
     let t = c.before.before in
     let d = t.before.before in
     let a = (z d).args in
-    step_g a.s.now a.f a.g (nexts d) t.if1.false c.if3.true
+    step_g a.s.now a.f a.g (nexts d) t.if-a-f.false c.if-b-g-2.true
 
-returns-4 : tie.Need-returns-4
-returns-4 c =
+returns : tie.Need-returns
+returns c =
     let t = c.before.before in
     let d = t.before.before in
     let a = (z d).args in
-    step_end a.s.now a.f a.g (nexts d) t.if1.false c.if3.false
+    step_end a.s.now a.f a.g (nexts d) t.if-a-f.false c.if-b-g-2.false
 
-pub next-step-spec : {M : Type 1} → statement M
-next-step-spec =
+pub next_step_spec : {M : Type 1} → statement M
+next_step_spec =
     tie.close
     (tie.spec
-    next-left-requires
-    next-left-requires-2
-    segment-of-requires
-    segment-of-requires-2
+    next_left-a-requires
+    next_left-b-requires
+    segment_of-requires
+    segment_of-requires-then-b-g
     first-requires
-    returns
-    returns-2
-    returns-3
-    returns-4)
+    returns-then-b-g
+    returns-then-a-f
+    returns-then-b-g-2
+    returns)

@@ -25,8 +25,8 @@ segment-requires c κs = omega (arith, (good c.before.before).there, c.place.ens
 returns : tie.Need-returns
 returns c =
     let z = c.before.before.before in
-    let e = c.segment.ensures ∙ ap (segment_at z.args.s.now) c.before.place.ensures in
+    let e = c.segment.ensures ∙ ap (segment_at z.args.s.now) c.place.ensures in
     (e, subst (λ (t : Segment). T (segment_in_range t)) (sym e) (good z).in_range_lem)
 
-pub segment-of-spec : {M : Type 1} → statement M
-segment-of-spec = tie.close (tie.spec place-requires segment-requires returns)
+pub segment_of_spec : {M : Type 1} → statement M
+segment_of_spec = tie.close (tie.spec place-requires segment-requires returns)

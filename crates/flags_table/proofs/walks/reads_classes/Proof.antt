@@ -8,14 +8,14 @@ use borrow.Author.Rules.{rules}
 use Rattle.flags_table.proofs.walks.reads_classes.Statement.{statement}
 use Rattle.flags_table.proofs.walks.reads_classes.Tie as tie
 
-class-flags-requires : tie.Need-class-flags-requires
-class-flags-requires c κs = search rules
+class_flags-classes-requires : tie.Need-class_flags-classes-requires
+class_flags-classes-requires c κs = search rules
 
 returns : tie.Need-returns
 returns c =
-    let z = c.before.before.before.args in
-    let these = c.before.before.class-flags.ensures in
-    ap₂ (λ (f g : ℕ). not (eqb (bit_and z.want-f f) 0) || not (eqb (bit_and z.want-g g) 0)) these.0 these.1
+    let z = c.args in
+    let these = c.class_flags-classes.ensures in
+    ap₂ (λ (f g : ℕ). not (eqb (bit_and z.want_f f) 0) || not (eqb (bit_and z.want_g g) 0)) these.0 these.1
 
-pub reads-classes-spec : {M : Type 1} → statement M
-reads-classes-spec = tie.close (tie.spec class-flags-requires returns)
+pub reads_classes_spec : {M : Type 1} → statement M
+reads_classes_spec = tie.close (tie.spec class_flags-classes-requires returns)
