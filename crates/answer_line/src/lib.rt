@@ -1,5 +1,7 @@
 // The one line that answers a scene, written into a lent buffer.
 // Each function but `write_line` writes at 0 and answers the offset after what it wrote.
+#![tactic(auto)]
+
 ghost use Rattle.std.specs.Prelude.{◌≤◌, length};
 ghost use Rattle.cells.specs.Explored.{cells_values};
 ghost use Rattle.answer_line.specs.Line.{ok_line, no_line, line_of, line_of_scene, Numbered, Written, Lent};

@@ -1,4 +1,6 @@
 // The cells question: the nine-intersection matrix of the two objects of a scene.
+#![tactic(auto)]
+
 use scene::{Refusal, Shape};
 
 // What a taken scene's cells follow from, in the caller's order: the two types, the two vectors with every flag wanted, and which objects are empty.

@@ -1,4 +1,6 @@
 // The pattern question: do the nine cells of a scene fit an OGC relate pattern?
+#![tactic(auto)]
+
 use scene::Refusal;
 
 // Taken with yes or no, or refused.

@@ -1,4 +1,6 @@
 // The topological feature vectors of two objects.
+#![tactic(auto)]
+
 use scene::{Refusal, Scene};
 
 // A 16-bit vector for each object: of F and G, or of the two objects in the caller's order.

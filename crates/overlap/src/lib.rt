@@ -1,4 +1,6 @@
 // The overlap list of two regions, into a lent buffer: each different segment gives one byte.
+#![tactic(auto)]
+
 ghost use Rattle.std.specs.Prelude.{◌≡◌, length};
 ghost use Rattle.check_verdict.specs.SharedPoints.{CheckedMeans};
 ghost use Rattle.overlap.specs.Rules.{check_list};

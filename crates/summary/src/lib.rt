@@ -1,4 +1,6 @@
 // Summaries of objects: what a summary holds, and what two of them tell. The theorems of proofs/ say that this is the full answer for far objects.
+#![tactic(auto)]
+
 use flags_vectors::Vectors;
 use plane::Point;
 use scene::{Refusal, Shape};

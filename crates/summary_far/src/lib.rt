@@ -1,4 +1,6 @@
 // The far question: what two summaries, as bytes, tell of their objects.
+#![tactic(auto)]
+
 ghost use Rattle.std.specs.Prelude.{◌≡◌, ◌≤◌};
 ghost use Rattle.std.specs.Int.Signed.{lt_z};
 ghost use Rattle.whole.specs.Count.{bit};

@@ -1,4 +1,6 @@
 // A summary as its 20 bytes: read where they stand in a longer string, tested, and written by value.
+#![tactic(auto)]
+
 ghost use Rattle.std.specs.Prelude.{◌≡◌, ◌+◌, ◌≤◌, length};
 ghost use Rattle.summary.specs.Summary.{size, summary_at, fields_good, good_at, good_bytes};
 

@@ -1,5 +1,7 @@
 // Which of these are in the window (document 02, Paper 11): a window of four single floats, up to 64 summaries one after the other, and the word whose bit k says
 // that summary k shares a point with the window.
+#![tactic(auto)]
+
 ghost use Rattle.std.specs.Prelude.{◌≡◌, ◌≤◌, T, length};
 ghost use Rattle.std.specs.Float.{binary32};
 ghost use Rattle.std.specs.Float.Ieee.Scale.{finite};

@@ -1,5 +1,7 @@
 // Asks for the vectors of the scenes of standard input, each `label: [4,0] bytes;` on lines of its own, with the masks of F and of G and the bytes as document
 // 01 writes them, and writes both vectors of each, or `no`, number and place. Without masks nothing is wanted.
+#![tactic(auto)]
+
 ghost use Rattle.std.specs.Prelude.{◌<◌, ◌≤◌, length};
 
 use flags_vectors::{VectorsAnswer, question};

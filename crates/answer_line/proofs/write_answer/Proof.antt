@@ -9,66 +9,66 @@ use Rattle.answer_line.proofs.Line.{taken_line, refused_line}
 use Rattle.answer_line.proofs.write_answer.Statement.{statement}
 use Rattle.answer_line.proofs.write_answer.Tie as tie
 
-enum-known-answer : tie.Need-enum-known-answer
-enum-known-answer c = search rules
+enum_known-answer : tie.Need-enum_known-answer
+enum_known-answer c = search rules
 
-shape-number-requires : tie.Need-shape-number-requires
-shape-number-requires c κs = search rules
+shape_number-f-requires : tie.Need-shape_number-f-requires
+shape_number-f-requires c κs = search rules
 
-shape-number-requires-2 : tie.Need-shape-number-requires-2
-shape-number-requires-2 c κs = search rules
+shape_number-g-requires : tie.Need-shape_number-g-requires
+shape_number-g-requires c κs = search rules
 
 matrix-requires : tie.Need-matrix-requires
 matrix-requires c κs = search rules
 
-write-ok-requires : tie.Need-write-ok-requires
-write-ok-requires c κs = search rules
+write_ok-requires : tie.Need-write_ok-requires
+write_ok-requires c κs = search rules
 
-enum-known-answer-2 : tie.Need-enum-known-answer-2
-enum-known-answer-2 c = search rules
+enum_known-answer-in-Refused-1 : tie.Need-enum_known-answer-in-Refused-1
+enum_known-answer-in-Refused-1 c = search rules
 
-write-no-requires : tie.Need-write-no-requires
-write-no-requires c κs = search rules
+write_no-requires : tie.Need-write_no-requires
+write_no-requires c κs = search rules
 
-same_length : tie.Need-same-length
-same_length c = search rules
+shape_of-out-in-Taken : tie.Need-shape_of-out-in-Taken
+shape_of-out-in-Taken c = search rules
 
-returns : tie.Need-returns
-returns c =
+returns-in-Taken : tie.Need-returns-in-Taken
+returns-in-Taken c =
     let written = c.before.before in
     let matrix = written.before in
     let second = matrix.before.before in
     let first = second.before in
-    let known = first.before.before in
+    let known = first.before in
     written_same
-    (taken_line known.answer.given.0.0 first.shape-number.ensures second.shape-number2.ensures matrix.matrix.ensures
-    ∙ ap (λ (a : CellsAnswer). line_of (cells_values a)) (sym known.answer.given.1))
-    written.write-ok.ensures
+    (taken_line known.in-Taken.e first.shape_number-f.ensures second.shape_number-g.ensures matrix.matrix.ensures
+    ∙ ap (λ (a : CellsAnswer). line_of (cells_values a)) (sym known.in-Taken.is))
+    written.write_ok.ensures
 
-same-length-2 : tie.Need-same-length-2
-same-length-2 c = search rules
+shape_of-out-in-Refused : tie.Need-shape_of-out-in-Refused
+shape_of-out-in-Refused c = search rules
 
-returns-2 : tie.Need-returns-2
-returns-2 c =
+returns-in-Refused : tie.Need-returns-in-Refused
+returns-in-Refused c =
     let written = c.before.before in
-    let known = written.before.before.before in
-    let is = known.answer2.given.1 in
+    let known = written.before.before in
+    let is = known.in-Refused.is in
     written_same
-    (refused_line known.answer2.given.0.0 (subst Numbered is known.before.before.before.requires.0) ∙ ap (λ (a : CellsAnswer). line_of (cells_values a)) (sym is))
-    written.write-no.ensures
+    (refused_line known.in-Refused.r (subst Numbered is known.requires.0) ∙ ap (λ (a : CellsAnswer). line_of (cells_values a)) (sym is))
+    written.write_no.ensures
 
-pub write-answer-spec : {M : Type 1} → statement M
-write-answer-spec =
+pub write_answer_spec : {M : Type 1} → statement M
+write_answer_spec =
     tie.close
     (tie.spec
-    enum-known-answer
-    shape-number-requires
-    shape-number-requires-2
+    enum_known-answer
+    shape_number-f-requires
+    shape_number-g-requires
     matrix-requires
-    write-ok-requires
-    enum-known-answer-2
-    write-no-requires
-    same_length
-    returns
-    same-length-2
-    returns-2)
+    write_ok-requires
+    enum_known-answer-in-Refused-1
+    write_no-requires
+    shape_of-out-in-Taken
+    returns-in-Taken
+    shape_of-out-in-Refused
+    returns-in-Refused)

@@ -8,53 +8,53 @@ use Rattle.answer_line.proofs.Line.{scene_line, numbered}
 use Rattle.answer_line.proofs.write_line.Statement.{statement}
 use Rattle.answer_line.proofs.write_line.Tie as tie
 
-slice-aggregate-write-answer : tie.Need-slice-aggregate-write-answer
-slice-aggregate-write-answer c = search rules
+slice_bounds-write_answer-end : tie.Need-slice_bounds-write_answer-end
+slice_bounds-write_answer-end c = search rules
 
 explore-requires : tie.Need-explore-requires
 explore-requires c κs = search rules
 
-write-answer-requires : tie.Need-write-answer-requires
-write-answer-requires c κs = (subst Numbered (sym c.explore.ensures.0) (numbered _), omega arith)
+write_answer-length-requires : tie.Need-write_answer-length-requires
+write_answer-length-requires c κs = (subst Numbered (sym c.explore.ensures.0) (numbered _), omega arith)
+
+returns-then-out-length : tie.Need-returns-then-out-length
+returns-then-out-length c =
+    let done = c.before.before in
+    let line = written_same (scene_line _ done.explore.ensures.0) done.write_answer-length.ensures in
+    (lent_none (omega (arith, start_length line)), omega (arith, start_length line, line.within))
+
+slice_bounds-line-end : tie.Need-slice_bounds-line-end
+slice_bounds-line-end c = search rules
+
+slice_bounds-write_bytes-end : tie.Need-slice_bounds-write_bytes-end
+slice_bounds-write_bytes-end c =
+    let line = c.write_answer-length.ensures in
+    rw (start_holds line) (start_length line)
+
+write_bytes-requires : tie.Need-write_bytes-requires
+write_bytes-requires c κs =
+    let line = c.write_answer-length.ensures in
+    rw (start_holds line) (omega (arith, start_length line))
+
+shape_of-out : tie.Need-shape_of-out
+shape_of-out c = search rules
 
 returns : tie.Need-returns
 returns c =
-    let done = c.before.before in
-    let line = written_same (scene_line _ done.before.explore.ensures.0) done.write-answer.ensures in
-    (lent_none (omega (arith, start_length line)), omega (arith, start_length line, line.within))
-
-array-share-prefix-line : tie.Need-array-share-prefix-line
-array-share-prefix-line c = search rules
-
-slice-aggregate-write-bytes : tie.Need-slice-aggregate-write-bytes
-slice-aggregate-write-bytes c =
-    let line = c.before.before.before.before.write-answer.ensures in
-    rw (start_holds line) (start_length line)
-
-write-bytes-requires : tie.Need-write-bytes-requires
-write-bytes-requires c κs =
-    let line = c.before.before.before.before.write-answer.ensures in
-    rw (start_holds line) (omega (arith, start_length line))
-
-same_length : tie.Need-same-length
-same_length c = search rules
-
-returns-2 : tie.Need-returns-2
-returns-2 c =
     let done = c.before.before.before.before.before.before.before in
-    let line = written_same (scene_line _ done.before.explore.ensures.0) done.write-answer.ensures in
-    (lent_all (rw (start_holds line) at c.before.before.write_bytes.ensures), omega (arith, start_length line, line.within))
+    let line = written_same (scene_line _ done.explore.ensures.0) done.write_answer-length.ensures in
+    (lent_all (rw (start_holds line) at c.write_bytes.ensures), omega (arith, start_length line, line.within))
 
-pub write-line-spec : {M : Type 1} → statement M
-write-line-spec =
+pub write_line_spec : {M : Type 1} → statement M
+write_line_spec =
     tie.close
     (tie.spec
-    slice-aggregate-write-answer
+    slice_bounds-write_answer-end
     explore-requires
-    write-answer-requires
-    returns
-    array-share-prefix-line
-    slice-aggregate-write-bytes
-    write-bytes-requires
-    same_length
-    returns-2)
+    write_answer-length-requires
+    returns-then-out-length
+    slice_bounds-line-end
+    slice_bounds-write_bytes-end
+    write_bytes-requires
+    shape_of-out
+    returns)

@@ -17,21 +17,21 @@ room c =
 slice-aggregate-write-bytes : tie.Need-slice-aggregate-write-bytes
 slice-aggregate-write-bytes c = search rules
 
-write-bytes-requires : tie.Need-write-bytes-requires
-write-bytes-requires c κs = omega (arith, room c.before.before.before)
+write_bytes-first-requires : tie.Need-write_bytes-first-requires
+write_bytes-first-requires c κs = omega (arith, room c.before.before.before.before)
 
-write-field-requires : tie.Need-write-field-requires
-write-field-requires c κs = omega (arith, room c.before.before.before.before.before.before.before)
+write_field-second-requires : tie.Need-write_field-second-requires
+write_field-second-requires c κs = omega (arith, room c.before.before.before.before.before.before.before.before)
 
-write-field-requires-2 : tie.Need-write-field-requires-2
-write-field-requires-2 c κs = omega (arith, room c.before.before.before.before.before.before.before.before.before.before.before)
+write_field-end-requires : tie.Need-write_field-end-requires
+write_field-end-requires c κs = omega (arith, room c.before.before.before.before.before.before.before.before.before.before.before.before)
 
-write-byte-requires : tie.Need-write-byte-requires
-write-byte-requires c κs =
-    omega (arith, room c.before.before.before.before.before.before.before.before.before.before.before.before.before.before.before)
+write_byte-requires : tie.Need-write_byte-requires
+write_byte-requires c κs =
+    omega (arith, room c.before.before.before.before.before.before.before.before.before.before.before.before.before.before.before.before)
 
-same_length : tie.Need-same-length
-same_length c = search rules
+shape_of-out : tie.Need-shape_of-out
+shape_of-out c = search rules
 
 returns : tie.Need-returns
 unfolding no_line
@@ -40,17 +40,17 @@ returns c =
     let second = feed.before.before.before.before in
     let first = second.before.before.before.before in
     let word = first.before.before.before.before in
-    followed word.write_bytes.ensures (followed first.write-field.ensures
-    (followed second.write-field2.ensures feed.write_byte.ensures))
+    followed word.write_bytes-first.ensures (followed first.write_field-second.ensures
+    (followed second.write_field-end.ensures feed.write_byte.ensures))
 
-pub write-no-spec : {M : Type 1} → statement M
-write-no-spec =
+pub write_no_spec : {M : Type 1} → statement M
+write_no_spec =
     tie.close
     (tie.spec
     slice-aggregate-write-bytes
-    write-bytes-requires
-    write-field-requires
-    write-field-requires-2
-    write-byte-requires
-    same_length
+    write_bytes-first-requires
+    write_field-second-requires
+    write_field-end-requires
+    write_byte-requires
+    shape_of-out
     returns)

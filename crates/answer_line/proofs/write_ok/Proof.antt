@@ -24,59 +24,59 @@ room c =
     )
   where
     whole : length (cell_bytes c.args.cells) ≡ 9
-    whole = nine c.args.cells _ c.well-formed.1.1.1.1.1.0
+    whole = nine c.args.cells _ c.well_formed.1.1.1.1.1.0
 
 -- back to the start, from after each call
-abbrev start_1 : tie.After-slice-known2 → tie.Start
-start_1 c = c.before.before.before.before.before.before
+abbrev start_1 : tie.After-slice_known-2-1 → tie.Start
+start_1 c = c.before.before.before.before.before.before.before
 
-abbrev start_2 : tie.After-slice-known3 → tie.Start
+abbrev start_2 : tie.After-slice_known-3-1 → tie.Start
 start_2 c = start_1 c.before.before.before.before
 
-abbrev start_3 : tie.After-slice-known4 → tie.Start
+abbrev start_3 : tie.After-slice_known-4-1 → tie.Start
 start_3 c = start_2 c.before.before.before.before
 
-abbrev start_4 : tie.After-slice-known5 → tie.Start
+abbrev start_4 : tie.After-slice_known-5-1 → tie.Start
 start_4 c = start_3 c.before.before.before.before
 
-abbrev start_5 : tie.After-slice-known6 → tie.Start
+abbrev start_5 : tie.After-slice_known-6-1 → tie.Start
 start_5 c = start_4 c.before.before.before.before
 
-abbrev start_6 : tie.After-slice-known7 → tie.Start
+abbrev start_6 : tie.After-slice_known-7-1 → tie.Start
 start_6 c = start_5 c.before.before.before.before
 
-abbrev start_7 : tie.After-slice-known8 → tie.Start
+abbrev start_7 : tie.After-slice_known-8-1 → tie.Start
 start_7 c = start_6 c.before.before.before.before
 
 slice-aggregate-write-bytes : tie.Need-slice-aggregate-write-bytes
 slice-aggregate-write-bytes c = search rules
 
-write-bytes-requires : tie.Need-write-bytes-requires
-write-bytes-requires c κs = omega (arith, room c.before.before.before)
+write_bytes-first-requires : tie.Need-write_bytes-first-requires
+write_bytes-first-requires c κs = omega (arith, room c.before.before.before.before)
 
-write-field-requires : tie.Need-write-field-requires
-write-field-requires c κs = omega (arith, room (start_1 c.before))
+write_field-second-requires : tie.Need-write_field-second-requires
+write_field-second-requires c κs = omega (arith, room (start_1 c.before))
 
-write-field-requires-2 : tie.Need-write-field-requires-2
-write-field-requires-2 c κs = omega (arith, room (start_2 c.before))
+write_field-third-requires : tie.Need-write_field-third-requires
+write_field-third-requires c κs = omega (arith, room (start_2 c.before))
 
-write-field-requires-3 : tie.Need-write-field-requires-3
-write-field-requires-3 c κs = omega (arith, room (start_3 c.before))
+write_field-fourth-requires : tie.Need-write_field-fourth-requires
+write_field-fourth-requires c κs = omega (arith, room (start_3 c.before))
 
-write-field-requires-4 : tie.Need-write-field-requires-4
-write-field-requires-4 c κs = omega (arith, room (start_4 c.before))
+write_field-fifth-requires : tie.Need-write_field-fifth-requires
+write_field-fifth-requires c κs = omega (arith, room (start_4 c.before))
 
-write-byte-requires : tie.Need-write-byte-requires
-write-byte-requires c κs = omega (arith, room (start_5 c.before))
+write_byte-matrix-requires : tie.Need-write_byte-matrix-requires
+write_byte-matrix-requires c κs = omega (arith, room (start_5 c.before))
 
-write-cells-requires : tie.Need-write-cells-requires
-write-cells-requires c κs = omega (arith, room (start_6 c.before))
+write_cells-end-requires : tie.Need-write_cells-end-requires
+write_cells-end-requires c κs = omega (arith, room (start_6 c.before))
 
-write-byte-requires-2 : tie.Need-write-byte-requires-2
-write-byte-requires-2 c κs = omega (arith, room (start_7 c.before))
+write_byte-requires : tie.Need-write_byte-requires
+write_byte-requires c κs = omega (arith, room (start_7 c.before))
 
-same_length : tie.Need-same-length
-same_length c = search rules
+shape_of-out : tie.Need-shape_of-out
+shape_of-out c = search rules
 
 returns : tie.Need-returns
 unfolding ok_line
@@ -89,22 +89,22 @@ returns c =
     let second = third.before.before.before.before in
     let first = second.before.before.before.before in
     let word = first.before.before.before.before in
-    followed word.write_bytes.ensures (followed first.write-field.ensures (followed second.write-field2.ensures
-    (followed third.write-field3.ensures (followed fourth.write-field4.ensures
-    (followed gap.write_byte.ensures (followed matrix.write-cells.ensures feed.write-byte2.ensures))))))
+    followed word.write_bytes-first.ensures (followed first.write_field-second.ensures (followed second.write_field-third.ensures
+    (followed third.write_field-fourth.ensures (followed fourth.write_field-fifth.ensures
+    (followed gap.write_byte-matrix.ensures (followed matrix.write_cells-end.ensures feed.write_byte.ensures))))))
 
-pub write-ok-spec : {M : Type 1} → statement M
-write-ok-spec =
+pub write_ok_spec : {M : Type 1} → statement M
+write_ok_spec =
     tie.close
     (tie.spec
     slice-aggregate-write-bytes
-    write-bytes-requires
-    write-field-requires
-    write-field-requires-2
-    write-field-requires-3
-    write-field-requires-4
-    write-byte-requires
-    write-cells-requires
-    write-byte-requires-2
-    same_length
+    write_bytes-first-requires
+    write_field-second-requires
+    write_field-third-requires
+    write_field-fourth-requires
+    write_field-fifth-requires
+    write_byte-matrix-requires
+    write_cells-end-requires
+    write_byte-requires
+    shape_of-out
     returns)

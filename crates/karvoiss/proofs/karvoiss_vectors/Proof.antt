@@ -30,13 +30,13 @@ returns : tie.Need-returns
 returns c =
     let k = c.before.before.before in
     let a = k.before.before.args in
-    in_fields a.scene.now a.want-f a.want-g k.vectors.ensures c.before.v.given.1
+    in_fields a.scene.now a.want_f a.want_g k.vectors.ensures c.before.v.given.1
 
 returns-2 : tie.Need-returns-2
 returns-2 c =
     let k = c.before.before.before.before in
     let a = k.before.before.args in
-    in_fields a.scene.now a.want-f a.want-g k.vectors.ensures c.before.before.r.given.1
+    in_fields a.scene.now a.want_f a.want_g k.vectors.ensures c.before.before.r.given.1
 
 pub karvoiss-vectors-spec : {M : Type 1} → statement M
 karvoiss-vectors-spec =

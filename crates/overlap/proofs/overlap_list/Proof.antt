@@ -17,69 +17,69 @@ listed : ℕ → Overlap
 listed n = record { number = 0; place = 0; count = n }
 
 -- a scene that was taken
-module _ (c : tie.After-write-arg) where
-  abbrev k : tie.After-check-list
-  k = c.before.before.before.before.before.before
+module _ (c : tie.After-write-arg-1) where
+  abbrev k : tie.After-check_list
+  k = c.before.before.before.before
 
   abbrev z : tie.Start
   z = k.before.before.before.before
 
   abbrev scene : Scene
-  scene = c.before.before.before.scene.given.0.0
+  scene = c.in-Taken.scene
 
   taken : check_list z.args.s.now (length z.args.list.now) ≡ CheckedScene.Taken scene
-  taken = sym k.check-list.ensures.1 ∙ c.before.before.before.scene.given.1
+  taken = sym k.check_list.ensures.1 ∙ c.in-Taken.is
 
-slice-aggregate-check-list : tie.Need-slice-aggregate-check-list
-slice-aggregate-check-list c = search rules
+slice_bounds-check_list-end : tie.Need-slice_bounds-check_list-end
+slice_bounds-check_list-end c = search rules
 
-check-list-requires : tie.Need-check-list-requires
-check-list-requires c κs = search rules
+check_list-requires : tie.Need-check_list-requires
+check_list-requires c κs = search rules
 
-enum-known-r : tie.Need-enum-known-r
-enum-known-r c = search rules
+enum_known-r : tie.Need-enum_known-r
+enum_known-r c = search rules
 
-enum-known-scene : tie.Need-enum-known-scene
-enum-known-scene c = search rules
+enum_known-scene : tie.Need-enum_known-scene
+enum_known-scene c = search rules
 
-slice-aggregate-write : tie.Need-slice-aggregate-write
-slice-aggregate-write c = search rules
+slice_bounds-write-end : tie.Need-slice_bounds-write-end
+slice_bounds-write-end c = search rules
 
-write-requires : tie.Need-write-requires
-write-requires c κs =
-    (taken c, omega (arith, (k c).check-list.ensures.0), (k c).check-list.ensures.2 (scene c) c.before.before.before.scene.given.1)
+write-count-requires : tie.Need-write-count-requires
+write-count-requires c κs =
+    (taken c, omega (arith, (k c).check_list.ensures.0), (k c).check_list.ensures.2 (scene c) c.in-Taken.is)
 
-returns : tie.Need-returns
-returns c =
-    let k = c.before.before.before.before in
-    let a = k.before.before.before.before.args in
-    let e = sym k.check-list.ensures.1 ∙ c.before.r.given.1 in
+returns-in-Refused : tie.Need-returns-in-Refused
+returns-in-Refused c =
+    let k = c.before.before in
+    let a = k.args in
+    let e = sym k.check_list.ensures.1 ∙ c.in-Refused.is in
     (sym (ap (answer a.s.now) e), sym (ap (λ (o : CheckedScene). lent_after a.s.now o a.list.now) e), list_means a.s.now _)
 
-same_length : tie.Need-same-length
-same_length c = search rules
+shape_of-list : tie.Need-shape_of-list
+shape_of-list c = search rules
 
-returns-2 : tie.Need-returns-2
+returns-in-Taken : tie.Need-returns-in-Taken
 unfolding listed
-returns-2 c =
+returns-in-Taken c =
     let w = c.before.before in
     let d = w.before in
     let a = (z d).args in (
-      ap listed w.write.ensures.0 ∙ sym (ap (answer a.s.now) (taken d)),
-      w.write.ensures.1 ∙ sym (ap (λ (o : CheckedScene). lent_after a.s.now o a.list.now) (taken d)),
+      ap listed w.write-count.ensures.0 ∙ sym (ap (answer a.s.now) (taken d)),
+      w.write-count.ensures.1 ∙ sym (ap (λ (o : CheckedScene). lent_after a.s.now o a.list.now) (taken d)),
       list_means a.s.now _,
     )
 
-pub overlap-list-spec : {M : Type 1} → statement M
-overlap-list-spec =
+pub overlap_list_spec : {M : Type 1} → statement M
+overlap_list_spec =
     tie.close
     (tie.spec
-    slice-aggregate-check-list
-    check-list-requires
-    enum-known-r
-    enum-known-scene
-    slice-aggregate-write
-    write-requires
-    returns
-    same_length
-    returns-2)
+    slice_bounds-check_list-end
+    check_list-requires
+    enum_known-r
+    enum_known-scene
+    slice_bounds-write-end
+    write-count-requires
+    returns-in-Refused
+    shape_of-list
+    returns-in-Taken)

@@ -6,8 +6,8 @@ use Rattle.summary_far.proofs.are_far.Tie as tie
 either-requires : tie.Need-either-requires
 either-requires c κs = search rules
 
-is-beside-requires : tie.Need-is-beside-requires
-is-beside-requires c κs = search rules
+is_beside-requires : tie.Need-is_beside-requires
+is_beside-requires c κs = search rules
 
 either-requires-2 : tie.Need-either-requires-2
 either-requires-2 c κs = search rules
@@ -15,5 +15,5 @@ either-requires-2 c κs = search rules
 returns : tie.Need-returns
 returns c = cc
 
-pub are-far-spec : {M : Type 1} → statement M
-are-far-spec = tie.close (tie.spec either-requires is-beside-requires either-requires-2 returns)
+pub are_far_spec : {M : Type 1} → statement M
+are_far_spec = tie.close (tie.spec either-requires is_beside-requires either-requires-2 returns)

@@ -6,17 +6,17 @@ use borrow.Author.Rules.{rules}
 use Rattle.summary_far.proofs.ask.Statement.{statement}
 use Rattle.summary_far.proofs.ask.Tie as tie
 
-is-good-alone-requires : tie.Need-is-good-alone-requires
-is-good-alone-requires c κs = search rules
+is_good_alone-requires : tie.Need-is_good_alone-requires
+is_good_alone-requires c κs = search rules
 
-is-good-alone-requires-2 : tie.Need-is-good-alone-requires-2
-is-good-alone-requires-2 c κs = search rules
+is_good_alone-requires-then-is_good_alone : tie.Need-is_good_alone-requires-then-is_good_alone
+is_good_alone-requires-then-is_good_alone c κs = search rules
 
 read-requires : tie.Need-read-requires
-read-requires c κs = good_sized _ (sym c.before.before.before.is-good-alone.ensures ∙ c.before.before.if1.true)
+read-requires c κs = good_sized _ (sym c.is_good_alone.ensures ∙ c.if-is_good_alone.true)
 
-read-requires-2 : tie.Need-read-requires-2
-read-requires-2 c κs = good_sized _ (sym c.before.before.is-good-alone2.ensures ∙ c.before.if2.true)
+read-requires-then-is_good_alone-2 : tie.Need-read-requires-then-is_good_alone-2
+read-requires-then-is_good_alone-2 c κs = good_sized _ (sym c.is_good_alone-then-is_good_alone.ensures ∙ c.if-is_good_alone-2.true)
 
 tell-requires : tie.Need-tell-requires
 tell-requires c κs = search rules
@@ -24,38 +24,38 @@ tell-requires c κs = search rules
 bad-requires : tie.Need-bad-requires
 bad-requires c κs = search rules
 
-bad-requires-2 : tie.Need-bad-requires-2
-bad-requires-2 c κs = search rules
+bad-requires-else-is_good_alone : tie.Need-bad-requires-else-is_good_alone
+bad-requires-else-is_good_alone c κs = search rules
 
-returns : tie.Need-returns
+returns-then-is_good_alone-2 : tie.Need-returns-then-is_good_alone-2
 unfolding asked_of
-returns c =
+returns-then-is_good_alone-2 c =
     let r = c.before.before in
     let d = r.before in
-    rw (sym d.before.before.before.is-good-alone.ensures ∙ d.before.before.if1.true, sym d.before.is-good-alone2.ensures ∙ d.if2.true)
-    (c.tell.ensures ∙ ap₂ told_of r.read.ensures c.before.read2.ensures)
+    rw (sym d.is_good_alone.ensures ∙ d.if-is_good_alone.true, sym d.is_good_alone-then-is_good_alone.ensures ∙ d.if-is_good_alone-2.true)
+    (c.tell.ensures ∙ ap₂ told_of r.read.ensures c.read-then-is_good_alone-2.ensures)
 
-returns-2 : tie.Need-returns-2
+returns-else-is_good_alone-2 : tie.Need-returns-else-is_good_alone-2
 unfolding asked_of
-returns-2 c =
+returns-else-is_good_alone-2 c =
     let d = c.before in
-    rw (sym d.before.before.before.is-good-alone.ensures ∙ d.before.before.if1.true, sym d.before.is-good-alone2.ensures ∙ d.if2.false) c.bad.ensures
+    rw (sym d.is_good_alone.ensures ∙ d.if-is_good_alone.true, sym d.is_good_alone-then-is_good_alone.ensures ∙ d.if-is_good_alone-2.false) c.bad.ensures
 
-returns-3 : tie.Need-returns-3
+returns-else-is_good_alone : tie.Need-returns-else-is_good_alone
 unfolding asked_of
-returns-3 c = rw (sym c.before.before.is-good-alone.ensures ∙ c.before.if1.false) c.bad2.ensures
+returns-else-is_good_alone c = rw (sym c.is_good_alone.ensures ∙ c.if-is_good_alone.false) c.bad-else-is_good_alone.ensures
 
-pub ask-spec : {M : Type 1} → statement M
-ask-spec =
+pub ask_spec : {M : Type 1} → statement M
+ask_spec =
     tie.close
     (tie.spec
-    is-good-alone-requires
-    is-good-alone-requires-2
+    is_good_alone-requires
+    is_good_alone-requires-then-is_good_alone
     read-requires
-    read-requires-2
+    read-requires-then-is_good_alone-2
     tell-requires
     bad-requires
-    bad-requires-2
-    returns
-    returns-2
-    returns-3)
+    bad-requires-else-is_good_alone
+    returns-then-is_good_alone-2
+    returns-else-is_good_alone-2
+    returns-else-is_good_alone)

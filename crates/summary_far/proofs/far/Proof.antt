@@ -10,9 +10,9 @@ ask-requires c κs = search rules
 
 returns : tie.Need-returns
 returns c =
-    let z = c.before.before.before.args in
+    let z = c.args in
     let e = c.ask.ensures in
     (e, good_exactly_if_made z.first.now, good_exactly_if_made z.second.now, told_in_full z.first.now z.second.now e, look_exactly_if_near z.first.now z.second.now e)
 
-pub far-spec : {M : Type 1} → statement M
-far-spec = tie.close (tie.spec ask-requires returns)
+pub far_spec : {M : Type 1} → statement M
+far_spec = tie.close (tie.spec ask-requires returns)

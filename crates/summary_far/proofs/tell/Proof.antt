@@ -6,19 +6,19 @@ use borrow.Author.Rules.{rules}
 use Rattle.summary_far.proofs.tell.Statement.{statement}
 use Rattle.summary_far.proofs.tell.Tie as tie
 
-are-far-requires : tie.Need-are-far-requires
-are-far-requires c κs = search rules
+are_far-requires : tie.Need-are_far-requires
+are_far-requires c κs = search rules
 
 vectors-requires : tie.Need-vectors-requires
 vectors-requires c κs = search rules
 
-returns : tie.Need-returns
+returns-then-are_far : tie.Need-returns-then-are_far
 unfolding told_of
-returns c = rw (sym c.before.before.are-far.ensures ∙ c.before.if1.true) (ap Told c.vectors.ensures)
+returns-then-are_far c = rw (sym c.are_far.ensures ∙ c.if-are_far.true) (ap Told c.vectors.ensures)
 
-returns-2 : tie.Need-returns-2
+returns-else-are_far : tie.Need-returns-else-are_far
 unfolding told_of
-returns-2 c = rw (sym c.before.are-far.ensures ∙ c.if1.false)
+returns-else-are_far c = rw (sym c.are_far.ensures ∙ c.if-are_far.false)
 
-pub tell-spec : {M : Type 1} → statement M
-tell-spec = tie.close (tie.spec are-far-requires vectors-requires returns returns-2)
+pub tell_spec : {M : Type 1} → statement M
+tell_spec = tie.close (tie.spec are_far-requires vectors-requires returns-then-are_far returns-else-are_far)

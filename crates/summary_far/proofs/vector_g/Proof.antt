@@ -4,111 +4,111 @@ use Rattle.summary_far.proofs.Laws.{g_pp, g_pl, g_ll, g_lr, g_rr}
 use Rattle.summary_far.proofs.vector_g.Statement.{statement}
 use Rattle.summary_far.proofs.vector_g.Tie as tie
 
-bit-requires : tie.Need-bit-requires
-bit-requires c κs = search rules
+bit-n-requires : tie.Need-bit-n-requires
+bit-n-requires c κs = search rules
 
-bit-requires-2 : tie.Need-bit-requires-2
-bit-requires-2 c κs = search rules
+bit-b-requires : tie.Need-bit-b-requires
+bit-b-requires c κs = search rules
 
-enum_told : tie.Need-enum-told
-enum_told c = search rules
+enum_told-1 : tie.Need-enum_told-1
+enum_told-1 c = search rules
 
-enum-told-2 : tie.Need-enum-told-2
-enum-told-2 c = search rules
+enum_told-in-Points-l : tie.Need-enum_told-in-Points-l
+enum_told-in-Points-l c = search rules
 
-enum-told-3 : tie.Need-enum-told-3
-enum-told-3 c = search rules
+enum_told-in-Line-l : tie.Need-enum_told-in-Line-l
+enum_told-in-Line-l c = search rules
 
-enum-told-4 : tie.Need-enum-told-4
-enum-told-4 c = search rules
+enum_told-in-Region-l : tie.Need-enum_told-in-Region-l
+enum_told-in-Region-l c = search rules
 
-enum-told-5 : tie.Need-enum-told-5
-enum-told-5 c = search rules
+enum_told-in-Line : tie.Need-enum_told-in-Line
+enum_told-in-Line c = search rules
 
-enum-told-6 : tie.Need-enum-told-6
-enum-told-6 c = search rules
+enum_told-in-Points-l-2 : tie.Need-enum_told-in-Points-l-2
+enum_told-in-Points-l-2 c = search rules
 
-enum-told-7 : tie.Need-enum-told-7
-enum-told-7 c = search rules
+enum_told-in-Line-l-2 : tie.Need-enum_told-in-Line-l-2
+enum_told-in-Line-l-2 c = search rules
 
-mul-result : tie.Need-overflow-mul-result
-mul-result c = search rules
+overflow_mul-result : tie.Need-overflow_mul-result
+overflow_mul-result c = search rules
 
-add-result : tie.Need-overflow-add-result
-add-result c = search rules
+overflow_add-result : tie.Need-overflow_add-result
+overflow_add-result c = search rules
 
-enum-told-8 : tie.Need-enum-told-8
-enum-told-8 c = search rules
+enum_told-in-Region-l-2 : tie.Need-enum_told-in-Region-l-2
+enum_told-in-Region-l-2 c = search rules
 
-enum-told-9 : tie.Need-enum-told-9
-enum-told-9 c = search rules
+enum_told-in-Region : tie.Need-enum_told-in-Region
+enum_told-in-Region c = search rules
 
-enum-told-10 : tie.Need-enum-told-10
-enum-told-10 c = search rules
+enum_told-in-Points-l-3 : tie.Need-enum_told-in-Points-l-3
+enum_told-in-Points-l-3 c = search rules
 
-enum-told-11 : tie.Need-enum-told-11
-enum-told-11 c = search rules
+enum_told-in-Line-l-3 : tie.Need-enum_told-in-Line-l-3
+enum_told-in-Line-l-3 c = search rules
 
-enum-told-12 : tie.Need-enum-told-12
-enum-told-12 c = search rules
+enum_told-in-Region-l-3 : tie.Need-enum_told-in-Region-l-3
+enum_told-in-Region-l-3 c = search rules
 
-mul-result-2 : tie.Need-overflow-mul-result-2
-mul-result-2 c = search rules
+overflow_mul-result-in-Region-l-3 : tie.Need-overflow_mul-result-in-Region-l-3
+overflow_mul-result-in-Region-l-3 c = search rules
 
-returns : tie.Need-returns
-returns c = let a = c.before.before.before.before.before.before.args in cc (g_pp a.filled a.boundary)
+returns-in-Points-l : tie.Need-returns-in-Points-l
+returns-in-Points-l c = let a = c.args in cc (g_pp a.filled a.boundary)
 
-returns-2 : tie.Need-returns-2
-returns-2 c = let a = c.before.before.before.before.before.before.args in cc (g_pl a.filled a.boundary)
+returns-in-Line-l : tie.Need-returns-in-Line-l
+returns-in-Line-l c = let a = c.args in cc (g_pl a.filled a.boundary)
 
-returns-3 : tie.Need-returns-3
-returns-3 c = search rules
+returns-in-Region-l : tie.Need-returns-in-Region-l
+returns-in-Region-l c = search rules
 
-returns-4 : tie.Need-returns-4
-returns-4 c = search rules
+returns-in-Points-l-2 : tie.Need-returns-in-Points-l-2
+returns-in-Points-l-2 c = search rules
 
-returns-5 : tie.Need-returns-5
-returns-5 c = let a = c.before.before.before.before.before.before.args in cc (g_ll a.filled a.boundary)
+returns-in-Line-l-2 : tie.Need-returns-in-Line-l-2
+returns-in-Line-l-2 c = let a = c.args in cc (g_ll a.filled a.boundary)
 
-returns-6 : tie.Need-returns-6
-returns-6 c = let a = c.before.before.before.before.before.before.args in cc (g_lr a.filled a.boundary)
+returns-in-Region-l-2 : tie.Need-returns-in-Region-l-2
+returns-in-Region-l-2 c = let a = c.args in cc (g_lr a.filled a.boundary)
 
-returns-7 : tie.Need-returns-7
-returns-7 c = search rules
+returns-in-Points-l-3 : tie.Need-returns-in-Points-l-3
+returns-in-Points-l-3 c = search rules
 
-returns-8 : tie.Need-returns-8
-returns-8 c = search rules
+returns-in-Line-l-3 : tie.Need-returns-in-Line-l-3
+returns-in-Line-l-3 c = search rules
 
-returns-9 : tie.Need-returns-9
-returns-9 c = let a = c.before.before.before.before.before.before.args in cc (g_rr a.filled a.boundary)
+returns-in-Region-l-3 : tie.Need-returns-in-Region-l-3
+returns-in-Region-l-3 c = let a = c.args in cc (g_rr a.filled a.boundary)
 
-pub vector-g-spec : {M : Type 1} → statement M
-vector-g-spec =
+pub vector_g_spec : {M : Type 1} → statement M
+vector_g_spec =
     tie.close
     (tie.spec
-    bit-requires
-    bit-requires-2
-    enum_told
-    enum-told-2
-    enum-told-3
-    enum-told-4
-    enum-told-5
-    enum-told-6
-    enum-told-7
-    mul-result
-    add-result
-    enum-told-8
-    enum-told-9
-    enum-told-10
-    enum-told-11
-    enum-told-12
-    mul-result-2
-    returns
-    returns-2
-    returns-3
-    returns-4
-    returns-5
-    returns-6
-    returns-7
-    returns-8
-    returns-9)
+    bit-n-requires
+    bit-b-requires
+    enum_told-1
+    enum_told-in-Points-l
+    enum_told-in-Line-l
+    enum_told-in-Region-l
+    enum_told-in-Line
+    enum_told-in-Points-l-2
+    enum_told-in-Line-l-2
+    overflow_mul-result
+    overflow_add-result
+    enum_told-in-Region-l-2
+    enum_told-in-Region
+    enum_told-in-Points-l-3
+    enum_told-in-Line-l-3
+    enum_told-in-Region-l-3
+    overflow_mul-result-in-Region-l-3
+    returns-in-Points-l
+    returns-in-Line-l
+    returns-in-Region-l
+    returns-in-Points-l-2
+    returns-in-Line-l-2
+    returns-in-Region-l-2
+    returns-in-Points-l-3
+    returns-in-Line-l-3
+    returns-in-Region-l-3)

@@ -8,38 +8,38 @@ use borrow.Author.Rules.{rules}
 use Rattle.summary_far.proofs.vectors.Statement.{statement}
 use Rattle.summary_far.proofs.vectors.Tie as tie
 
-shape-number-requires : tie.Need-shape-number-requires
-shape-number-requires c κs = search rules
+shape_number-requires : tie.Need-shape_number-requires
+shape_number-requires c κs = search rules
 
-shape-number-requires-2 : tie.Need-shape-number-requires-2
-shape-number-requires-2 c κs = search rules
+shape_number-requires-2 : tie.Need-shape_number-requires-2
+shape_number-requires-2 c κs = search rules
+
+ascending-v-requires : tie.Need-ascending-v-requires
+ascending-v-requires c κs = search rules
 
 ascending-requires : tie.Need-ascending-requires
 ascending-requires c κs = search rules
 
-ascending-requires-2 : tie.Need-ascending-requires-2
-ascending-requires-2 c κs = search rules
-
-returns : tie.Need-returns
-returns c =
+returns-then-shape_number : tie.Need-returns-then-shape_number
+returns-then-shape_number c =
     let n = c.before.before in
-    let z = n.before.before.args in
-    rw (lt-ltb (shape_number z.t.shape) (shape_number z.s.shape) (omega (arith, n.shape-number2.ensures, n.before.shape-number.ensures)))
-    (ap swapped c.ascending.ensures)
+    let z = n.args in
+    rw (lt-ltb (shape_number z.t.shape) (shape_number z.s.shape) (omega (arith, n.shape_number-2.ensures, n.shape_number.ensures)))
+    (ap swapped c.ascending-v.ensures)
 
-returns-2 : tie.Need-returns-2
-returns-2 c =
+returns-else-shape_number : tie.Need-returns-else-shape_number
+returns-else-shape_number c =
     let n = c.before.before in
-    let z = n.before.before.args in
-    rw (le-ltb (shape_number z.t.shape) (shape_number z.s.shape) (omega (arith, n.shape-number2.ensures, n.before.shape-number.ensures))) c.ascending2.ensures
+    let z = n.args in
+    rw (le-ltb (shape_number z.t.shape) (shape_number z.s.shape) (omega (arith, n.shape_number-2.ensures, n.shape_number.ensures))) c.ascending.ensures
 
-pub vectors-spec : {M : Type 1} → statement M
-vectors-spec =
+pub vectors_spec : {M : Type 1} → statement M
+vectors_spec =
     tie.close
     (tie.spec
-    shape-number-requires
-    shape-number-requires-2
+    shape_number-requires
+    shape_number-requires-2
+    ascending-v-requires
     ascending-requires
-    ascending-requires-2
-    returns
-    returns-2)
+    returns-then-shape_number
+    returns-else-shape_number)

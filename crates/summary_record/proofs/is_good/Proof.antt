@@ -6,35 +6,35 @@ use borrow.Author.Rules.{rules}
 use Rattle.summary_record.proofs.is_good.Statement.{statement}
 use Rattle.summary_record.proofs.is_good.Tie as tie
 
-shared-slice-read-are-fields-good : tie.Need-shared-slice-read-are-fields-good
-shared-slice-read-are-fields-good c = search rules
+bounds-s-at : tie.Need-bounds-s-at
+bounds-s-at c = search rules
 
-add-are-fields-good : tie.Need-overflow-add-are-fields-good
-add-are-fields-good c = search rules
+overflow_add-at : tie.Need-overflow_add-at
+overflow_add-at c = search rules
 
-shared-slice-read-are-fields-good-2 : tie.Need-shared-slice-read-are-fields-good-2
-shared-slice-read-are-fields-good-2 c = search rules
+bounds-s-at-2 : tie.Need-bounds-s-at-2
+bounds-s-at-2 c = search rules
 
-add-are-fields-good-2 : tie.Need-overflow-add-are-fields-good-2
-add-are-fields-good-2 c = search rules
+overflow_add-at-2 : tie.Need-overflow_add-at-2
+overflow_add-at-2 c = search rules
 
-shared-slice-read-are-fields-good-3 : tie.Need-shared-slice-read-are-fields-good-3
-shared-slice-read-are-fields-good-3 c = search rules
+bounds-s-at-3 : tie.Need-bounds-s-at-3
+bounds-s-at-3 c = search rules
 
-add-are-fields-good-3 : tie.Need-overflow-add-are-fields-good-3
-add-are-fields-good-3 c = search rules
+overflow_add-at-3 : tie.Need-overflow_add-at-3
+overflow_add-at-3 c = search rules
 
-shared-slice-read-are-fields-good-4 : tie.Need-shared-slice-read-are-fields-good-4
-shared-slice-read-are-fields-good-4 c = search rules
+bounds-s-at-4 : tie.Need-bounds-s-at-4
+bounds-s-at-4 c = search rules
 
-are-fields-good-requires : tie.Need-are-fields-good-requires
-are-fields-good-requires c κs = search rules
+are_fields_good-fields-requires : tie.Need-are_fields_good-fields-requires
+are_fields_good-fields-requires c κs = search rules
 
 read-requires : tie.Need-read-requires
 read-requires c κs = search rules
 
-is-good-requires : tie.Need-is-good-requires
-is-good-requires c κs = search rules
+is_good-requires : tie.Need-is_good-requires
+is_good-requires c κs = search rules
 
 both-requires : tie.Need-both-requires
 both-requires c κs = search rules
@@ -43,21 +43,21 @@ returns : tie.Need-returns
 unfolding good_at
 returns c =
     c.both.ensures
-    ∙ ap₂ ◌&&◌ c.before.before.before.are-fields-good.ensures (c.before.is-good.ensures ∙ ap is_good c.before.before.read.ensures)
+    ∙ ap₂ ◌&&◌ c.are_fields_good-fields.ensures (c.is_good.ensures ∙ ap is_good c.read.ensures)
 
-pub is-good-spec : {M : Type 1} → statement M
-is-good-spec =
+pub is_good_spec : {M : Type 1} → statement M
+is_good_spec =
     tie.close
     (tie.spec
-    shared-slice-read-are-fields-good
-    add-are-fields-good
-    shared-slice-read-are-fields-good-2
-    add-are-fields-good-2
-    shared-slice-read-are-fields-good-3
-    add-are-fields-good-3
-    shared-slice-read-are-fields-good-4
-    are-fields-good-requires
+    bounds-s-at
+    overflow_add-at
+    bounds-s-at-2
+    overflow_add-at-2
+    bounds-s-at-3
+    overflow_add-at-3
+    bounds-s-at-4
+    are_fields_good-fields-requires
     read-requires
-    is-good-requires
+    is_good-requires
     both-requires
     returns)

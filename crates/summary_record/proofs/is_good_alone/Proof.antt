@@ -6,16 +6,16 @@ use borrow.Author.Rules.{rules}
 use Rattle.summary_record.proofs.is_good_alone.Statement.{statement}
 use Rattle.summary_record.proofs.is_good_alone.Tie as tie
 
-is-good-requires : tie.Need-is-good-requires
-is-good-requires c κs = search rules
+is_good-requires : tie.Need-is_good-requires
+is_good-requires c κs = search rules
 
-returns : tie.Need-returns
+returns-then-s-eq20 : tie.Need-returns-then-s-eq20
 unfolding good_bytes
-returns c = rw (eq-eqb _ size c.before.if1.true) c.is-good.ensures
+returns-then-s-eq20 c = rw (eq-eqb _ size c.if-s-eq20.true) c.is_good.ensures
 
-returns-2 : tie.Need-returns-2
+returns-else-s-eq20 : tie.Need-returns-else-s-eq20
 unfolding good_bytes
-returns-2 c = rw (ne_eqb _ size c.if1.false) refl
+returns-else-s-eq20 c = rw (ne_eqb _ size c.if-s-eq20.false) refl
 
-pub is-good-alone-spec : {M : Type 1} → statement M
-is-good-alone-spec = tie.close (tie.spec is-good-requires returns returns-2)
+pub is_good_alone_spec : {M : Type 1} → statement M
+is_good_alone_spec = tie.close (tie.spec is_good-requires returns-then-s-eq20 returns-else-s-eq20)

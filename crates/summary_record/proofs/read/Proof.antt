@@ -3,38 +3,38 @@ use borrow.Author.Rules.{rules}
 use Rattle.summary_record.proofs.read.Statement.{statement}
 use Rattle.summary_record.proofs.read.Tie as tie
 
-add-shape : tie.Need-overflow-add-shape
-add-shape c = search rules
+overflow_add-at : tie.Need-overflow_add-at
+overflow_add-at c = search rules
 
-shared-slice-read-shape : tie.Need-shared-slice-read-shape
-shared-slice-read-shape c = search rules
+bounds-s-at : tie.Need-bounds-s-at
+bounds-s-at c = search rules
 
-shape-requires : tie.Need-shape-requires
-shape-requires c κs = search rules
+shape-shape-requires : tie.Need-shape-shape-requires
+shape-shape-requires c κs = search rules
 
-add-empty : tie.Need-overflow-add-empty
-add-empty c = search rules
+overflow_add-empty : tie.Need-overflow_add-empty
+overflow_add-empty c = search rules
 
-shared-slice-read-empty : tie.Need-shared-slice-read-empty
-shared-slice-read-empty c = search rules
+bounds-s-at-2 : tie.Need-bounds-s-at-2
+bounds-s-at-2 c = search rules
 
-add-point : tie.Need-overflow-add-point
-add-point c = search rules
+overflow_add-at-2 : tie.Need-overflow_add-at-2
+overflow_add-at-2 c = search rules
 
-point-requires : tie.Need-point-requires
-point-requires c κs = search rules
+point-least-requires : tie.Need-point-least-requires
+point-least-requires c κs = search rules
 
-add-point-2 : tie.Need-overflow-add-point-2
-add-point-2 c = search rules
+overflow_add-at-3 : tie.Need-overflow_add-at-3
+overflow_add-at-3 c = search rules
 
-point-requires-2 : tie.Need-point-requires-2
-point-requires-2 c κs = search rules
+point-greatest-requires : tie.Need-point-greatest-requires
+point-greatest-requires c κs = search rules
 
-add-boundary : tie.Need-overflow-add-boundary
-add-boundary c = search rules
+overflow_add-boundary : tie.Need-overflow_add-boundary
+overflow_add-boundary c = search rules
 
-shared-slice-read-boundary : tie.Need-shared-slice-read-boundary
-shared-slice-read-boundary c = search rules
+bounds-s-at-3 : tie.Need-bounds-s-at-3
+bounds-s-at-3 c = search rules
 
 returns : tie.Need-returns
 returns c = cc
@@ -43,15 +43,15 @@ pub read_spec : {M : Type 1} → statement M
 read_spec =
     tie.close
     (tie.spec
-    add-shape
-    shared-slice-read-shape
-    shape-requires
-    add-empty
-    shared-slice-read-empty
-    add-point
-    point-requires
-    add-point-2
-    point-requires-2
-    add-boundary
-    shared-slice-read-boundary
+    overflow_add-at
+    bounds-s-at
+    shape-shape-requires
+    overflow_add-empty
+    bounds-s-at-2
+    overflow_add-at-2
+    point-least-requires
+    overflow_add-at-3
+    point-greatest-requires
+    overflow_add-boundary
+    bounds-s-at-3
     returns)

@@ -30,8 +30,8 @@ module _ (w : Window) (s : List ℕ) where
   unfolding answer_of
   none e = sym (ap (λ (a : Bool). by a (leb (sent s) most)) e)
 
-is-window-requires : tie.Need-is-window-requires
-is-window-requires c κs = search rules
+is_window-requires : tie.Need-is_window-requires
+is_window-requires c κs = search rules
 
 judge-requires : tie.Need-judge-requires
 judge-requires c κs = search rules
@@ -39,26 +39,26 @@ judge-requires c κs = search rules
 refused-requires : tie.Need-refused-requires
 refused-requires c κs = search rules
 
-refused-requires-2 : tie.Need-refused-requires-2
-refused-requires-2 c κs = search rules
+refused-requires-else-is_window : tie.Need-refused-requires-else-is_window
+refused-requires-else-is_window c κs = search rules
 
-returns : tie.Need-returns
-returns c =
+returns-then-s-le1280 : tie.Need-returns-then-s-le1280
+returns-then-s-le1280 c =
     let d = c.before.before.before in
-    let a = d.before.before.args in
-    c.judge.ensures ∙ few a.w a.s.now (sym d.is-window.ensures ∙ c.before.before.if1.true) (omega (arith, c.before.if2.true))
+    let a = d.args in
+    c.judge.ensures ∙ few a.w a.s.now (sym d.is_window.ensures ∙ c.if-is_window.true) (omega (arith, c.if-s-le1280.true))
 
-returns-2 : tie.Need-returns-2
-returns-2 c =
+returns-else-s-le1280 : tie.Need-returns-else-s-le1280
+returns-else-s-le1280 c =
     let d = c.before.before.before in
-    let a = d.before.before.args in
-    c.refused.ensures ∙ many a.w a.s.now (sym d.is-window.ensures ∙ c.before.before.if1.true) (omega (arith, c.before.if2.false))
+    let a = d.args in
+    c.refused.ensures ∙ many a.w a.s.now (sym d.is_window.ensures ∙ c.if-is_window.true) (omega (arith, c.if-s-le1280.false))
 
-returns-3 : tie.Need-returns-3
-returns-3 c =
+returns-else-is_window : tie.Need-returns-else-is_window
+returns-else-is_window c =
     let d = c.before.before in
-    let a = d.before.before.args in
-    c.refused2.ensures ∙ none a.w a.s.now (sym d.is-window.ensures ∙ c.before.if1.false)
+    let a = d.args in
+    c.refused-else-is_window.ensures ∙ none a.w a.s.now (sym d.is_window.ensures ∙ c.if-is_window.false)
 
-pub answer-spec : {M : Type 1} → statement M
-answer-spec = tie.close (tie.spec is-window-requires judge-requires refused-requires refused-requires-2 returns returns-2 returns-3)
+pub answer_spec : {M : Type 1} → statement M
+answer_spec = tie.close (tie.spec is_window-requires judge-requires refused-requires refused-requires-else-is_window returns-then-s-le1280 returns-else-s-le1280 returns-else-is_window)

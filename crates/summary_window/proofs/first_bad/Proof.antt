@@ -8,60 +8,60 @@ use Rattle.summary_window.proofs.First.{passed, failed, ended}
 use Rattle.summary_window.proofs.first_bad.Statement.{statement}
 use Rattle.summary_window.proofs.first_bad.Tie as tie
 
-abbrev invariant_loop : tie.invariant-loop
+abbrev invariant_loop : tie.invariant-loop-k
 invariant_loop s sent k₀ k = (k ≤ sent) × (first_bad (good_one s) (sent - k) k ≡ first_bad (good_one s) sent 0)
 
-abbrev decreases_loop : tie.decreases-loop
+abbrev decreases_loop : tie.decreases-loop-k
 decreases_loop s sent k₀ k = sent - k
 
 all : (n : ℕ) → n - 0 ≡ n
 all n = omega arith
 
-loop-holds : tie.Need-loop-init invariant_loop decreases_loop
-loop-holds c = (omega arith, ap (λ (n : ℕ). first_bad (good_one c.before.args.s.now) n 0) (all c.before.args.sent))
+loop-k-init : tie.Need-loop-k-init invariant_loop decreases_loop
+loop-k-init c = (omega arith, ap (λ (n : ℕ). first_bad (good_one c.args.s.now) n 0) (all c.args.sent))
 
-mul-is-good-from : tie.Need-overflow-mul-is-good-from invariant_loop decreases_loop
-mul-is-good-from c = search rules
+overflow_mul-k : tie.Need-overflow_mul-k invariant_loop decreases_loop
+overflow_mul-k c = search rules
 
-is-good-from-requires : tie.Need-is-good-from-requires invariant_loop decreases_loop
-is-good-from-requires c κs = search rules
+is_good_from-requires : tie.Need-is_good_from-requires invariant_loop decreases_loop
+is_good_from-requires c κs = search rules
 
-add-k : tie.Need-overflow-add-k invariant_loop decreases_loop
-add-k c = search rules
+overflow_add-k : tie.Need-overflow_add-k invariant_loop decreases_loop
+overflow_add-k c = search rules
 
-loop-less : tie.Need-loop-smaller invariant_loop decreases_loop
-loop-less c = omega arith
+loop-k-smaller : tie.Need-loop-k-smaller invariant_loop decreases_loop
+loop-k-smaller c = omega arith
 
-loop-again : tie.Need-loop-preserved invariant_loop decreases_loop
-loop-again c =
+loop-k-preserved : tie.Need-loop-k-preserved invariant_loop decreases_loop
+loop-k-preserved c =
     let i = c.before.before.before in
-    let a = i.before.before.args in (
+    let a = i.args in (
       omega arith,
-      passed (good_one a.s.now) a.sent i.loop.k (first_bad (good_one a.s.now) a.sent 0) (omega arith) (sym c.before.is-good-from.ensures ∙ c.if1.true) i.loop.invariant.1,
+      passed (good_one a.s.now) a.sent i.loop-k.k (first_bad (good_one a.s.now) a.sent 0) (omega arith) (sym c.is_good_from.ensures ∙ c.if-is_good_from.true) i.loop-k.invariant.1,
     )
+
+returns-else-is_good_from : tie.Need-returns-else-is_good_from invariant_loop decreases_loop
+returns-else-is_good_from c =
+    let i = c.before.before.before in
+    let a = i.args in
+    failed (good_one a.s.now) a.sent i.loop-k.k (first_bad (good_one a.s.now) a.sent 0) (omega arith) (sym c.is_good_from.ensures ∙ c.if-is_good_from.false) i.loop-k.invariant.1
 
 returns : tie.Need-returns invariant_loop decreases_loop
 returns c =
-    let i = c.before.before.before in
-    let a = i.before.before.args in
-    failed (good_one a.s.now) a.sent i.loop.k (first_bad (good_one a.s.now) a.sent 0) (omega arith) (sym c.before.is-good-from.ensures ∙ c.if1.false) i.loop.invariant.1
+    let a = c.args in
+    ended (good_one a.s.now) a.sent c.loop-k.k (first_bad (good_one a.s.now) a.sent 0) (omega arith) c.loop-k.invariant.1
 
-returns-2 : tie.Need-returns-2 invariant_loop decreases_loop
-returns-2 c =
-    let a = c.before.before.before.args in
-    ended (good_one a.s.now) a.sent c.before.loop.k (first_bad (good_one a.s.now) a.sent 0) (omega arith) c.before.loop.invariant.1
-
-pub first-bad-spec : {M : Type 1} → statement M
-first-bad-spec =
+pub first_bad_spec : {M : Type 1} → statement M
+first_bad_spec =
     tie.close
     (tie.spec
     invariant_loop
     decreases_loop
-    loop-holds
-    mul-is-good-from
-    is-good-from-requires
-    add-k
-    loop-less
-    loop-again
-    returns
-    returns-2)
+    loop-k-init
+    overflow_mul-k
+    is_good_from-requires
+    overflow_add-k
+    loop-k-smaller
+    loop-k-preserved
+    returns-else-is_good_from
+    returns)

@@ -12,10 +12,10 @@ answer-requires c κs = search rules
 
 returns : tie.Need-returns
 returns c =
-    let a = c.before.before.args in
+    let a = c.args in
     let e = c.answer.ensures in
     let r = subst (λ (x : InWindow). BadRight a.s.now x × HitsRight a.w a.s.now x) (sym e) (right a.w a.s.now) in
     (e, r.0, r.1)
 
-pub in-window-spec : {M : Type 1} → statement M
-in-window-spec = tie.close (tie.spec answer-requires returns)
+pub in_window_spec : {M : Type 1} → statement M
+in_window_spec = tie.close (tie.spec answer-requires returns)

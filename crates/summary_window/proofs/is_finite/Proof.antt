@@ -20,13 +20,13 @@ lower (inf true) h = refl
 lower (inf false) h = absurd (true≢false h)
 lower (fin s m e) h = refl
 
-returns : tie.Need-returns
+returns-then-infinity-x : tie.Need-returns-then-infinity-x
 unfolding div of_bits neg
-returns c = upper c.before.args.x c.if1.true
+returns-then-infinity-x c = upper c.args.x c.if-infinity-x.true
 
-returns-2 : tie.Need-returns-2
+returns-else-infinity-x : tie.Need-returns-else-infinity-x
 unfolding div of_bits neg
-returns-2 c = lower c.before.args.x c.if1.false
+returns-else-infinity-x c = lower c.args.x c.if-infinity-x.false
 
-pub is-finite-spec : {M : Type 1} → statement M
-is-finite-spec = tie.close (tie.spec returns returns-2)
+pub is_finite_spec : {M : Type 1} → statement M
+is_finite_spec = tie.close (tie.spec returns-then-infinity-x returns-else-infinity-x)

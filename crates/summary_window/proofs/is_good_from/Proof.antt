@@ -21,20 +21,20 @@ module _ (s : List ℕ) (at : ℕ) where
   unfolding good_from
   there h = ap (λ (b : Bool). b && good_at s at) (sym (le-leb (at + size) (length s) h))
 
+returns-then-s-lt20 : tie.Need-returns-then-s-lt20
+returns-then-s-lt20 c = cut _ _ (omega arith)
+
+overflow_sub-s : tie.Need-overflow_sub-s
+overflow_sub-s c = search rules
+
+returns-then-s-at : tie.Need-returns-then-s-at
+returns-then-s-at c = cut _ _ (omega arith)
+
+is_good-requires : tie.Need-is_good-requires
+is_good-requires c κs = search rules
+
 returns : tie.Need-returns
-returns c = cut _ _ (omega arith)
+returns c = c.is_good.ensures ∙ there _ _ (omega arith)
 
-sub-if2 : tie.Need-overflow-sub-if2
-sub-if2 c = search rules
-
-returns-2 : tie.Need-returns-2
-returns-2 c = cut _ _ (omega arith)
-
-is-good-requires : tie.Need-is-good-requires
-is-good-requires c κs = search rules
-
-returns-3 : tie.Need-returns-3
-returns-3 c = c.is-good.ensures ∙ there _ _ (omega arith)
-
-pub is-good-from-spec : {M : Type 1} → statement M
-is-good-from-spec = tie.close (tie.spec returns sub-if2 returns-2 is-good-requires returns-3)
+pub is_good_from_spec : {M : Type 1} → statement M
+is_good_from_spec = tie.close (tie.spec returns-then-s-lt20 overflow_sub-s returns-then-s-at is_good-requires returns)

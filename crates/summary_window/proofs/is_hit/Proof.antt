@@ -21,26 +21,26 @@ module _ (w : Window) (s : List ℕ) (at : ℕ) (r : Summary) (is : r ≡ summar
   same_box : meets w r.bounds ≡ meets w (summary_at s at).bounds
   same_box = ap (λ (x : Summary). meets w x.bounds) is
 
-read-requires : tie.Need-read-requires
-read-requires c κs = good_room c.before.args.s.now c.before.args.at c.before.requires
+read-summary-requires : tie.Need-read-summary-requires
+read-summary-requires c κs = good_room c.args.s.now c.args.at c.requires
+
+returns-then-summary : tie.Need-returns-then-summary
+returns-then-summary c =
+    let a = c.args in
+    sym (by_empty a.w a.s.now a.at c.read-summary.result c.read-summary.ensures c.if-summary.true)
+
+is_met-requires : tie.Need-is_met-requires
+is_met-requires c κs =
+    let d = c.before.before in
+    let s = d.before.before in
+    subst (λ (x : Summary). T (good_box x.bounds)) (sym d.read-summary.ensures) (good_box_lem s.args.s.now s.args.at s.requires)
 
 returns : tie.Need-returns
 returns c =
-    let a = c.before.before.before.args in
-    sym (by_empty a.w a.s.now a.at c.before.read.result c.before.read.ensures c.if1.true)
-
-is-met-requires : tie.Need-is-met-requires
-is-met-requires c κs =
-    let d = c.before.before in
-    let s = d.before.before in
-    subst (λ (x : Summary). T (good_box x.bounds)) (sym d.read.ensures) (good_box_lem s.args.s.now s.args.at s.requires)
-
-returns-2 : tie.Need-returns-2
-returns-2 c =
     let d = c.before.before.before in
-    let a = d.before.before.args in
-    c.is-met.ensures ∙ same_box a.w a.s.now a.at d.read.result d.read.ensures
-    ∙ sym (by_empty a.w a.s.now a.at d.read.result d.read.ensures c.before.before.if1.false)
+    let a = d.args in
+    c.is_met.ensures ∙ same_box a.w a.s.now a.at d.read-summary.result d.read-summary.ensures
+    ∙ sym (by_empty a.w a.s.now a.at d.read-summary.result d.read-summary.ensures c.if-summary.false)
 
-pub is-hit-spec : {M : Type 1} → statement M
-is-hit-spec = tie.close (tie.spec read-requires returns is-met-requires returns-2)
+pub is_hit_spec : {M : Type 1} → statement M
+is_hit_spec = tie.close (tie.spec read-summary-requires returns-then-summary is_met-requires returns)

@@ -30,35 +30,35 @@ shares-requires c κs =
     let e = edges b s.requires in
     (asked b.least.x e.left, asked b.greatest.x e.right)
 
-shares-requires-2 : tie.Need-shares-requires-2
-shares-requires-2 c κs =
+shares-requires-then-shares : tie.Need-shares-requires-then-shares
+shares-requires-then-shares c κs =
     let s = c.before.before.before.before.before.before.before.before in
     let b = s.args.b in
     let e = edges b s.requires in
     (asked b.least.y e.bottom, asked b.greatest.y e.top)
 
-returns : tie.Need-returns
+returns-then-shares : tie.Need-returns-then-shares
 unfolding meets
-returns c =
+returns-then-shares c =
     let d = c.before.before.before.before in
     let s = d.before.before.before.before.before in
     let w = s.args.w in
     let b = s.args.b in
     let e = edges b s.requires in
-    c.shares2.ensures ∙ read w.least_y w.greatest_y b.least.y b.greatest.y e.bottom e.top
+    c.shares-then-shares.ensures ∙ read w.least_y w.greatest_y b.least.y b.greatest.y e.bottom e.top
     ∙ sym (ap (λ (t : Bool). t && shares_of w.least_y w.greatest_y b.least.y b.greatest.y)
-    (sym (d.shares.ensures ∙ read w.least_x w.greatest_x b.least.x b.greatest.x e.left e.right) ∙ c.before.before.before.if1.true))
+    (sym (d.shares.ensures ∙ read w.least_x w.greatest_x b.least.x b.greatest.x e.left e.right) ∙ c.if-shares.true))
 
-returns-2 : tie.Need-returns-2
+returns : tie.Need-returns
 unfolding meets
-returns-2 c =
+returns c =
     let d = c.before in
     let s = d.before.before.before.before.before in
     let w = s.args.w in
     let b = s.args.b in
     let e = edges b s.requires in
     sym (ap (λ (t : Bool). t && shares_of w.least_y w.greatest_y b.least.y b.greatest.y)
-    (sym (d.shares.ensures ∙ read w.least_x w.greatest_x b.least.x b.greatest.x e.left e.right) ∙ c.if1.false))
+    (sym (d.shares.ensures ∙ read w.least_x w.greatest_x b.least.x b.greatest.x e.left e.right) ∙ c.if-shares.false))
 
-pub is-met-spec : {M : Type 1} → statement M
-is-met-spec = tie.close (tie.spec shares-requires shares-requires-2 returns returns-2)
+pub is_met_spec : {M : Type 1} → statement M
+is_met_spec = tie.close (tie.spec shares-requires shares-requires-then-shares returns-then-shares returns)

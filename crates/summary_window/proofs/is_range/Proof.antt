@@ -5,24 +5,24 @@ use borrow.Author.Rules.{rules}
 use Rattle.summary_window.proofs.is_range.Statement.{statement}
 use Rattle.summary_window.proofs.is_range.Tie as tie
 
-is-finite-requires : tie.Need-is-finite-requires
-is-finite-requires c κs = search rules
+is_finite-requires : tie.Need-is_finite-requires
+is_finite-requires c κs = search rules
 
-is-finite-requires-2 : tie.Need-is-finite-requires-2
-is-finite-requires-2 c κs = search rules
+is_finite-requires-then-is_finite : tie.Need-is_finite-requires-then-is_finite
+is_finite-requires-then-is_finite c κs = search rules
 
-returns : tie.Need-returns
+returns-then-is_finite-2 : tie.Need-returns-then-is_finite-2
 unfolding is_range
-returns c = simp (sym c.before.before.before.is_finite.ensures ∙ c.before.before.if1.true, sym c.before.is-finite2.ensures ∙ c.if2.true)
+returns-then-is_finite-2 c = simp (sym c.is_finite.ensures ∙ c.if-is_finite.true, sym c.is_finite-then-is_finite.ensures ∙ c.if-is_finite-2.true)
 
-returns-2 : tie.Need-returns-2
+returns-else-is_finite-2 : tie.Need-returns-else-is_finite-2
 unfolding is_range
-returns-2 c = simp (sym c.before.before.before.is_finite.ensures ∙ c.before.before.if1.true, sym c.before.is-finite2.ensures ∙ c.if2.false)
+returns-else-is_finite-2 c = simp (sym c.is_finite.ensures ∙ c.if-is_finite.true, sym c.is_finite-then-is_finite.ensures ∙ c.if-is_finite-2.false)
 
-returns-3 : tie.Need-returns-3
+returns-else-is_finite : tie.Need-returns-else-is_finite
 unfolding is_range
-returns-3 c = simp (sym c.before.is_finite.ensures ∙ c.if1.false)
+returns-else-is_finite c = simp (sym c.is_finite.ensures ∙ c.if-is_finite.false)
 
-pub is-range-spec : {M : Type 1} → statement M
-is-range-spec =
-    tie.close (tie.spec is-finite-requires is-finite-requires-2 returns returns-2 returns-3)
+pub is_range_spec : {M : Type 1} → statement M
+is_range_spec =
+    tie.close (tie.spec is_finite-requires is_finite-requires-then-is_finite returns-then-is_finite-2 returns-else-is_finite-2 returns-else-is_finite)

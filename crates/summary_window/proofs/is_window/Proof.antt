@@ -6,23 +6,23 @@ use borrow.Author.Rules.{rules}
 use Rattle.summary_window.proofs.is_window.Statement.{statement}
 use Rattle.summary_window.proofs.is_window.Tie as tie
 
-is-range-requires : tie.Need-is-range-requires
-is-range-requires c κs = search rules
+is_range-requires : tie.Need-is_range-requires
+is_range-requires c κs = search rules
 
-is-range-requires-2 : tie.Need-is-range-requires-2
-is-range-requires-2 c κs = search rules
+is_range-requires-then-is_range : tie.Need-is_range-requires-then-is_range
+is_range-requires-then-is_range c κs = search rules
+
+returns-then-is_range : tie.Need-returns-then-is_range
+unfolding is_window
+returns-then-is_range c =
+    let w = c.args.w in
+    c.is_range-then-is_range.ensures ∙ sym (ap (λ (b : Bool). b && is_range w.least_y w.greatest_y) (sym c.is_range.ensures ∙ c.if-is_range.true))
 
 returns : tie.Need-returns
 unfolding is_window
 returns c =
-    let w = c.before.before.before.args.w in
-    c.is-range2.ensures ∙ sym (ap (λ (b : Bool). b && is_range w.least_y w.greatest_y) (sym c.before.before.is-range.ensures ∙ c.before.if1.true))
+    let w = c.args.w in
+    sym (ap (λ (b : Bool). b && is_range w.least_y w.greatest_y) (sym c.is_range.ensures ∙ c.if-is_range.false))
 
-returns-2 : tie.Need-returns-2
-unfolding is_window
-returns-2 c =
-    let w = c.before.before.args.w in
-    sym (ap (λ (b : Bool). b && is_range w.least_y w.greatest_y) (sym c.before.is-range.ensures ∙ c.if1.false))
-
-pub is-window-spec : {M : Type 1} → statement M
-is-window-spec = tie.close (tie.spec is-range-requires is-range-requires-2 returns returns-2)
+pub is_window_spec : {M : Type 1} → statement M
+is_window_spec = tie.close (tie.spec is_range-requires is_range-requires-then-is_range returns-then-is_range returns)

@@ -33,32 +33,32 @@ module _ (w : Window) (s : List ℕ) (m : ℕ) (is : m ≡ first_of s) where
 abbrev answered : ℕ → InWindow
 answered word = record { number = 0; place = 0; word = word; hits = ones word }
 
-add-sent : tie.Need-overflow-add-sent
-add-sent c = search rules
+overflow_add-sent : tie.Need-overflow_add-sent
+overflow_add-sent c = search rules
 
-first-bad-requires : tie.Need-first-bad-requires
-first-bad-requires c κs = omega arith
+first_bad-bad-requires : tie.Need-first_bad-bad-requires
+first_bad-bad-requires c κs = omega arith
 
 refused-requires : tie.Need-refused-requires
 refused-requires c κs = search rules
 
+returns-then-bad-sent : tie.Need-returns-then-bad-sent
+returns-then-bad-sent c =
+    let d = c.before.before in
+    let a = d.args in
+    c.refused.ensures ∙ bad a.w a.s.now d.first_bad-bad.result d.first_bad-bad.ensures c.if-bad-sent.true
+
+word_of-word-requires : tie.Need-word_of-word-requires
+word_of-word-requires c κs =
+    let d = c.before in
+    let s = d.before.before in
+    (omega (arith, s.requires), all_good s.args.w s.args.s.now d.first_bad-bad.result d.first_bad-bad.ensures (omega (arith, c.if-bad-sent.false)))
+
 returns : tie.Need-returns
 returns c =
     let d = c.before.before in
-    let a = d.before.before.args in
-    c.refused.ensures ∙ bad a.w a.s.now d.first-bad.result d.first-bad.ensures c.before.if1.true
+    let a = d.args in
+    ap answered c.word_of-word.ensures ∙ good a.w a.s.now d.first_bad-bad.result d.first_bad-bad.ensures (omega (arith, c.if-bad-sent.false))
 
-word-of-requires : tie.Need-word-of-requires
-word-of-requires c κs =
-    let d = c.before in
-    let s = d.before.before in
-    (omega (arith, s.requires), all_good s.args.w s.args.s.now d.first-bad.result d.first-bad.ensures (omega (arith, c.if1.false)))
-
-returns-2 : tie.Need-returns-2
-returns-2 c =
-    let d = c.before.before in
-    let a = d.before.before.args in
-    ap answered c.word_of.ensures ∙ good a.w a.s.now d.first-bad.result d.first-bad.ensures (omega (arith, c.before.if1.false))
-
-pub judge-spec : {M : Type 1} → statement M
-judge-spec = tie.close (tie.spec add-sent first-bad-requires refused-requires returns word-of-requires returns-2)
+pub judge_spec : {M : Type 1} → statement M
+judge_spec = tie.close (tie.spec overflow_add-sent first_bad-bad-requires refused-requires returns-then-bad-sent word_of-word-requires returns)

@@ -10,81 +10,81 @@ use Rattle.summary_window.proofs.Rows.{one_more, half_room, whole_row}
 use Rattle.summary_window.proofs.word_of.Statement.{statement}
 use Rattle.summary_window.proofs.word_of.Tie as tie
 
-abbrev invariant_loop : tie.invariant-loop
+abbrev invariant_loop : tie.invariant-loop-k
 invariant_loop w s sent word₀ k₀ word k = (k ≤ sent) × (word ≡ pack (tests (hit_one w s) (sent - k) k))
 
-abbrev decreases_loop : tie.decreases-loop
+abbrev decreases_loop : tie.decreases-loop-k
 decreases_loop w s sent word₀ k₀ word k = k
 
 none_left : (n : ℕ) → n - n ≡ 0
 none_left n = omega arith
 
-loop-holds : tie.Need-loop-init invariant_loop decreases_loop
-loop-holds c =
-    let a = c.before.args in
+loop-k-init : tie.Need-loop-k-init invariant_loop decreases_loop
+loop-k-init c =
+    let a = c.args in
     (omega arith, sym (ap (λ (n : ℕ). pack (tests (hit_one a.w a.s.now) n a.sent)) (none_left a.sent)))
 
-sub-k : tie.Need-overflow-sub-k invariant_loop decreases_loop
-sub-k c = omega arith
+overflow_sub-k : tie.Need-overflow_sub-k invariant_loop decreases_loop
+overflow_sub-k c = omega arith
 
-under : (c : tie.In-loop invariant_loop decreases_loop) → c.before.loop.word < 2 ^ 63
+under : (c : tie.In-loop-k invariant_loop decreases_loop) → c.loop-k.word < 2 ^ 63
 under c =
     let s = c.before.before.before in
-    subst (λ (x : ℕ). x < 2 ^ 63) (sym c.before.loop.invariant.1) (half_room (hit_one s.args.w s.args.s.now) s.args.sent c.before.loop.k (omega arith) s.requires.0)
+    subst (λ (x : ℕ). x < 2 ^ 63) (sym c.loop-k.invariant.1) (half_room (hit_one s.args.w s.args.s.now) s.args.sent c.loop-k.k (omega arith) s.requires.0)
 
-mul-word : tie.Need-overflow-mul-word invariant_loop decreases_loop
-mul-word c = record { fits = omega (arith, under c) }
+overflow_mul-word : tie.Need-overflow_mul-word invariant_loop decreases_loop
+overflow_mul-word c = record { fits = omega (arith, under c) }
 
-mul-is-hit : tie.Need-overflow-mul-is-hit invariant_loop decreases_loop
-mul-is-hit c = search rules
+overflow_mul-k : tie.Need-overflow_mul-k invariant_loop decreases_loop
+overflow_mul-k c = search rules
 
-is-hit-requires : tie.Need-is-hit-requires invariant_loop decreases_loop
-is-hit-requires c κs = c.before.before.before.requires.1 (c.before.loop.k - 1) (omega arith)
+is_hit-requires : tie.Need-is_hit-requires invariant_loop decreases_loop
+is_hit-requires c κs = c.requires.1 (c.loop-k.k - 1) (omega arith)
 
-add-word : tie.Need-overflow-add-word invariant_loop decreases_loop
-add-word c = record { fits = omega (arith, under c.before.before) }
+overflow_add-word : tie.Need-overflow_add-word invariant_loop decreases_loop
+overflow_add-word c = record { fits = omega (arith, under c.before.before) }
 
-loop-less : tie.Need-loop-smaller invariant_loop decreases_loop
-loop-less c = omega arith
+loop-k-smaller-then-is_hit : tie.Need-loop-k-smaller-then-is_hit invariant_loop decreases_loop
+loop-k-smaller-then-is_hit c = omega arith
 
-loop-again : tie.Need-loop-preserved invariant_loop decreases_loop
-loop-again c =
+loop-k-preserved-then-is_hit : tie.Need-loop-k-preserved-then-is_hit invariant_loop decreases_loop
+loop-k-preserved-then-is_hit c =
     let i = c.before.before.before in
-    let a = i.before.before.args in (
+    let a = i.args in (
       omega arith,
-      omega (arith, i.loop.invariant.1, one_more (hit_one a.w a.s.now) a.sent i.loop.k (omega arith) i.loop.invariant.0, ap bit (sym c.before.is-hit.ensures ∙ c.if1.true)),
+      omega (arith, i.loop-k.invariant.1, one_more (hit_one a.w a.s.now) a.sent i.loop-k.k (omega arith) i.loop-k.invariant.0, ap bit (sym c.is_hit.ensures ∙ c.if-is_hit.true)),
     )
 
-loop-less-2 : tie.Need-loop-smaller-2 invariant_loop decreases_loop
-loop-less-2 c = omega arith
+loop-k-smaller : tie.Need-loop-k-smaller invariant_loop decreases_loop
+loop-k-smaller c = omega arith
 
-loop-again-2 : tie.Need-loop-preserved-2 invariant_loop decreases_loop
-loop-again-2 c =
+loop-k-preserved : tie.Need-loop-k-preserved invariant_loop decreases_loop
+loop-k-preserved c =
     let i = c.before.before.before in
-    let a = i.before.before.args in (
+    let a = i.args in (
       omega arith,
-      omega (arith, i.loop.invariant.1, one_more (hit_one a.w a.s.now) a.sent i.loop.k (omega arith) i.loop.invariant.0, ap bit (sym c.before.is-hit.ensures ∙ c.if1.false)),
+      omega (arith, i.loop-k.invariant.1, one_more (hit_one a.w a.s.now) a.sent i.loop-k.k (omega arith) i.loop-k.invariant.0, ap bit (sym c.is_hit.ensures ∙ c.if-is_hit.false)),
     )
 
 returns : tie.Need-returns invariant_loop decreases_loop
 returns c =
-    let a = c.before.before.before.args in
-    c.before.loop.invariant.1 ∙ whole_row (hit_one a.w a.s.now) a.sent c.before.loop.k (omega arith)
+    let a = c.args in
+    c.loop-k.invariant.1 ∙ whole_row (hit_one a.w a.s.now) a.sent c.loop-k.k (omega arith)
 
-pub word-of-spec : {M : Type 1} → statement M
-word-of-spec =
+pub word_of_spec : {M : Type 1} → statement M
+word_of_spec =
     tie.close
     (tie.spec
     invariant_loop
     decreases_loop
-    loop-holds
-    sub-k
-    mul-word
-    mul-is-hit
-    is-hit-requires
-    add-word
-    loop-less
-    loop-again
-    loop-less-2
-    loop-again-2
+    loop-k-init
+    overflow_sub-k
+    overflow_mul-word
+    overflow_mul-k
+    is_hit-requires
+    overflow_add-word
+    loop-k-smaller-then-is_hit
+    loop-k-preserved-then-is_hit
+    loop-k-smaller
+    loop-k-preserved
     returns)

@@ -6,35 +6,35 @@ use borrow.Author.Rules.{rules}
 use Rattle.test_vectors.proofs.answer_all.Statement.{statement}
 use Rattle.test_vectors.proofs.answer_all.Tie as tie
 
-abbrev invariant_loop : tie.invariant-loop
+abbrev invariant_loop : tie.invariant-loop-at
 invariant_loop text at₀ at = at ≤ length text
 
-abbrev decreases_loop : tie.decreases-loop
+abbrev decreases_loop : tie.decreases-loop-at
 decreases_loop text at₀ at = length text - at
 
-loop-holds : tie.Need-loop-init invariant_loop decreases_loop
-loop-holds c = omega arith
+loop-at-init : tie.Need-loop-at-init invariant_loop decreases_loop
+loop-at-init c = omega arith
 
-answer-case-requires : tie.Need-answer-case-requires invariant_loop decreases_loop
-answer-case-requires c κs = omega arith
+answer_case-at-requires : tie.Need-answer_case-at-requires invariant_loop decreases_loop
+answer_case-at-requires c κs = omega arith
 
-loop-less : tie.Need-loop-smaller invariant_loop decreases_loop
-loop-less c = omega arith
+loop-at-smaller : tie.Need-loop-at-smaller invariant_loop decreases_loop
+loop-at-smaller c = omega arith
 
-loop-again : tie.Need-loop-preserved invariant_loop decreases_loop
-loop-again c = omega arith
+loop-at-preserved : tie.Need-loop-at-preserved invariant_loop decreases_loop
+loop-at-preserved c = omega arith
 
 returns : tie.Need-returns invariant_loop decreases_loop
 returns c = search rules
 
-pub answer-all-spec : {M : Type 1} → statement M
-answer-all-spec =
+pub answer_all_spec : {M : Type 1} → statement M
+answer_all_spec =
     tie.close
     (tie.spec
     invariant_loop
     decreases_loop
-    loop-holds
-    answer-case-requires
-    loop-less
-    loop-again
+    loop-at-init
+    answer_case-at-requires
+    loop-at-smaller
+    loop-at-preserved
     returns)

@@ -6,43 +6,43 @@ use borrow.Author.Rules.{rules}
 use Rattle.test_vectors.proofs.number.Statement.{statement}
 use Rattle.test_vectors.proofs.number.Tie as tie
 
-abbrev invariant_loop : tie.invariant-loop
+abbrev invariant_loop : tie.invariant-loop-i
 invariant_loop text n₀ i₀ n i = i ≤ length text
 
-abbrev decreases_loop : tie.decreases-loop
+abbrev decreases_loop : tie.decreases-loop-i
 decreases_loop text n₀ i₀ n i = length text - i
 
-loop-holds : tie.Need-loop-init invariant_loop decreases_loop
-loop-holds c = omega arith
+loop-i-init : tie.Need-loop-i-init invariant_loop decreases_loop
+loop-i-init c = omega arith
 
-shared-slice-read-with-digit : tie.Need-shared-slice-read-with-digit invariant_loop decreases_loop
-shared-slice-read-with-digit c = omega arith
+bounds-text-i : tie.Need-bounds-text-i invariant_loop decreases_loop
+bounds-text-i c = omega arith
 
-with-digit-requires : tie.Need-with-digit-requires invariant_loop decreases_loop
-with-digit-requires c κs = search rules
+with_digit-n-requires : tie.Need-with_digit-n-requires invariant_loop decreases_loop
+with_digit-n-requires c κs = search rules
 
-add-i : tie.Need-overflow-add-i invariant_loop decreases_loop
-add-i c = omega arith
+overflow_add-i : tie.Need-overflow_add-i invariant_loop decreases_loop
+overflow_add-i c = omega arith
 
-loop-less : tie.Need-loop-smaller invariant_loop decreases_loop
-loop-less c = omega arith
+loop-i-smaller : tie.Need-loop-i-smaller invariant_loop decreases_loop
+loop-i-smaller c = omega arith
 
-loop-again : tie.Need-loop-preserved invariant_loop decreases_loop
-loop-again c = omega arith
+loop-i-preserved : tie.Need-loop-i-preserved invariant_loop decreases_loop
+loop-i-preserved c = omega arith
 
 returns : tie.Need-returns invariant_loop decreases_loop
 returns c = search rules
 
-pub number-spec : {M : Type 1} → statement M
-number-spec =
+pub number_spec : {M : Type 1} → statement M
+number_spec =
     tie.close
     (tie.spec
     invariant_loop
     decreases_loop
-    loop-holds
-    shared-slice-read-with-digit
-    with-digit-requires
-    add-i
-    loop-less
-    loop-again
+    loop-i-init
+    bounds-text-i
+    with_digit-n-requires
+    overflow_add-i
+    loop-i-smaller
+    loop-i-preserved
     returns)

@@ -4,17 +4,17 @@ use Rattle.answer_line.proofs.Written.{written_byte}
 use Rattle.answer_line.proofs.fields.write_byte.Statement.{statement}
 use Rattle.answer_line.proofs.fields.write_byte.Tie as tie
 
-slice-write-out : tie.Need-slice-write-out
-slice-write-out c = search rules
+bounds-out-at : tie.Need-bounds-out-at
+bounds-out-at c = search rules
 
-add-result : tie.Need-overflow-add-result
-add-result c = search rules
+overflow_add-result : tie.Need-overflow_add-result
+overflow_add-result c = search rules
 
-same_length : tie.Need-same-length
-same_length c = search rules
+shape_of-out : tie.Need-shape_of-out
+shape_of-out c = search rules
 
 returns : tie.Need-returns
 returns c = written_byte _ _ _ c.requires
 
-pub write-byte-spec : {M : Type 1} → statement M
-write-byte-spec = tie.close (tie.spec slice-write-out add-result same_length returns)
+pub write_byte_spec : {M : Type 1} → statement M
+write_byte_spec = tie.close (tie.spec bounds-out-at overflow_add-result shape_of-out returns)

@@ -10,16 +10,16 @@ use Rattle.answer_line.proofs.fields.write_cell.Tie as tie
 sign-requires : tie.Need-sign-requires
 sign-requires c κs = search rules
 
-write-byte-requires : tie.Need-write-byte-requires
-write-byte-requires c κs = search rules
+write_byte-requires : tie.Need-write_byte-requires
+write_byte-requires c κs = search rules
 
-same_length : tie.Need-same-length
-same_length c = search rules
+shape_of-out : tie.Need-shape_of-out
+shape_of-out c = search rules
 
 returns : tie.Need-returns
 returns c =
     let written = c.before.before in
-    written_same (ap (λ (b : ℕ). b ∷ []) written.before.sign.ensures) written.write_byte.ensures
+    written_same (ap (λ (b : ℕ). b ∷ []) written.sign.ensures) written.write_byte.ensures
 
-pub write-cell-spec : {M : Type 1} → statement M
-write-cell-spec = tie.close (tie.spec sign-requires write-byte-requires same_length returns)
+pub write_cell_spec : {M : Type 1} → statement M
+write_cell_spec = tie.close (tie.spec sign-requires write_byte-requires shape_of-out returns)

@@ -14,7 +14,7 @@ use Rattle.answer_line.proofs.fields.write_cells.Statement.{statement}
 use Rattle.answer_line.proofs.fields.write_cells.Tie as tie
 
 whole : (c : tie.Start) → length c.args.t3 ≡ 3
-whole c = good_length (e_arr cell 3) 3 c.args.t3 _ c.well-formed.1.1.0
+whole c = good_length (e_arr cell 3) 3 c.args.t3 _ c.well_formed.1.1.0
 
 abbrev row : tie.Start → ℕ → List ℕ
 row c i = map sign (get_or c.args.t3 i [])
@@ -22,27 +22,27 @@ row c i = map sign (get_or c.args.t3 i [])
 parts : (c : tie.Start) → length (cell_bytes c.args.t3) ≡ length (row c 0) + length (row c 1) + length (row c 2)
 parts c = three_rows_length c.args.t3 (whole c)
 
-array-copy-out-write-row : tie.Need-array-copy-out-write-row
-array-copy-out-write-row c = search rules
+bounds-cells-0 : tie.Need-bounds-cells-0
+bounds-cells-0 c = search rules
 
-write-row-requires : tie.Need-write-row-requires
-write-row-requires c κs = omega (arith, parts c.before.before.before)
+write_row-boundary-requires : tie.Need-write_row-boundary-requires
+write_row-boundary-requires c κs = omega (arith, parts c.before.before.before)
 
-array-copy-out-write-row-2 : tie.Need-array-copy-out-write-row-2
-array-copy-out-write-row-2 c = search rules
+bounds-cells-1 : tie.Need-bounds-cells-1
+bounds-cells-1 c = search rules
 
-write-row-requires-2 : tie.Need-write-row-requires-2
-write-row-requires-2 c κs = omega (arith, parts c.before.before.before.before.before.before.before.before)
+write_row-exterior-requires : tie.Need-write_row-exterior-requires
+write_row-exterior-requires c κs = omega (arith, parts c.before.before.before.before.before.before.before.before)
 
-array-copy-out-write-row-3 : tie.Need-array-copy-out-write-row-3
-array-copy-out-write-row-3 c = search rules
+bounds-cells-2 : tie.Need-bounds-cells-2
+bounds-cells-2 c = search rules
 
-write-row-requires-3 : tie.Need-write-row-requires-3
-write-row-requires-3 c κs =
+write_row-requires : tie.Need-write_row-requires
+write_row-requires c κs =
     omega (arith, parts c.before.before.before.before.before.before.before.before.before.before.before.before.before)
 
-same_length : tie.Need-same-length
-same_length c = search rules
+shape_of-out : tie.Need-shape_of-out
+shape_of-out c = search rules
 
 returns : tie.Need-returns
 returns c =
@@ -51,17 +51,17 @@ returns c =
     let third = c.before.before in
     let start = first.before.before.before.before in
     rw (three_rows start.args.t3 (whole start))
-    (followed first.write-row.ensures (followed second.write-row2.ensures third.write-row3.ensures))
+    (followed first.write_row-boundary.ensures (followed second.write_row-exterior.ensures third.write_row.ensures))
 
-pub write-cells-spec : {M : Type 1} → statement M
-write-cells-spec =
+pub write_cells_spec : {M : Type 1} → statement M
+write_cells_spec =
     tie.close
     (tie.spec
-    array-copy-out-write-row
-    write-row-requires
-    array-copy-out-write-row-2
-    write-row-requires-2
-    array-copy-out-write-row-3
-    write-row-requires-3
-    same_length
+    bounds-cells-0
+    write_row-boundary-requires
+    bounds-cells-1
+    write_row-exterior-requires
+    bounds-cells-2
+    write_row-requires
+    shape_of-out
     returns)

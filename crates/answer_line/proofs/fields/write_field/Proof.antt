@@ -4,18 +4,18 @@ use Rattle.answer_line.proofs.Written.{followed}
 use Rattle.answer_line.proofs.fields.write_field.Statement.{statement}
 use Rattle.answer_line.proofs.fields.write_field.Tie as tie
 
-write-byte-requires : tie.Need-write-byte-requires
-write-byte-requires c κs = search rules
+write_byte-number-requires : tie.Need-write_byte-number-requires
+write_byte-number-requires c κs = search rules
 
-write-decimal-requires : tie.Need-write-decimal-requires
-write-decimal-requires c κs = search rules
+write_decimal-requires : tie.Need-write_decimal-requires
+write_decimal-requires c κs = search rules
 
-same_length : tie.Need-same-length
-same_length c = search rules
+shape_of-out : tie.Need-shape_of-out
+shape_of-out c = search rules
 
 returns : tie.Need-returns
-returns c = followed c.before.before.before.before.before.before.write_byte.ensures c.before.before.write-decimal.ensures
+returns c = followed c.write_byte-number.ensures c.write_decimal.ensures
 
-pub write-field-spec : {M : Type 1} → statement M
-write-field-spec =
-    tie.close (tie.spec write-byte-requires write-decimal-requires same_length returns)
+pub write_field_spec : {M : Type 1} → statement M
+write_field_spec =
+    tie.close (tie.spec write_byte-number-requires write_decimal-requires shape_of-out returns)

@@ -13,31 +13,31 @@ use Rattle.answer_line.proofs.fields.write_row.Statement.{statement}
 use Rattle.answer_line.proofs.fields.write_row.Tie as tie
 
 whole : (c : tie.Start) → length c.args.t3 ≡ 3
-whole c = good_length cell 3 c.args.t3 _ c.well-formed.1.1.0
+whole c = good_length cell 3 c.args.t3 _ c.well_formed.1.1.0
 
 three_bytes : (c : tie.Start) → length (map sign c.args.t3) ≡ 3
 three_bytes c = length-map c.args.t3 sign ∙ whole c
 
-array-copy-out-write-cell : tie.Need-array-copy-out-write-cell
-array-copy-out-write-cell c = search rules
+bounds-row-0 : tie.Need-bounds-row-0
+bounds-row-0 c = search rules
 
-write-cell-requires : tie.Need-write-cell-requires
-write-cell-requires c κs = omega (arith, three_bytes c.before.before.before)
+write_cell-second-requires : tie.Need-write_cell-second-requires
+write_cell-second-requires c κs = omega (arith, three_bytes c.before.before.before)
 
-array-copy-out-write-cell-2 : tie.Need-array-copy-out-write-cell-2
-array-copy-out-write-cell-2 c = search rules
+bounds-row-1 : tie.Need-bounds-row-1
+bounds-row-1 c = search rules
 
-write-cell-requires-2 : tie.Need-write-cell-requires-2
-write-cell-requires-2 c κs = omega (arith, three_bytes c.before.before.before.before.before.before.before.before)
+write_cell-third-requires : tie.Need-write_cell-third-requires
+write_cell-third-requires c κs = omega (arith, three_bytes c.before.before.before.before.before.before.before.before)
 
-array-copy-out-write-cell-3 : tie.Need-array-copy-out-write-cell-3
-array-copy-out-write-cell-3 c = search rules
+bounds-row-2 : tie.Need-bounds-row-2
+bounds-row-2 c = search rules
 
-write-cell-requires-3 : tie.Need-write-cell-requires-3
-write-cell-requires-3 c κs = omega (arith, three_bytes c.before.before.before.before.before.before.before.before.before.before.before.before.before)
+write_cell-requires : tie.Need-write_cell-requires
+write_cell-requires c κs = omega (arith, three_bytes c.before.before.before.before.before.before.before.before.before.before.before.before.before)
 
-same_length : tie.Need-same-length
-same_length c = search rules
+shape_of-out : tie.Need-shape_of-out
+shape_of-out c = search rules
 
 returns : tie.Need-returns
 returns c =
@@ -46,17 +46,17 @@ returns c =
     let third = c.before.before in
     let start = first.before.before.before.before in
     rw (three Empty start.args.t3 (whole start))
-    (followed first.write_cell.ensures (followed second.write-cell2.ensures third.write-cell3.ensures))
+    (followed first.write_cell-second.ensures (followed second.write_cell-third.ensures third.write_cell.ensures))
 
-pub write-row-spec : {M : Type 1} → statement M
-write-row-spec =
+pub write_row_spec : {M : Type 1} → statement M
+write_row_spec =
     tie.close
     (tie.spec
-    array-copy-out-write-cell
-    write-cell-requires
-    array-copy-out-write-cell-2
-    write-cell-requires-2
-    array-copy-out-write-cell-3
-    write-cell-requires-3
-    same_length
+    bounds-row-0
+    write_cell-second-requires
+    bounds-row-1
+    write_cell-third-requires
+    bounds-row-2
+    write_cell-requires
+    shape_of-out
     returns)

@@ -6,25 +6,25 @@ use Rattle.cells.specs.Explored.{cells_values}
 use Rattle.cells.proofs.question.cells.Statement.{statement}
 use Rattle.cells.proofs.question.cells.Tie as tie
 
-enum-known-answer : tie.Need-enum-known-answer
-enum-known-answer c = search rules
+enum_known-answer : tie.Need-enum_known-answer
+enum_known-answer c = search rules
 
 matrix-requires : tie.Need-matrix-requires
 matrix-requires c κs = search rules
 
-enum_told : tie.Need-enum-told
-enum_told c = search rules
+enum_told-1 : tie.Need-enum_told-1
+enum_told-1 c = search rules
 
 none-requires : tie.Need-none-requires
 none-requires c κs = search rules
 
-returns : tie.Need-returns
-returns c = c.matrix.ensures ∙ sym (ap (λ (a : CellsAnswer). (cells_values a).cells) c.before.before.answer.given.1)
+returns-in-Taken : tie.Need-returns-in-Taken
+returns-in-Taken c = c.matrix.ensures ∙ sym (ap (λ (a : CellsAnswer). (cells_values a).cells) c.in-Taken.is)
 
-returns-2 : tie.Need-returns-2
-returns-2 c = c.none.ensures ∙ sym (ap (λ (a : CellsAnswer). (cells_values a).cells) c.before.enum_told.given.1)
+returns-in-Refused : tie.Need-returns-in-Refused
+returns-in-Refused c = c.none.ensures ∙ sym (ap (λ (a : CellsAnswer). (cells_values a).cells) c.in-Refused.is)
 
-pub cells-spec : {M : Type 1} → statement M
-cells-spec =
+pub cells_spec : {M : Type 1} → statement M
+cells_spec =
     tie.close
-    (tie.spec enum-known-answer matrix-requires enum_told none-requires returns returns-2)
+    (tie.spec enum_known-answer matrix-requires enum_told-1 none-requires returns-in-Taken returns-in-Refused)

@@ -13,39 +13,39 @@ use Rattle.cells.proofs.question.explore.Tie as tie
 answer-requires : tie.Need-answer-requires
 answer-requires c κs = search rules
 
-enum-known-r : tie.Need-enum-known-r
-enum-known-r c = search rules
+enum_known-r : tie.Need-enum_known-r
+enum_known-r c = search rules
 
-enum-known-scene : tie.Need-enum-known-scene
-enum-known-scene c = search rules
+enum_known-scene : tie.Need-enum_known-scene
+enum_known-scene c = search rules
 
 explored-requires : tie.Need-explored-requires
 explored-requires c κs = search rules
 
-returns : tie.Need-returns
-returns c =
-    let k = c.before in
-    let d = k.before.before in
-    let s = d.before.before.args.s.now in
-    let r = k.r.given.0.0 in
-    as_explored s (CheckedScene.Refused r) (was_refused Wanted.All all_tidy s d.answer.ensures r k.r.given.1) refl
+returns-in-Refused : tie.Need-returns-in-Refused
+returns-in-Refused c =
+    let k = c in
+    let d = k.before in
+    let s = d.args.s.now in
+    let r = k.in-Refused.r in
+    as_explored s (CheckedScene.Refused r) (was_refused Wanted.All all_tidy s d.answer.ensures r k.in-Refused.is) refl
 
-returns-2 : tie.Need-returns-2
-returns-2 c =
-    let k = c.before.before in
-    let d = k.before.before in
-    let s = d.before.before.args.s.now in
-    let sc = k.scene.given.0.0 in
-    let w = was_taken Wanted.All all_tidy s d.answer.ensures sc k.scene.given.0.1.0 k.scene.given.1 in
+returns-in-Taken : tie.Need-returns-in-Taken
+returns-in-Taken c =
+    let k = c.before in
+    let d = k.before in
+    let s = d.args.s.now in
+    let sc = k.in-Taken.scene in
+    let w = was_taken Wanted.All all_tidy s d.answer.ensures sc k.in-Taken.vectors k.in-Taken.is in
     as_explored s (CheckedScene.Taken sc) w.0 (ap CellsAnswer.Taken (c.explored.ensures ∙ ap (explored_by sc) w.1))
 
-pub explore-spec : {M : Type 1} → statement M
-explore-spec =
+pub explore_spec : {M : Type 1} → statement M
+explore_spec =
     tie.close
     (tie.spec
     answer-requires
-    enum-known-r
-    enum-known-scene
+    enum_known-r
+    enum_known-scene
     explored-requires
-    returns
-    returns-2)
+    returns-in-Refused
+    returns-in-Taken)

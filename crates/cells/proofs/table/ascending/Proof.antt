@@ -5,136 +5,136 @@ use Rattle.cells_matrix.specs.Matrix.{matrix_of}
 use Rattle.cells.proofs.table.ascending.Statement.{statement}
 use Rattle.cells.proofs.table.ascending.Tie as tie
 
-enum_told : tie.Need-enum-told
-enum_told c = search rules
+enum_told-1 : tie.Need-enum_told-1
+enum_told-1 c = search rules
 
-enum-told-2 : tie.Need-enum-told-2
-enum-told-2 c = search rules
+enum_told-in-Points-g : tie.Need-enum_told-in-Points-g
+enum_told-in-Points-g c = search rules
 
-points-points-requires : tie.Need-points-points-requires
-points-points-requires c κs = search rules
+points_points-requires : tie.Need-points_points-requires
+points_points-requires c κs = search rules
 
-enum-told-3 : tie.Need-enum-told-3
-enum-told-3 c = search rules
+enum_told-in-Line-g : tie.Need-enum_told-in-Line-g
+enum_told-in-Line-g c = search rules
 
-points-line-requires : tie.Need-points-line-requires
-points-line-requires c κs = search rules
+points_line-requires : tie.Need-points_line-requires
+points_line-requires c κs = search rules
 
-enum-told-4 : tie.Need-enum-told-4
-enum-told-4 c = search rules
+enum_told-in-Region-g : tie.Need-enum_told-in-Region-g
+enum_told-in-Region-g c = search rules
 
-points-region-requires : tie.Need-points-region-requires
-points-region-requires c κs = search rules
+points_region-requires : tie.Need-points_region-requires
+points_region-requires c κs = search rules
 
-enum-told-5 : tie.Need-enum-told-5
-enum-told-5 c = search rules
+enum_told-in-Line : tie.Need-enum_told-in-Line
+enum_told-in-Line c = search rules
 
-enum-told-6 : tie.Need-enum-told-6
-enum-told-6 c = search rules
+enum_told-in-Points-g-2 : tie.Need-enum_told-in-Points-g-2
+enum_told-in-Points-g-2 c = search rules
 
 none-requires : tie.Need-none-requires
 none-requires c κs = search rules
 
-enum-told-7 : tie.Need-enum-told-7
-enum-told-7 c = search rules
+enum_told-in-Line-g-2 : tie.Need-enum_told-in-Line-g-2
+enum_told-in-Line-g-2 c = search rules
 
-line-line-requires : tie.Need-line-line-requires
-line-line-requires c κs = search rules
+line_line-requires : tie.Need-line_line-requires
+line_line-requires c κs = search rules
 
-enum-told-8 : tie.Need-enum-told-8
-enum-told-8 c = search rules
+enum_told-in-Region-g-2 : tie.Need-enum_told-in-Region-g-2
+enum_told-in-Region-g-2 c = search rules
 
-line-region-requires : tie.Need-line-region-requires
-line-region-requires c κs = search rules
+line_region-requires : tie.Need-line_region-requires
+line_region-requires c κs = search rules
 
-enum-told-9 : tie.Need-enum-told-9
-enum-told-9 c = search rules
+enum_told-in-Region : tie.Need-enum_told-in-Region
+enum_told-in-Region c = search rules
 
-enum-told-10 : tie.Need-enum-told-10
-enum-told-10 c = search rules
+enum_told-in-Points-g-3 : tie.Need-enum_told-in-Points-g-3
+enum_told-in-Points-g-3 c = search rules
 
-none-requires-2 : tie.Need-none-requires-2
-none-requires-2 c κs = search rules
+none-requires-in-Points-g-3 : tie.Need-none-requires-in-Points-g-3
+none-requires-in-Points-g-3 c κs = search rules
 
-enum-told-11 : tie.Need-enum-told-11
-enum-told-11 c = search rules
+enum_told-in-Line-g-3 : tie.Need-enum_told-in-Line-g-3
+enum_told-in-Line-g-3 c = search rules
 
-none-requires-3 : tie.Need-none-requires-3
-none-requires-3 c κs = search rules
+none-requires-in-Line-g-3 : tie.Need-none-requires-in-Line-g-3
+none-requires-in-Line-g-3 c κs = search rules
 
-enum-told-12 : tie.Need-enum-told-12
-enum-told-12 c = search rules
+enum_told-in-Region-g-3 : tie.Need-enum_told-in-Region-g-3
+enum_told-in-Region-g-3 c = search rules
 
-region-region-requires : tie.Need-region-region-requires
-region-region-requires c κs = search rules
+region_region-requires : tie.Need-region_region-requires
+region_region-requires c κs = search rules
 
-returns : tie.Need-returns
+returns-in-Points-g : tie.Need-returns-in-Points-g
 unfolding matrix_of has_bit
-returns c = rw (c.before.before.before.enum_told.given.1, c.before.enum-told2.given.1) c.points-points.ensures
+returns-in-Points-g c = rw (c.in-Points.is, c.in-Points-g.is) c.points_points.ensures
 
-returns-2 : tie.Need-returns-2
+returns-in-Line-g : tie.Need-returns-in-Line-g
 unfolding matrix_of has_bit
-returns-2 c = rw (c.before.before.before.enum_told.given.1, c.before.enum-told3.given.1) c.points-line.ensures
+returns-in-Line-g c = rw (c.in-Points.is, c.in-Line-g.is) c.points_line.ensures
 
-returns-3 : tie.Need-returns-3
+returns-in-Region-g : tie.Need-returns-in-Region-g
 unfolding matrix_of has_bit
-returns-3 c = rw (c.before.before.before.enum_told.given.1, c.before.enum-told4.given.1) c.points-region.ensures
+returns-in-Region-g c = rw (c.in-Points.is, c.in-Region-g.is) c.points_region.ensures
 
-returns-4 : tie.Need-returns-4
+returns-in-Points-g-2 : tie.Need-returns-in-Points-g-2
 unfolding matrix_of has_bit
-returns-4 c = rw (c.before.before.before.enum-told5.given.1, c.before.enum-told6.given.1) c.none.ensures
+returns-in-Points-g-2 c = rw (c.in-Line.is, c.in-Points-g-2.is) c.none.ensures
 
-returns-5 : tie.Need-returns-5
+returns-in-Line-g-2 : tie.Need-returns-in-Line-g-2
 unfolding matrix_of has_bit
-returns-5 c = rw (c.before.before.before.enum-told5.given.1, c.before.enum-told7.given.1) c.line-line.ensures
+returns-in-Line-g-2 c = rw (c.in-Line.is, c.in-Line-g-2.is) c.line_line.ensures
 
-returns-6 : tie.Need-returns-6
+returns-in-Region-g-2 : tie.Need-returns-in-Region-g-2
 unfolding matrix_of has_bit
-returns-6 c = rw (c.before.before.before.enum-told5.given.1, c.before.enum-told8.given.1) c.line-region.ensures
+returns-in-Region-g-2 c = rw (c.in-Line.is, c.in-Region-g-2.is) c.line_region.ensures
 
-returns-7 : tie.Need-returns-7
+returns-in-Points-g-3 : tie.Need-returns-in-Points-g-3
 unfolding matrix_of has_bit
-returns-7 c = rw (c.before.before.before.enum-told9.given.1, c.before.enum-told10.given.1) c.none2.ensures
+returns-in-Points-g-3 c = rw (c.in-Region.is, c.in-Points-g-3.is) c.none-in-Points-g-3.ensures
 
-returns-8 : tie.Need-returns-8
+returns-in-Line-g-3 : tie.Need-returns-in-Line-g-3
 unfolding matrix_of has_bit
-returns-8 c = rw (c.before.before.before.enum-told9.given.1, c.before.enum-told11.given.1) c.none3.ensures
+returns-in-Line-g-3 c = rw (c.in-Region.is, c.in-Line-g-3.is) c.none-in-Line-g-3.ensures
 
-returns-9 : tie.Need-returns-9
+returns-in-Region-g-3 : tie.Need-returns-in-Region-g-3
 unfolding matrix_of has_bit
-returns-9 c = rw (c.before.before.before.enum-told9.given.1, c.before.enum-told12.given.1) c.region-region.ensures
+returns-in-Region-g-3 c = rw (c.in-Region.is, c.in-Region-g-3.is) c.region_region.ensures
 
-pub ascending-spec : {M : Type 1} → statement M
-ascending-spec =
+pub ascending_spec : {M : Type 1} → statement M
+ascending_spec =
     tie.close
     (tie.spec
-    enum_told
-    enum-told-2
-    points-points-requires
-    enum-told-3
-    points-line-requires
-    enum-told-4
-    points-region-requires
-    enum-told-5
-    enum-told-6
+    enum_told-1
+    enum_told-in-Points-g
+    points_points-requires
+    enum_told-in-Line-g
+    points_line-requires
+    enum_told-in-Region-g
+    points_region-requires
+    enum_told-in-Line
+    enum_told-in-Points-g-2
     none-requires
-    enum-told-7
-    line-line-requires
-    enum-told-8
-    line-region-requires
-    enum-told-9
-    enum-told-10
-    none-requires-2
-    enum-told-11
-    none-requires-3
-    enum-told-12
-    region-region-requires
-    returns
-    returns-2
-    returns-3
-    returns-4
-    returns-5
-    returns-6
-    returns-7
-    returns-8
-    returns-9)
+    enum_told-in-Line-g-2
+    line_line-requires
+    enum_told-in-Region-g-2
+    line_region-requires
+    enum_told-in-Region
+    enum_told-in-Points-g-3
+    none-requires-in-Points-g-3
+    enum_told-in-Line-g-3
+    none-requires-in-Line-g-3
+    enum_told-in-Region-g-3
+    region_region-requires
+    returns-in-Points-g
+    returns-in-Line-g
+    returns-in-Region-g
+    returns-in-Points-g-2
+    returns-in-Line-g-2
+    returns-in-Region-g-2
+    returns-in-Points-g-3
+    returns-in-Line-g-3
+    returns-in-Region-g-3)

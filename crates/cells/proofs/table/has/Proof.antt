@@ -5,12 +5,12 @@ use borrow.Author.Rules.{rules}
 use Rattle.cells.proofs.table.has.Statement.{statement}
 use Rattle.cells.proofs.table.has.Tie as tie
 
-div-result : tie.Need-nonzero-div-result
-div-result c = search rules
+nonzero_div-result : tie.Need-nonzero_div-result
+nonzero_div-result c = search rules
 
 returns : tie.Need-returns
 unfolding odd
 returns c = refl
 
-pub has-spec : {M : Type 1} → statement M
-has-spec = tie.close (tie.spec div-result returns)
+pub has_spec : {M : Type 1} → statement M
+has_spec = tie.close (tie.spec nonzero_div-result returns)

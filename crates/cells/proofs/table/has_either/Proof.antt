@@ -15,5 +15,5 @@ either-requires c κs = search rules
 returns : tie.Need-returns
 returns c = cc
 
-pub has-either-spec : {M : Type 1} → statement M
-has-either-spec = tie.close (tie.spec has-requires has-requires-2 either-requires returns)
+pub has_either_spec : {M : Type 1} → statement M
+has_either_spec = tie.close (tie.spec has-requires has-requires-2 either-requires returns)

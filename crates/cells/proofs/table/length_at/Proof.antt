@@ -6,11 +6,11 @@ use Rattle.cells.proofs.table.length_at.Tie as tie
 has-requires : tie.Need-has-requires
 has-requires c κs = search rules
 
-length-if-requires : tie.Need-length-if-requires
-length-if-requires c κs = search rules
+length_if-requires : tie.Need-length_if-requires
+length_if-requires c κs = search rules
 
 returns : tie.Need-returns
 returns c = cc
 
-pub length-at-spec : {M : Type 1} → statement M
-length-at-spec = tie.close (tie.spec has-requires length-if-requires returns)
+pub length_at_spec : {M : Type 1} → statement M
+length_at_spec = tie.close (tie.spec has-requires length_if-requires returns)

@@ -11,46 +11,46 @@ has-requires c κs = search rules
 has-requires-2 : tie.Need-has-requires-2
 has-requires-2 c κs = search rules
 
-length-or-points-requires : tie.Need-length-or-points-requires
-length-or-points-requires c κs = search rules
+length_or_points-requires : tie.Need-length_or_points-requires
+length_or_points-requires c κs = search rules
 
-points-at-requires : tie.Need-points-at-requires
-points-at-requires c κs = search rules
+points_at-requires : tie.Need-points_at-requires
+points_at-requires c κs = search rules
 
-length-at-requires : tie.Need-length-at-requires
-length-at-requires c κs = search rules
+length_at-requires : tie.Need-length_at-requires
+length_at-requires c κs = search rules
 
-points-at-requires-2 : tie.Need-points-at-requires-2
-points-at-requires-2 c κs = search rules
+points_at-requires-2 : tie.Need-points_at-requires-2
+points_at-requires-2 c κs = search rules
 
-points-at-requires-3 : tie.Need-points-at-requires-3
-points-at-requires-3 c κs = search rules
+points_at-requires-3 : tie.Need-points_at-requires-3
+points_at-requires-3 c κs = search rules
 
-points-at-requires-4 : tie.Need-points-at-requires-4
-points-at-requires-4 c κs = search rules
+points_at-requires-4 : tie.Need-points_at-requires-4
+points_at-requires-4 c κs = search rules
 
-length-at-requires-2 : tie.Need-length-at-requires-2
-length-at-requires-2 c κs = search rules
+length_at-requires-2 : tie.Need-length_at-requires-2
+length_at-requires-2 c κs = search rules
 
-points-at-requires-5 : tie.Need-points-at-requires-5
-points-at-requires-5 c κs = search rules
+points_at-requires-5 : tie.Need-points_at-requires-5
+points_at-requires-5 c κs = search rules
 
 returns : tie.Need-returns
 unfolding matrix_of has_bit
 returns c = cc
 
-pub line-line-spec : {M : Type 1} → statement M
-line-line-spec =
+pub line_line_spec : {M : Type 1} → statement M
+line_line_spec =
     tie.close
     (tie.spec
     has-requires
     has-requires-2
-    length-or-points-requires
-    points-at-requires
-    length-at-requires
-    points-at-requires-2
-    points-at-requires-3
-    points-at-requires-4
-    length-at-requires-2
-    points-at-requires-5
+    length_or_points-requires
+    points_at-requires
+    length_at-requires
+    points_at-requires-2
+    points_at-requires-3
+    points_at-requires-4
+    length_at-requires-2
+    points_at-requires-5
     returns)

@@ -5,8 +5,8 @@ use Rattle.cells_matrix.specs.Matrix.{matrix_of}
 use Rattle.cells.proofs.table.line_region.Statement.{statement}
 use Rattle.cells.proofs.table.line_region.Tie as tie
 
-length-at-requires : tie.Need-length-at-requires
-length-at-requires c κs = search rules
+length_at-requires : tie.Need-length_at-requires
+length_at-requires c κs = search rules
 
 has-requires : tie.Need-has-requires
 has-requires c κs = search rules
@@ -14,43 +14,43 @@ has-requires c κs = search rules
 has-requires-2 : tie.Need-has-requires-2
 has-requires-2 c κs = search rules
 
-length-or-points-requires : tie.Need-length-or-points-requires
-length-or-points-requires c κs = search rules
+length_or_points-requires : tie.Need-length_or_points-requires
+length_or_points-requires c κs = search rules
 
-length-at-requires-2 : tie.Need-length-at-requires-2
-length-at-requires-2 c κs = search rules
+length_at-requires-2 : tie.Need-length_at-requires-2
+length_at-requires-2 c κs = search rules
 
-points-at-requires : tie.Need-points-at-requires
-points-at-requires c κs = search rules
+points_at-requires : tie.Need-points_at-requires
+points_at-requires c κs = search rules
 
-points-at-requires-2 : tie.Need-points-at-requires-2
-points-at-requires-2 c κs = search rules
+points_at-requires-2 : tie.Need-points_at-requires-2
+points_at-requires-2 c κs = search rules
 
-points-at-requires-3 : tie.Need-points-at-requires-3
-points-at-requires-3 c κs = search rules
+points_at-requires-3 : tie.Need-points_at-requires-3
+points_at-requires-3 c κs = search rules
 
-area-if-requires : tie.Need-area-if-requires
-area-if-requires c κs = search rules
+area_if-requires : tie.Need-area_if-requires
+area_if-requires c κs = search rules
 
-length-at-requires-3 : tie.Need-length-at-requires-3
-length-at-requires-3 c κs = search rules
+length_at-requires-3 : tie.Need-length_at-requires-3
+length_at-requires-3 c κs = search rules
 
 returns : tie.Need-returns
 unfolding matrix_of has_bit
 returns c = cc
 
-pub line-region-spec : {M : Type 1} → statement M
-line-region-spec =
+pub line_region_spec : {M : Type 1} → statement M
+line_region_spec =
     tie.close
     (tie.spec
-    length-at-requires
+    length_at-requires
     has-requires
     has-requires-2
-    length-or-points-requires
-    length-at-requires-2
-    points-at-requires
-    points-at-requires-2
-    points-at-requires-3
-    area-if-requires
-    length-at-requires-3
+    length_or_points-requires
+    length_at-requires-2
+    points_at-requires
+    points_at-requires-2
+    points_at-requires-3
+    area_if-requires
+    length_at-requires-3
     returns)

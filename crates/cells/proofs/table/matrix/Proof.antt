@@ -14,11 +14,11 @@ use Rattle.cells.proofs.table.matrix.Tie as tie
 abbrev of : Explored → List (List Dimension)
 of e = matrix_of e.f e.g e.v e.w e.f_empty e.g_empty
 
-shape-number-requires : tie.Need-shape-number-requires
-shape-number-requires c κs = search rules
+shape_number-requires : tie.Need-shape_number-requires
+shape_number-requires c κs = search rules
 
-shape-number-requires-2 : tie.Need-shape-number-requires-2
-shape-number-requires-2 c κs = search rules
+shape_number-requires-2 : tie.Need-shape_number-requires-2
+shape_number-requires-2 c κs = search rules
 
 exchanged-requires : tie.Need-exchanged-requires
 exchanged-requires c κs = search rules
@@ -29,33 +29,33 @@ ascending-requires c κs = search rules
 transposed-requires : tie.Need-transposed-requires
 transposed-requires c κs = search rules
 
-ascending-requires-2 : tie.Need-ascending-requires-2
-ascending-requires-2 c κs = search rules
+ascending-requires-else-shape_number : tie.Need-ascending-requires-else-shape_number
+ascending-requires-else-shape_number c κs = search rules
 
-returns : tie.Need-returns
-returns c =
+returns-then-shape_number : tie.Need-returns-then-shape_number
+returns-then-shape_number c =
     let a = c.before in
     let x = a.before in
     let n = x.before.before in
-    let e = n.before.before.args.e in
-    rw (lt-ltb (shape_number e.g) (shape_number e.f) (omega (arith, n.shape-number2.ensures, n.before.shape-number.ensures)))
+    let e = n.args.e in
+    rw (lt-ltb (shape_number e.g) (shape_number e.f) (omega (arith, n.shape_number-2.ensures, n.shape_number.ensures)))
     (c.transposed.ensures ∙ ap transposed (a.ascending.ensures ∙ ap of x.exchanged.ensures))
 
-returns-2 : tie.Need-returns-2
-returns-2 c =
+returns-else-shape_number : tie.Need-returns-else-shape_number
+returns-else-shape_number c =
     let n = c.before.before in
-    let e = n.before.before.args.e in
-    rw (le-ltb (shape_number e.g) (shape_number e.f) (omega (arith, n.shape-number2.ensures, n.before.shape-number.ensures))) c.ascending2.ensures
+    let e = n.args.e in
+    rw (le-ltb (shape_number e.g) (shape_number e.f) (omega (arith, n.shape_number-2.ensures, n.shape_number.ensures))) c.ascending-else-shape_number.ensures
 
-pub matrix-spec : {M : Type 1} → statement M
-matrix-spec =
+pub matrix_spec : {M : Type 1} → statement M
+matrix_spec =
     tie.close
     (tie.spec
-    shape-number-requires
-    shape-number-requires-2
+    shape_number-requires
+    shape_number-requires-2
     exchanged-requires
     ascending-requires
     transposed-requires
-    ascending-requires-2
-    returns
-    returns-2)
+    ascending-requires-else-shape_number
+    returns-then-shape_number
+    returns-else-shape_number)

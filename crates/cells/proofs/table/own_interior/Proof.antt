@@ -3,8 +3,8 @@ use borrow.Author.Rules.{rules}
 use Rattle.cells.proofs.table.own_interior.Statement.{statement}
 use Rattle.cells.proofs.table.own_interior.Tie as tie
 
-has-either-requires : tie.Need-has-either-requires
-has-either-requires c κs = search rules
+has_either-requires : tie.Need-has_either-requires
+has_either-requires c κs = search rules
 
 either-requires : tie.Need-either-requires
 either-requires c κs = search rules
@@ -24,11 +24,11 @@ either-requires-3 c κs = search rules
 returns : tie.Need-returns
 returns c = cc
 
-pub own-interior-spec : {M : Type 1} → statement M
-own-interior-spec =
+pub own_interior_spec : {M : Type 1} → statement M
+own_interior_spec =
     tie.close
     (tie.spec
-    has-either-requires
+    has_either-requires
     either-requires
     has-requires
     either-requires-2

@@ -6,11 +6,11 @@ use Rattle.cells.proofs.table.points_at.Tie as tie
 has-requires : tie.Need-has-requires
 has-requires c κs = search rules
 
-points-if-requires : tie.Need-points-if-requires
-points-if-requires c κs = search rules
+points_if-requires : tie.Need-points_if-requires
+points_if-requires c κs = search rules
 
 returns : tie.Need-returns
 returns c = cc
 
-pub points-at-spec : {M : Type 1} → statement M
-points-at-spec = tie.close (tie.spec has-requires points-if-requires returns)
+pub points_at_spec : {M : Type 1} → statement M
+points_at_spec = tie.close (tie.spec has-requires points_if-requires returns)

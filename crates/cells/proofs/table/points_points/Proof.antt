@@ -5,19 +5,19 @@ use Rattle.cells_matrix.specs.Matrix.{matrix_of}
 use Rattle.cells.proofs.table.points_points.Statement.{statement}
 use Rattle.cells.proofs.table.points_points.Tie as tie
 
-points-at-requires : tie.Need-points-at-requires
-points-at-requires c κs = search rules
+points_at-requires : tie.Need-points_at-requires
+points_at-requires c κs = search rules
 
-points-at-requires-2 : tie.Need-points-at-requires-2
-points-at-requires-2 c κs = search rules
+points_at-requires-2 : tie.Need-points_at-requires-2
+points_at-requires-2 c κs = search rules
 
-points-at-requires-3 : tie.Need-points-at-requires-3
-points-at-requires-3 c κs = search rules
+points_at-requires-3 : tie.Need-points_at-requires-3
+points_at-requires-3 c κs = search rules
 
 returns : tie.Need-returns
 unfolding matrix_of has_bit
 returns c = cc
 
-pub points-points-spec : {M : Type 1} → statement M
-points-points-spec =
-    tie.close (tie.spec points-at-requires points-at-requires-2 points-at-requires-3 returns)
+pub points_points_spec : {M : Type 1} → statement M
+points_points_spec =
+    tie.close (tie.spec points_at-requires points_at-requires-2 points_at-requires-3 returns)

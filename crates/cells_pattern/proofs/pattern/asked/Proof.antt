@@ -4,11 +4,11 @@ use borrow.Author.Tests.{eq-eqb, ne_eqb}
 use Rattle.cells_pattern.proofs.pattern.asked.Statement.{statement}
 use Rattle.cells_pattern.proofs.pattern.asked.Tie as tie
 
-returns : tie.Need-returns
-returns c = (rw (eq-eqb _ _ c.if1.true), omega arith)
+returns-then-c-eq42 : tie.Need-returns-then-c-eq42
+returns-then-c-eq42 c = (rw (eq-eqb _ _ c.if-c-eq42.true), omega arith)
 
-returns-2 : tie.Need-returns-2
-returns-2 c = (rw (ne_eqb _ _ c.if1.false), omega arith)
+returns-else-c-eq42 : tie.Need-returns-else-c-eq42
+returns-else-c-eq42 c = (rw (ne_eqb _ _ c.if-c-eq42.false), omega arith)
 
-pub asked-spec : {M : Type 1} → statement M
-asked-spec = tie.close (tie.spec returns returns-2)
+pub asked_spec : {M : Type 1} → statement M
+asked_spec = tie.close (tie.spec returns-then-c-eq42 returns-else-c-eq42)

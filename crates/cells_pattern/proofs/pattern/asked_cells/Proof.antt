@@ -7,56 +7,56 @@ use Rattle.cells_pattern.specs.Asked.{asked_cells}
 use Rattle.cells_pattern.proofs.pattern.asked_cells.Statement.{statement}
 use Rattle.cells_pattern.proofs.pattern.asked_cells.Tie as tie
 
-shared-slice-read-fits : tie.Need-shared-slice-read-fits
-shared-slice-read-fits c = search rules
+bounds-p-8 : tie.Need-bounds-p-8
+bounds-p-8 c = search rules
 
 fits-requires : tie.Need-fits-requires
 fits-requires c κs = search rules
 
+returns-then-not-fits : tie.Need-returns-then-not-fits
+unfolding asked_cells
+returns-then-not-fits c = rw (sym c.fits2.ensures ∙ not-true _ c.if-not-fits.true-raw)
+
+asked_row-requires : tie.Need-asked_row-requires
+asked_row-requires c κs = search rules
+
+asked_row-requires-2 : tie.Need-asked_row-requires-2
+asked_row-requires-2 c κs = search rules
+
+overflow_mul-result : tie.Need-overflow_mul-result
+overflow_mul-result c = search rules
+
+overflow_add-result : tie.Need-overflow_add-result
+overflow_add-result c = search rules
+
+asked_row-requires-3 : tie.Need-asked_row-requires-3
+asked_row-requires-3 c κs = search rules
+
+overflow_mul-result-2 : tie.Need-overflow_mul-result-2
+overflow_mul-result-2 c = search rules
+
+overflow_add-result-2 : tie.Need-overflow_add-result-2
+overflow_add-result-2 c = search rules
+
 returns : tie.Need-returns
 unfolding asked_cells
-returns c = rw (sym c.before.fits2.ensures ∙ not-true _ c.if1.true)
-
-asked-row-requires : tie.Need-asked-row-requires
-asked-row-requires c κs = search rules
-
-asked-row-requires-2 : tie.Need-asked-row-requires-2
-asked-row-requires-2 c κs = search rules
-
-mul-result : tie.Need-overflow-mul-result
-mul-result c = search rules
-
-add-result : tie.Need-overflow-add-result
-add-result c = search rules
-
-asked-row-requires-3 : tie.Need-asked-row-requires-3
-asked-row-requires-3 c κs = search rules
-
-mul-result-2 : tie.Need-overflow-mul-result-2
-mul-result-2 c = search rules
-
-add-result-2 : tie.Need-overflow-add-result-2
-add-result-2 c = search rules
-
-returns-2 : tie.Need-returns-2
-unfolding asked_cells
-returns-2 c =
+returns c =
     let d = c.before.before in
     let asked = d.before in
-    rw (sym asked.before.fits2.ensures ∙ not-false _ asked.if1.false) (omega (arith, d.asked-row.ensures.0, c.before.asked-row2.ensures.0, c.asked-row3.ensures.0))
+    rw (sym asked.fits2.ensures ∙ not-false _ asked.if-not-fits.false-raw) (omega (arith, d.asked_row.ensures.0, c.asked_row-2.ensures.0, c.asked_row-3.ensures.0))
 
-pub asked-cells-spec : {M : Type 1} → statement M
-asked-cells-spec =
+pub asked_cells_spec : {M : Type 1} → statement M
+asked_cells_spec =
     tie.close
     (tie.spec
-    shared-slice-read-fits
+    bounds-p-8
     fits-requires
-    returns
-    asked-row-requires
-    asked-row-requires-2
-    mul-result
-    add-result
-    asked-row-requires-3
-    mul-result-2
-    add-result-2
-    returns-2)
+    returns-then-not-fits
+    asked_row-requires
+    asked_row-requires-2
+    overflow_mul-result
+    overflow_add-result
+    asked_row-requires-3
+    overflow_mul-result-2
+    overflow_add-result-2
+    returns)

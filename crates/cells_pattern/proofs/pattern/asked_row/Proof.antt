@@ -9,64 +9,64 @@ use Rattle.cells_pattern.proofs.Three.{first_at}
 use Rattle.cells_pattern.proofs.pattern.asked_row.Statement.{statement}
 use Rattle.cells_pattern.proofs.pattern.asked_row.Tie as tie
 
-shared-slice-read-asked : tie.Need-shared-slice-read-asked
-shared-slice-read-asked c = search rules
+bounds-p-at : tie.Need-bounds-p-at
+bounds-p-at c = search rules
 
 asked-requires : tie.Need-asked-requires
 asked-requires c κs = search rules
 
-add-asked : tie.Need-overflow-add-asked
-add-asked c = search rules
+overflow_add-at : tie.Need-overflow_add-at
+overflow_add-at c = search rules
 
-shared-slice-read-asked-2 : tie.Need-shared-slice-read-asked-2
-shared-slice-read-asked-2 c = search rules
+bounds-p-at-2 : tie.Need-bounds-p-at-2
+bounds-p-at-2 c = search rules
 
 asked-requires-2 : tie.Need-asked-requires-2
 asked-requires-2 c κs = search rules
 
-mul-result : tie.Need-overflow-mul-result
-mul-result c = search rules
+overflow_mul-result : tie.Need-overflow_mul-result
+overflow_mul-result c = search rules
 
-add-result : tie.Need-overflow-add-result
-add-result c = search rules
+overflow_add-result : tie.Need-overflow_add-result
+overflow_add-result c = search rules
 
-add-asked-2 : tie.Need-overflow-add-asked-2
-add-asked-2 c = search rules
+overflow_add-at-2 : tie.Need-overflow_add-at-2
+overflow_add-at-2 c = search rules
 
-shared-slice-read-asked-3 : tie.Need-shared-slice-read-asked-3
-shared-slice-read-asked-3 c = search rules
+bounds-p-at-3 : tie.Need-bounds-p-at-3
+bounds-p-at-3 c = search rules
 
 asked-requires-3 : tie.Need-asked-requires-3
 asked-requires-3 c κs = search rules
 
-mul-result-2 : tie.Need-overflow-mul-result-2
-mul-result-2 c = search rules
+overflow_mul-result-2 : tie.Need-overflow_mul-result-2
+overflow_mul-result-2 c = search rules
 
-add-result-2 : tie.Need-overflow-add-result-2
-add-result-2 c = search rules
+overflow_add-result-2 : tie.Need-overflow_add-result-2
+overflow_add-result-2 c = search rules
 
 returns : tie.Need-returns
 returns c =
-    let z = c.before.before.before.before.before.before.before.args in
-    let a = c.before.before.before.before.asked.ensures in
-    let b = c.before.before.asked2.ensures in
-    let d = c.asked3.ensures in
+    let z = c.args in
+    let a = c.asked.ensures in
+    let b = c.asked-2.ensures in
+    let d = c.asked-3.ensures in
     (omega (arith, a.0 ∙ ap (λ n. bit (asks (get_or z.p.now n 0))) (first_at z.at), b.0, d.0), omega (arith, a.1, b.1, d.1))
 
-pub asked-row-spec : {M : Type 1} → statement M
-asked-row-spec =
+pub asked_row_spec : {M : Type 1} → statement M
+asked_row_spec =
     tie.close
     (tie.spec
-    shared-slice-read-asked
+    bounds-p-at
     asked-requires
-    add-asked
-    shared-slice-read-asked-2
+    overflow_add-at
+    bounds-p-at-2
     asked-requires-2
-    mul-result
-    add-result
-    add-asked-2
-    shared-slice-read-asked-3
+    overflow_mul-result
+    overflow_add-result
+    overflow_add-at-2
+    bounds-p-at-3
     asked-requires-3
-    mul-result-2
-    add-result-2
+    overflow_mul-result-2
+    overflow_add-result-2
     returns)

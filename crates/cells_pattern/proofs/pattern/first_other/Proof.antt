@@ -14,10 +14,10 @@ use Rattle.cells_pattern.specs.Pattern.{is_character, first_other}
 use Rattle.cells_pattern.proofs.pattern.first_other.Statement.{statement}
 use Rattle.cells_pattern.proofs.pattern.first_other.Tie as tie
 
-abbrev invariant_loop : tie.invariant-loop
+abbrev invariant_loop : tie.invariant-loop-at
 invariant_loop p at₀ at = (at ≤ length p) × (first_other (drop at p) at ≡ first_other p 0)
 
-abbrev decreases_loop : tie.decreases-loop
+abbrev decreases_loop : tie.decreases-loop-at
 decreases_loop p at₀ at = length p - at
 
 -- the character that is next
@@ -35,53 +35,53 @@ module _ (p : List ℕ) (at : ℕ) (h : at < length p) (so_far : first_other (dr
   by_next : {v : Bool} → b ≡ v → first_other p 0 ≡ cond v (first_other (drop (at + 1) p) (at + 1)) (At at)
   by_next q = sym so_far ∙ step p at h ∙ ap (λ b. cond b (first_other (drop (at + 1) p) (at + 1)) (At at)) (sym e ∙ q)
 
-loop-holds : tie.Need-loop-init invariant_loop decreases_loop
-loop-holds c = (omega arith, refl)
+loop-at-init : tie.Need-loop-at-init invariant_loop decreases_loop
+loop-at-init c = (omega arith, refl)
 
-shared-slice-read-is-character : tie.Need-shared-slice-read-is-character invariant_loop decreases_loop
-shared-slice-read-is-character c = omega arith
+bounds-p-at : tie.Need-bounds-p-at invariant_loop decreases_loop
+bounds-p-at c = omega arith
 
-is-character-requires : tie.Need-is-character-requires invariant_loop decreases_loop
-is-character-requires c κs = tt
+is_character-requires : tie.Need-is_character-requires invariant_loop decreases_loop
+is_character-requires c κs = tt
+
+returns-then-not-is_character : tie.Need-returns-then-not-is_character invariant_loop decreases_loop
+returns-then-not-is_character c =
+    let h = c.before.before.before.before in
+    let p = h.args.p.now in
+    let t : h.loop-at.at < length p = omega arith in
+    sym (by_next p h.loop-at.at t h.loop-at.invariant.1 c.is_character.ensures (not-true _ c.if-not-is_character.true-raw))
+
+overflow_add-at : tie.Need-overflow_add-at invariant_loop decreases_loop
+overflow_add-at c = omega arith
+
+loop-at-smaller : tie.Need-loop-at-smaller invariant_loop decreases_loop
+loop-at-smaller c = omega arith
+
+loop-at-preserved : tie.Need-loop-at-preserved invariant_loop decreases_loop
+loop-at-preserved c =
+    let h = c.before.before.before.before in
+    let p = h.args.p.now in
+    let t : h.loop-at.at < length p = omega arith in
+    (omega arith, sym (by_next p h.loop-at.at t h.loop-at.invariant.1 c.is_character.ensures (not-false _ c.if-not-is_character.false-raw)))
 
 returns : tie.Need-returns invariant_loop decreases_loop
 returns c =
-    let h = c.before.before.before.before in
-    let p = h.before.before.args.p.now in
-    let t : h.loop.at < length p = omega arith in
-    sym (by_next p h.loop.at t h.loop.invariant.1 c.before.is-character.ensures (not-true _ c.if1.true))
-
-add_at : tie.Need-overflow-add-at invariant_loop decreases_loop
-add_at c = omega arith
-
-loop-less : tie.Need-loop-smaller invariant_loop decreases_loop
-loop-less c = omega arith
-
-loop-again : tie.Need-loop-preserved invariant_loop decreases_loop
-loop-again c =
-    let h = c.before.before.before.before in
-    let p = h.before.before.args.p.now in
-    let t : h.loop.at < length p = omega arith in
-    (omega arith, sym (by_next p h.loop.at t h.loop.invariant.1 c.before.is-character.ensures (not-false _ c.if1.false)))
-
-returns-2 : tie.Need-returns-2 invariant_loop decreases_loop
-returns-2 c =
-    let h = c.before.loop in
-    let p = c.before.before.before.args.p.now in
+    let h = c.loop-at in
+    let p = c.args.p.now in
     let t : length p ≤ h.at = omega arith in
     sym (none_left p h.at h.at t) ∙ h.invariant.1
 
-pub first-other-spec : {M : Type 1} → statement M
-first-other-spec =
+pub first_other_spec : {M : Type 1} → statement M
+first_other_spec =
     tie.close
     (tie.spec
     invariant_loop
     decreases_loop
-    loop-holds
-    shared-slice-read-is-character
-    is-character-requires
-    returns
-    add_at
-    loop-less
-    loop-again
-    returns-2)
+    loop-at-init
+    bounds-p-at
+    is_character-requires
+    returns-then-not-is_character
+    overflow_add-at
+    loop-at-smaller
+    loop-at-preserved
+    returns)

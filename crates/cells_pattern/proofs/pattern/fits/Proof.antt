@@ -16,24 +16,24 @@ any_but_f Points = refl
 any_but_f Length = refl
 any_but_f Area = refl
 
-sign-requires : tie.Need-sign-requires
-sign-requires c κs = search rules
+sign-own-requires : tie.Need-sign-own-requires
+sign-own-requires c κs = search rules
 
-is-sign-requires : tie.Need-is-sign-requires
-is-sign-requires c κs = search rules
+is_sign-requires : tie.Need-is_sign-requires
+is_sign-requires c κs = search rules
 
-returns : tie.Need-returns
-returns c = rw (eq-eqb _ _ c.if1.true) (ap (λ n. not (eqb n 70)) c.before.sign.ensures ∙ any_but_f c.before.before.args.cell)
+returns-then-c-eq84 : tie.Need-returns-then-c-eq84
+returns-then-c-eq84 c = rw (eq-eqb _ _ c.if-c-eq84.true) (ap (λ n. not (eqb n 70)) c.sign-own.ensures ∙ any_but_f c.args.cell)
 
-returns-2 : tie.Need-returns-2
-returns-2 c =
+returns-then-is_sign : tie.Need-returns-then-is_sign
+returns-then-is_sign c =
     let asked = c.before in
-    rw (ne_eqb _ _ asked.before.if1.false, sym asked.is-sign.ensures ∙ c.if2.true) (ap (eqb _) asked.before.before.sign.ensures)
+    rw (ne_eqb _ _ asked.if-c-eq84.false, sym asked.is_sign.ensures ∙ c.if-is_sign.true) (ap (eqb _) asked.sign-own.ensures)
 
-returns-3 : tie.Need-returns-3
-returns-3 c =
+returns-else-is_sign : tie.Need-returns-else-is_sign
+returns-else-is_sign c =
     let asked = c.before in
-    rw (ne_eqb _ _ asked.before.if1.false, sym asked.is-sign.ensures ∙ c.if2.false)
+    rw (ne_eqb _ _ asked.if-c-eq84.false, sym asked.is_sign.ensures ∙ c.if-is_sign.false)
 
-pub fits-spec : {M : Type 1} → statement M
-fits-spec = tie.close (tie.spec sign-requires is-sign-requires returns returns-2 returns-3)
+pub fits_spec : {M : Type 1} → statement M
+fits_spec = tie.close (tie.spec sign-own-requires is_sign-requires returns-then-c-eq84 returns-then-is_sign returns-else-is_sign)

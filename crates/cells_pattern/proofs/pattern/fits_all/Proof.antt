@@ -5,36 +5,36 @@ use Rattle.cells_pattern.proofs.Three.{all_three}
 use Rattle.cells_pattern.proofs.pattern.fits_all.Statement.{statement}
 use Rattle.cells_pattern.proofs.pattern.fits_all.Tie as tie
 
-array-copy-out-fits-row : tie.Need-array-copy-out-fits-row
-array-copy-out-fits-row c = search rules
+bounds-m-0 : tie.Need-bounds-m-0
+bounds-m-0 c = search rules
 
-fits-row-requires : tie.Need-fits-row-requires
-fits-row-requires c κs = search rules
+fits_row-requires : tie.Need-fits_row-requires
+fits_row-requires c κs = search rules
 
-array-copy-out-fits-row-2 : tie.Need-array-copy-out-fits-row-2
-array-copy-out-fits-row-2 c = search rules
+bounds-m-1 : tie.Need-bounds-m-1
+bounds-m-1 c = search rules
 
-fits-row-requires-2 : tie.Need-fits-row-requires-2
-fits-row-requires-2 c κs = search rules
+fits_row-requires-2 : tie.Need-fits_row-requires-2
+fits_row-requires-2 c κs = search rules
 
-array-copy-out-fits-row-3 : tie.Need-array-copy-out-fits-row-3
-array-copy-out-fits-row-3 c = search rules
+bounds-m-2 : tie.Need-bounds-m-2
+bounds-m-2 c = search rules
 
-fits-row-requires-3 : tie.Need-fits-row-requires-3
-fits-row-requires-3 c κs = search rules
+fits_row-requires-3 : tie.Need-fits_row-requires-3
+fits_row-requires-3 c κs = search rules
 
 returns : tie.Need-returns
 unfolding fits_all
-returns c = all_three c.before.before.before.before.fits-row.ensures c.before.before.fits-row2.ensures c.fits-row3.ensures
+returns c = all_three c.fits_row.ensures c.fits_row-2.ensures c.fits_row-3.ensures
 
-pub fits-all-spec : {M : Type 1} → statement M
-fits-all-spec =
+pub fits_all_spec : {M : Type 1} → statement M
+fits_all_spec =
     tie.close
     (tie.spec
-    array-copy-out-fits-row
-    fits-row-requires
-    array-copy-out-fits-row-2
-    fits-row-requires-2
-    array-copy-out-fits-row-3
-    fits-row-requires-3
+    bounds-m-0
+    fits_row-requires
+    bounds-m-1
+    fits_row-requires-2
+    bounds-m-2
+    fits_row-requires-3
     returns)

@@ -8,35 +8,35 @@ use Rattle.cells_pattern.proofs.Three.{first_at, all_three}
 use Rattle.cells_pattern.proofs.pattern.fits_row.Statement.{statement}
 use Rattle.cells_pattern.proofs.pattern.fits_row.Tie as tie
 
-shared-slice-read-fits : tie.Need-shared-slice-read-fits
-shared-slice-read-fits c = search rules
+bounds-p-at : tie.Need-bounds-p-at
+bounds-p-at c = search rules
 
-array-copy-out-fits : tie.Need-array-copy-out-fits
-array-copy-out-fits c = search rules
+bounds-row-0 : tie.Need-bounds-row-0
+bounds-row-0 c = search rules
 
 fits-requires : tie.Need-fits-requires
 fits-requires c κs = search rules
 
-add-fits : tie.Need-overflow-add-fits
-add-fits c = search rules
+overflow_add-at : tie.Need-overflow_add-at
+overflow_add-at c = search rules
 
-shared-slice-read-fits-2 : tie.Need-shared-slice-read-fits-2
-shared-slice-read-fits-2 c = search rules
+bounds-p-at-2 : tie.Need-bounds-p-at-2
+bounds-p-at-2 c = search rules
 
-array-copy-out-fits-2 : tie.Need-array-copy-out-fits-2
-array-copy-out-fits-2 c = search rules
+bounds-row-1 : tie.Need-bounds-row-1
+bounds-row-1 c = search rules
 
 fits-requires-2 : tie.Need-fits-requires-2
 fits-requires-2 c κs = search rules
 
-add-fits-2 : tie.Need-overflow-add-fits-2
-add-fits-2 c = search rules
+overflow_add-at-2 : tie.Need-overflow_add-at-2
+overflow_add-at-2 c = search rules
 
-shared-slice-read-fits-3 : tie.Need-shared-slice-read-fits-3
-shared-slice-read-fits-3 c = search rules
+bounds-p-at-3 : tie.Need-bounds-p-at-3
+bounds-p-at-3 c = search rules
 
-array-copy-out-fits-3 : tie.Need-array-copy-out-fits-3
-array-copy-out-fits-3 c = search rules
+bounds-row-2 : tie.Need-bounds-row-2
+bounds-row-2 c = search rules
 
 fits-requires-3 : tie.Need-fits-requires-3
 fits-requires-3 c κs = search rules
@@ -45,22 +45,22 @@ returns : tie.Need-returns
 returns c =
     let second = c.before.before.before in
     let first = second.before.before.before in
-    let z = first.before.before.before.before.args in
-    all_three (first.fits2.ensures ∙ ap (λ n. fits (get_or z.p.now n 0) (get_or z.t3 0 Empty)) (first_at z.at)) second.fits3.ensures c.fits4.ensures
+    let z = first.args in
+    all_three (first.fits.ensures ∙ ap (λ n. fits (get_or z.p.now n 0) (get_or z.t3 0 Empty)) (first_at z.at)) second.fits-3.ensures c.fits4.ensures
 
-pub fits-row-spec : {M : Type 1} → statement M
-fits-row-spec =
+pub fits_row_spec : {M : Type 1} → statement M
+fits_row_spec =
     tie.close
     (tie.spec
-    shared-slice-read-fits
-    array-copy-out-fits
+    bounds-p-at
+    bounds-row-0
     fits-requires
-    add-fits
-    shared-slice-read-fits-2
-    array-copy-out-fits-2
+    overflow_add-at
+    bounds-p-at-2
+    bounds-row-1
     fits-requires-2
-    add-fits-2
-    shared-slice-read-fits-3
-    array-copy-out-fits-3
+    overflow_add-at-2
+    bounds-p-at-3
+    bounds-row-2
     fits-requires-3
     returns)

@@ -3,11 +3,11 @@ use borrow.Author.Rules.{rules}
 use Rattle.cells_pattern.proofs.pattern.is_character.Statement.{statement}
 use Rattle.cells_pattern.proofs.pattern.is_character.Tie as tie
 
-is-sign-requires : tie.Need-is-sign-requires
-is-sign-requires c κs = search rules
+is_sign-requires : tie.Need-is_sign-requires
+is_sign-requires c κs = search rules
 
 returns : tie.Need-returns
 returns c = cc
 
-pub is-character-spec : {M : Type 1} → statement M
-is-character-spec = tie.close (tie.spec is-sign-requires returns)
+pub is_character_spec : {M : Type 1} → statement M
+is_character_spec = tie.close (tie.spec is_sign-requires returns)

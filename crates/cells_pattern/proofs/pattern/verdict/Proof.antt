@@ -9,31 +9,31 @@ use Rattle.cells_pattern.proofs.Checked.{not_nine_lem, nine}
 use Rattle.cells_pattern.proofs.pattern.verdict.Statement.{statement}
 use Rattle.cells_pattern.proofs.pattern.verdict.Tie as tie
 
-returns : tie.Need-returns
-returns c = not_nine_lem c.before.before.args.p.now (ne_eqb _ _ c.if1.true)
+returns-then-p-ne9 : tie.Need-returns-then-p-ne9
+returns-then-p-ne9 c = not_nine_lem c.args.p.now (ne_eqb _ _ c.if-p-ne9.true)
 
-first-other-requires : tie.Need-first-other-requires
-first-other-requires c κs = search rules
+first_other-requires : tie.Need-first_other-requires
+first_other-requires c κs = search rules
 
-enum-known-place : tie.Need-enum-known-place
-enum-known-place c = search rules
+enum_known-place : tie.Need-enum_known-place
+enum_known-place c = search rules
 
-enum_told : tie.Need-enum-told
-enum_told c = search rules
+enum_told-1 : tie.Need-enum_told-1
+enum_told-1 c = search rules
 
-returns-2 : tie.Need-returns-2
-returns-2 c =
-    let d = c.before.before.before in
-    let z = d.before.before.before.args in
-    sym (ap (λ (f : Fault). decide Refused 23 f Sound) (sym d.first-other.ensures ∙ c.before.place.given.1)) ∙ nine z.p.now (eq-eqb _ _ d.before.if1.false)
+returns-in-At : tie.Need-returns-in-At
+returns-in-At c =
+    let d = c.before in
+    let z = d.args in
+    sym (ap (λ (f : Fault). decide Refused 23 f Sound) (sym d.first_other.ensures ∙ c.in-At.is)) ∙ nine z.p.now (eq-eqb _ _ d.if-p-ne9.false)
 
-returns-3 : tie.Need-returns-3
-returns-3 c =
-    let d = c.before.before in
-    let z = d.before.before.before.args in
-    sym (ap (λ (f : Fault). decide Refused 23 f Sound) (sym d.first-other.ensures ∙ c.enum_told.given.1)) ∙ nine z.p.now (eq-eqb _ _ d.before.if1.false)
+returns-in-Nothing : tie.Need-returns-in-Nothing
+returns-in-Nothing c =
+    let d = c.before in
+    let z = d.args in
+    sym (ap (λ (f : Fault). decide Refused 23 f Sound) (sym d.first_other.ensures ∙ c.in-Nothing.is)) ∙ nine z.p.now (eq-eqb _ _ d.if-p-ne9.false)
 
-pub verdict-spec : {M : Type 1} → statement M
-verdict-spec =
+pub verdict_spec : {M : Type 1} → statement M
+verdict_spec =
     tie.close
-    (tie.spec returns first-other-requires enum-known-place enum_told returns-2 returns-3)
+    (tie.spec returns-then-p-ne9 first_other-requires enum_known-place enum_told-1 returns-in-At returns-in-Nothing)

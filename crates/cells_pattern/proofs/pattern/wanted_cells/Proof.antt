@@ -6,23 +6,23 @@ use Rattle.cells_pattern.proofs.Checked.{sound_nine}
 use Rattle.cells_pattern.proofs.pattern.wanted_cells.Statement.{statement}
 use Rattle.cells_pattern.proofs.pattern.wanted_cells.Tie as tie
 
-enum_told : tie.Need-enum-told
-enum_told c = search rules
+enum_told-1 : tie.Need-enum_told-1
+enum_told-1 c = search rules
 
-asked-cells-requires : tie.Need-asked-cells-requires
-asked-cells-requires c κs =
-    let z = c.before.before.before in
-    sound_nine z.args.p.now (sym z.requires ∙ c.enum_told.given.1)
+asked_cells-requires : tie.Need-asked_cells-requires
+asked_cells-requires c κs =
+    let z = c.before.before in
+    sound_nine z.args.p.now (sym z.requires ∙ c.in-Sound.is)
 
-enum-told-2 : tie.Need-enum-told-2
-enum-told-2 c = search rules
+enum_told-in-Refused : tie.Need-enum_told-in-Refused
+enum_told-in-Refused c = search rules
 
-returns : tie.Need-returns
-returns c = c.asked-cells.ensures ∙ sym (ap (wanted_cells c.before.before.before.before.args.p.now) c.before.enum_told.given.1)
+returns-in-Sound : tie.Need-returns-in-Sound
+returns-in-Sound c = c.asked_cells.ensures ∙ sym (ap (wanted_cells c.args.p.now) c.in-Sound.is)
 
-returns-2 : tie.Need-returns-2
-returns-2 c = search rules
+returns-in-Refused : tie.Need-returns-in-Refused
+returns-in-Refused c = search rules
 
-pub wanted-cells-spec : {M : Type 1} → statement M
-wanted-cells-spec =
-    tie.close (tie.spec enum_told asked-cells-requires enum-told-2 returns returns-2)
+pub wanted_cells_spec : {M : Type 1} → statement M
+wanted_cells_spec =
+    tie.close (tie.spec enum_told-1 asked_cells-requires enum_told-in-Refused returns-in-Sound returns-in-Refused)

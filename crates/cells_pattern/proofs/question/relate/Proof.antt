@@ -26,82 +26,82 @@ module _ (c : tie.After-answer) where
   pattern = z.args.p.now
 
   abbrev judged : Verdict
-  judged = c.before.before.verdict.result
+  judged = c.verdict-verdict.result
 
   verdict_is : pattern_verdict pattern ≡ judged
-  verdict_is = sym c.before.before.verdict.ensures
+  verdict_is = sym c.verdict-verdict.ensures
 
-verdict-requires : tie.Need-verdict-requires
-verdict-requires c κs = tt
+verdict-verdict-requires : tie.Need-verdict-verdict-requires
+verdict-verdict-requires c κs = tt
 
-wanted-cells-requires : tie.Need-wanted-cells-requires
-wanted-cells-requires c κs = c.verdict.ensures
+wanted_cells-cells-requires : tie.Need-wanted_cells-cells-requires
+wanted_cells-cells-requires c κs = c.verdict-verdict.ensures
 
 answer-requires : tie.Need-answer-requires
 answer-requires c κs = tt
 
-enum-known-r : tie.Need-enum-known-r
-enum-known-r c = search rules
+enum_known-r : tie.Need-enum_known-r
+enum_known-r c = search rules
 
-enum-known-scene : tie.Need-enum-known-scene
-enum-known-scene c = search rules
+enum_known-scene : tie.Need-enum_known-scene
+enum_known-scene c = search rules
 
-enum-known-verdict : tie.Need-enum-known-verdict
-enum-known-verdict c = search rules
+enum_known-verdict : tie.Need-enum_known-verdict
+enum_known-verdict c = search rules
 
-enum_told : tie.Need-enum-told
-enum_told c = search rules
+enum_told-1 : tie.Need-enum_told-1
+enum_told-1 c = search rules
 
-explored-requires : tie.Need-explored-requires
-explored-requires c κs = tt
+explored-explored-requires : tie.Need-explored-explored-requires
+explored-explored-requires c κs = tt
 
 matrix-requires : tie.Need-matrix-requires
 matrix-requires c κs = tt
 
-fits-all-requires : tie.Need-fits-all-requires
-fits-all-requires c κs =
+fits_all-requires : tie.Need-fits_all-requires
+fits_all-requires c κs =
     let told = c.before.before in
-    let a = told.before.before.before.before.before in
-    sound_nine (pattern a) (verdict_is a ∙ told.enum_told.given.1)
+    let a = told.before.before in
+    sound_nine (pattern a) (verdict_is a ∙ told.in-Sound.is)
 
-returns : tie.Need-returns
-returns c =
-    let k = c.before in
-    let a = k.before.before in
-    scene_refused (scene a) (pattern a) a.before.wanted-cells.result a.answer.ensures k.r.given.0.0 k.r.given.1
+returns-in-Refused : tie.Need-returns-in-Refused
+returns-in-Refused c =
+    let k = c in
+    let a = k.before in
+    scene_refused (scene a) (pattern a) a.wanted_cells-cells.result a.answer.ensures k.in-Refused.r k.in-Refused.is
 
-returns-2 : tie.Need-returns-2
-returns-2 c =
+returns-in-Refused-verdict : tie.Need-returns-in-Refused-verdict
+returns-in-Refused-verdict c =
     let v = c.before in
     let k = v.before.before.before in
     let a = k.before.before in
-    pattern_refused (scene a) (pattern a) a.before.wanted-cells.result a.answer.ensures k.scene.given.0.0 k.scene.given.0.1.0 k.scene.given.1
-    v.verdict2.given.0.0 (verdict_is a ∙ v.verdict2.given.1)
+    pattern_refused (scene a) (pattern a) a.wanted_cells-cells.result a.answer.ensures k.in-Taken.scene k.in-Taken.vectors k.in-Taken.is
+    v.in-Refused-verdict.r (verdict_is a ∙ v.in-Refused-verdict.is)
 
-returns-3 : tie.Need-returns-3
-returns-3 c =
+returns-in-Sound : tie.Need-returns-in-Sound
+returns-in-Sound c =
     let told = c.before.before.before in
     let k = told.before.before.before in
     let a = k.before.before in
-    let sound : judged a ≡ Sound = told.enum_told.given.1 in
-    both_taken (scene a) (pattern a) a.before.wanted-cells.result a.answer.ensures k.scene.given.0.0 k.scene.given.0.1.0 k.scene.given.1
-    (verdict_is a ∙ sound) (a.before.wanted-cells.ensures ∙ ap (wanted_cells (pattern a)) sound)
-    (c.fits_all.ensures ∙ ap (fits_all (pattern a)) (c.before.matrix.ensures ∙ ap (λ (e : Explored). matrix_from e) c.before.before.explored.ensures))
+    let sound : judged a ≡ Sound = told.in-Sound.is in
+    both_taken (scene a) (pattern a) a.wanted_cells-cells.result a.answer.ensures k.in-Taken.scene k.in-Taken.vectors k.in-Taken.is
+    (verdict_is a ∙ sound) (a.wanted_cells-cells.ensures ∙ ap (wanted_cells (pattern a)) sound)
+    (c.fits_all.ensures ∙ ap (fits_all (pattern a)) (c.matrix.ensures ∙ ap (λ (e : Explored). matrix_from e) c.explored-explored.ensures))
 
-pub relate-spec : {M : Type 1} → statement M
-relate-spec =
+pub relate_spec : {M : Type 1} → statement M
+relate_spec =
     tie.close
     (tie.spec
-    verdict-requires
-    wanted-cells-requires
+    verdict-verdict-requires
+    wanted_cells-cells-requires
     answer-requires
-    enum-known-r
-    enum-known-scene
-    enum-known-verdict
-    enum_told
-    explored-requires
+    enum_known-r
+    enum_known-scene
+    enum_known-verdict
+    enum_told-1
+    explored-explored-requires
     matrix-requires
-    fits-all-requires
-    returns
-    returns-2
-    returns-3)
+    fits_all-requires
+    returns-in-Refused
+    returns-in-Refused-verdict
+    returns-in-Sound)

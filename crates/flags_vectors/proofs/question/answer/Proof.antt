@@ -17,120 +17,120 @@ use Rattle.flags_vectors.proofs.question.answer.Statement.{statement}
 use Rattle.flags_vectors.proofs.question.answer.Tie as tie
 
 -- a scene that was read
-module _ (c : tie.After-known-told2) where
+module _ (c : tie.In-Taken) where
   abbrev z : tie.Start
-  z = c.before.before.before.before.before
+  z = c.before.before.before
 
   abbrev bytes : List ℕ
   bytes = z.args.s.now
 
   abbrev scene : Scene
-  scene = c.before.scene.given.0.0
+  scene = c.in-Taken.scene
 
   read : IsScene bytes scene
-  read = sym c.before.before.before.read-scene.ensures ∙ c.before.scene.given.1
+  read = sym c.read_scene.ensures ∙ c.in-Taken.is
 
   -- what is wanted of it
   abbrev masks : FlagMasks
   masks = masks_for z.args.wanted scene
 
 -- and that the sweep was asked about
-module _ (c : tie.After-noted-verdict) where
-  abbrev asked : tie.After-masks-for
+module _ (c : tie.After-noted_verdict) where
+  abbrev asked : tie.After-masks_for-masks
   asked = c.before.before.before.before
 
-  abbrev its : tie.After-known-told2
+  abbrev its : tie.In-Taken
   its = asked.before
 
   tidy : stray_in (scene its) (masks its) ≡ false
-  tidy = sym (c.before.before.before.any-stray.ensures ∙ ap (stray_in (scene its)) asked.masks-for.ensures) ∙ c.before.before.if1.false
+  tidy = sym (c.any_stray.ensures ∙ ap (stray_in (scene its)) asked.masks_for-masks.ensures) ∙ c.if-any_stray.false
 
-  judged : geometry_verdict (bytes its) (scene its) ≡ c.noted-verdict.result
-  judged = sym c.noted-verdict.ensures.1
+  judged : geometry_verdict (bytes its) (scene its) ≡ c.noted_verdict.result
+  judged = sym c.noted_verdict.ensures.1
 
-read-scene-requires : tie.Need-read-scene-requires
-read-scene-requires c κs = search rules
+read_scene-requires : tie.Need-read_scene-requires
+read_scene-requires c κs = search rules
 
-enum-known-r : tie.Need-enum-known-r
-enum-known-r c = search rules
+enum_known-r : tie.Need-enum_known-r
+enum_known-r c = search rules
 
-enum-known-scene : tie.Need-enum-known-scene
-enum-known-scene c = search rules
+enum_known-scene : tie.Need-enum_known-scene
+enum_known-scene c = search rules
 
-masks-for-requires : tie.Need-masks-for-requires
-masks-for-requires c κs = search rules
+masks_for-masks-requires : tie.Need-masks_for-masks-requires
+masks_for-masks-requires c κs = search rules
 
-any-stray-requires : tie.Need-any-stray-requires
-any-stray-requires c κs = search rules
+any_stray-requires : tie.Need-any_stray-requires
+any_stray-requires c κs = search rules
 
-returns : tie.Need-returns
-returns c =
+returns-then-any_stray : tie.Need-returns-then-any_stray
+returns-then-any_stray c =
     let e = c.before.before in
     let d = e.before in
-    stray (bytes d) (scene d) (read d) (z d).args.wanted (sym (c.before.any-stray.ensures ∙ ap (stray_in (scene d)) e.masks-for.ensures) ∙ c.if1.true)
+    stray (bytes d) (scene d) (read d) (z d).args.wanted (sym (c.any_stray.ensures ∙ ap (stray_in (scene d)) e.masks_for-masks.ensures) ∙ c.if-any_stray.true)
 
-slice-aggregate-noted-verdict : tie.Need-slice-aggregate-noted-verdict
-slice-aggregate-noted-verdict c = search rules
+slice_bounds-noted_verdict-end : tie.Need-slice_bounds-noted_verdict-end
+slice_bounds-noted_verdict-end c = search rules
 
-noted-verdict-requires : tie.Need-noted-verdict-requires
-noted-verdict-requires c κs = (read c.before.before.before.before, omega arith)
+noted_verdict-requires : tie.Need-noted_verdict-requires
+noted_verdict-requires c κs = (read c.before.before.before.before, omega arith)
 
-enum_told : tie.Need-enum-told
-enum_told c = search rules
+enum_told-1 : tie.Need-enum_told-1
+enum_told-1 c = search rules
 
-slice-aggregate-swept-vectors : tie.Need-slice-aggregate-swept-vectors
-slice-aggregate-swept-vectors c = search rules
+slice_bounds-swept_vectors-end : tie.Need-slice_bounds-swept_vectors-end
+slice_bounds-swept_vectors-end c = search rules
 
-swept-vectors-requires : tie.Need-swept-vectors-requires
-swept-vectors-requires c κs =
-    let n = c.before.before.before.before in
+swept_vectors-requires : tie.Need-swept_vectors-requires
+swept_vectors-requires c κs =
+    let n = c.before.before.before in
     let d = its n in
-    let is = c.before.enum_told.given.1 in
-    (sound (bytes d) (scene d) (read d) (judged n ∙ is), omega (arith, n.noted-verdict.ensures.0), n.noted-verdict.ensures.2 is)
+    let is = c.in-Sound.is in
+    (sound (bytes d) (scene d) (read d) (judged n ∙ is), omega (arith, n.noted_verdict.ensures.0), n.noted_verdict.ensures.2 is)
 
-as-given-requires : tie.Need-as-given-requires
-as-given-requires c κs = search rules
+as_given-requires : tie.Need-as_given-requires
+as_given-requires c κs = search rules
 
-enum-known-r-2 : tie.Need-enum-known-r-2
-enum-known-r-2 c = search rules
+enum_known-r-in-Refused-noted_verdict : tie.Need-enum_known-r-in-Refused-noted_verdict
+enum_known-r-in-Refused-noted_verdict c = search rules
 
-returns-2 : tie.Need-returns-2
-returns-2 c =
-    let d = c.before.before.before in
-    let z = d.before.before.args in
-    unread z.s.now z.wanted c.before.r.given.0.0 (sym d.read-scene.ensures ∙ c.before.r.given.1)
+returns-in-Refused : tie.Need-returns-in-Refused
+returns-in-Refused c =
+    let d = c.before in
+    let z = d.args in
+    unread z.s.now z.wanted c.in-Refused.r (sym d.read_scene.ensures ∙ c.in-Refused.is)
 
-returns-3 : tie.Need-returns-3
-returns-3 c =
+returns-in-Sound : tie.Need-returns-in-Sound
+returns-in-Sound c =
     let v = c.before in
-    let n = v.before.before.before.before.before in
+    let n = v.before.before.before.before in
     let d = its n in
-    taken (bytes d) (scene d) (read d) (z d).args.wanted (tidy n) (judged n ∙ v.before.before.enum_told.given.1)
-    (c.as-given.ensures ∙ ap (given_vectors (scene d)) (v.swept-vectors.ensures ∙ ap (scene_vectors (bytes d) (scene d)) (asked n).masks-for.ensures))
+    taken (bytes d) (scene d) (read d) (z d).args.wanted (tidy n) (judged n ∙ v.in-Sound.is)
+    (c.as_given.ensures ∙ ap (given_vectors (scene d)) (v.swept_vectors.ensures ∙ ap (scene_vectors (bytes d) (scene d)) (asked n).masks_for-masks.ensures))
 
-returns-4 : tie.Need-returns-4
-returns-4 c =
-    let n = c.before.before.before.before in
+returns-in-Refused-noted_verdict : tie.Need-returns-in-Refused-noted_verdict
+returns-in-Refused-noted_verdict c =
+    let n = c.before.before in
     let d = its n in
-    at_fault (bytes d) (scene d) (read d) (z d).args.wanted (tidy n) c.before.r2.given.0.0 (judged n ∙ c.before.r2.given.1)
+    at_fault (bytes d) (scene d) (read d) (z d).args.wanted (tidy n) c.in-Refused-noted_verdict.r (judged n ∙ c.in-Refused-noted_verdict.is)
 
-pub answer-spec : {M : Type 1} → statement M
-answer-spec =
+pub answer_spec : {M : Type 1} → statement M
+answer_spec =
     tie.close
     (tie.spec
-    read-scene-requires
-    enum-known-r
-    enum-known-scene
-    masks-for-requires
-    any-stray-requires
-    returns
-    slice-aggregate-noted-verdict
-    noted-verdict-requires
-    enum_told
-    slice-aggregate-swept-vectors
-    swept-vectors-requires
-    as-given-requires
-    enum-known-r-2
-    returns-2
-    returns-3
-    returns-4)
+    read_scene-requires
+    enum_known-r
+    enum_known-scene
+    masks_for-masks-requires
+    any_stray-requires
+    returns-then-any_stray
+    slice_bounds-noted_verdict-end
+    noted_verdict-requires
+    enum_told-1
+    slice_bounds-swept_vectors-end
+    swept_vectors-requires
+    as_given-requires
+    enum_known-r-in-Refused-noted_verdict
+    returns-in-Refused
+    returns-in-Sound
+    returns-in-Refused-noted_verdict)

@@ -4,14 +4,14 @@ use borrow.Author.Rules.{rules}
 use Rattle.flags_vectors.proofs.question.as_given.Statement.{statement}
 use Rattle.flags_vectors.proofs.question.as_given.Tie as tie
 
-is-turned-requires : tie.Need-is-turned-requires
-is-turned-requires c κs = search rules
+is_turned-requires : tie.Need-is_turned-requires
+is_turned-requires c κs = search rules
 
-returns : tie.Need-returns
-returns c = rw (sym c.before.is_turned.ensures ∙ c.if1.true)
+returns-then-is_turned : tie.Need-returns-then-is_turned
+returns-then-is_turned c = rw (sym c.is_turned.ensures ∙ c.if-is_turned.true)
 
-returns-2 : tie.Need-returns-2
-returns-2 c = rw (sym c.before.is_turned.ensures ∙ c.if1.false)
+returns-else-is_turned : tie.Need-returns-else-is_turned
+returns-else-is_turned c = rw (sym c.is_turned.ensures ∙ c.if-is_turned.false)
 
-pub as-given-spec : {M : Type 1} → statement M
-as-given-spec = tie.close (tie.spec is-turned-requires returns returns-2)
+pub as_given_spec : {M : Type 1} → statement M
+as_given_spec = tie.close (tie.spec is_turned-requires returns-then-is_turned returns-else-is_turned)

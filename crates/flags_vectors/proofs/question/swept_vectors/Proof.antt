@@ -5,17 +5,17 @@ use Rattle.flags_vectors.proofs.Answered.{accepted, vector_f, vector_g}
 use Rattle.flags_vectors.proofs.question.swept_vectors.Statement.{statement}
 use Rattle.flags_vectors.proofs.question.swept_vectors.Tie as tie
 
-wanted-meetings-requires : tie.Need-wanted-meetings-requires
-wanted-meetings-requires c κs = search rules
+wanted_meetings-met-requires : tie.Need-wanted_meetings-met-requires
+wanted_meetings-met-requires c κs = search rules
 
-wanted-classes-requires : tie.Need-wanted-classes-requires
-wanted-classes-requires c κs = search rules
+wanted_classes-beside-requires : tie.Need-wanted_classes-beside-requires
+wanted_classes-beside-requires c κs = search rules
 
-wanted-of-f-requires : tie.Need-wanted-of-f-requires
-wanted-of-f-requires c κs = search rules
+wanted_of_f-requires : tie.Need-wanted_of_f-requires
+wanted_of_f-requires c κs = search rules
 
-wanted-of-g-requires : tie.Need-wanted-of-g-requires
-wanted-of-g-requires c κs = search rules
+wanted_of_g-requires : tie.Need-wanted_of_g-requires
+wanted_of_g-requires c κs = search rules
 
 returns : tie.Need-returns
 returns c =
@@ -26,19 +26,19 @@ returns c =
     let o = accepted z.args.s.now z.args.scene z.requires.0 in
     λ i. record {
       f =
-          (c.before.wanted-of-f.ensures
-          ∙ vector_f o z.requires.2 masks met.wanted-meetings.ensures classed.wanted-classes.ensures) i;
+          (c.wanted_of_f.ensures
+          ∙ vector_f o z.requires.2 masks met.wanted_meetings-met.ensures classed.wanted_classes-beside.ensures) i;
       g =
-          (c.wanted-of-g.ensures
-          ∙ vector_g o z.requires.2 masks met.wanted-meetings.ensures classed.wanted-classes.ensures) i;
+          (c.wanted_of_g.ensures
+          ∙ vector_g o z.requires.2 masks met.wanted_meetings-met.ensures classed.wanted_classes-beside.ensures) i;
     }
 
-pub swept-vectors-spec : {M : Type 1} → statement M
-swept-vectors-spec =
+pub swept_vectors_spec : {M : Type 1} → statement M
+swept_vectors_spec =
     tie.close
     (tie.spec
-    wanted-meetings-requires
-    wanted-classes-requires
-    wanted-of-f-requires
-    wanted-of-g-requires
+    wanted_meetings-met-requires
+    wanted_classes-beside-requires
+    wanted_of_f-requires
+    wanted_of_g-requires
     returns)

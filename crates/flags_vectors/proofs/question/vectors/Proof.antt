@@ -18,22 +18,22 @@ shown_as s f g e q = with_meaning s f g (ap vectors_alone (sym q ∙ e))
 answer-requires : tie.Need-answer-requires
 answer-requires c κs = search rules
 
-enum-known-r : tie.Need-enum-known-r
-enum-known-r c = search rules
+enum_known-r : tie.Need-enum_known-r
+enum_known-r c = search rules
 
-enum-known-vectors : tie.Need-enum-known-vectors
-enum-known-vectors c = search rules
+enum_known-vectors : tie.Need-enum_known-vectors
+enum_known-vectors c = search rules
 
-returns : tie.Need-returns
-returns c =
-    let z = c.before.before.before.before.before.args in
-    shown_as z.s.now z.want-f z.want-g c.before.before.before.answer.ensures c.before.r.given.1
+returns-in-Refused : tie.Need-returns-in-Refused
+returns-in-Refused c =
+    let z = c.args in
+    shown_as z.s.now z.want_f z.want_g c.answer.ensures c.in-Refused.is
 
-returns-2 : tie.Need-returns-2
-returns-2 c =
-    let z = c.before.before.before.before.before.args in
-    shown_as z.s.now z.want-f z.want-g c.before.before.before.answer.ensures c.before.vectors.given.1
+returns-in-Taken : tie.Need-returns-in-Taken
+returns-in-Taken c =
+    let z = c.args in
+    shown_as z.s.now z.want_f z.want_g c.answer.ensures c.in-Taken.is
 
-pub vectors-spec : {M : Type 1} → statement M
-vectors-spec =
-    tie.close (tie.spec answer-requires enum-known-r enum-known-vectors returns returns-2)
+pub vectors_spec : {M : Type 1} → statement M
+vectors_spec =
+    tie.close (tie.spec answer-requires enum_known-r enum_known-vectors returns-in-Refused returns-in-Taken)

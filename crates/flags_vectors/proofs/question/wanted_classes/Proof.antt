@@ -6,31 +6,31 @@ use Rattle.whole.proofs.Logic.{true_is}
 use Rattle.flags_vectors.proofs.question.wanted_classes.Statement.{statement}
 use Rattle.flags_vectors.proofs.question.wanted_classes.Tie as tie
 
-reads-classes-requires : tie.Need-reads-classes-requires
-reads-classes-requires c κs = search rules
+reads_classes-requires : tie.Need-reads_classes-requires
+reads_classes-requires c κs = search rules
 
-classes-of-requires : tie.Need-classes-of-requires
-classes-of-requires c κs = search rules
+classes_of-requires : tie.Need-classes_of-requires
+classes_of-requires c κs = search rules
 
 named-requires : tie.Need-named-requires
 named-requires c κs = search rules
 
-named-requires-2 : tie.Need-named-requires-2
-named-requires-2 c κs = search rules
+named-requires-else-reads_classes : tie.Need-named-requires-else-reads_classes
+named-requires-else-reads_classes c κs = search rules
 
-returns : tie.Need-returns
-returns c = search rules
+returns-then-reads_classes : tie.Need-returns-then-reads_classes
+returns-then-reads_classes c = search rules
 
-returns-2 : tie.Need-returns-2
-returns-2 c = λ t. absurd (true≢false (sym (true_is _ t) ∙ sym c.before.before.before.reads-classes.ensures ∙ c.before.before.if1.false))
+returns-else-reads_classes : tie.Need-returns-else-reads_classes
+returns-else-reads_classes c = λ t. absurd (true≢false (sym (true_is _ t) ∙ sym c.reads_classes.ensures ∙ c.if-reads_classes.false))
 
-pub wanted-classes-spec : {M : Type 1} → statement M
-wanted-classes-spec =
+pub wanted_classes_spec : {M : Type 1} → statement M
+wanted_classes_spec =
     tie.close
     (tie.spec
-    reads-classes-requires
-    classes-of-requires
+    reads_classes-requires
+    classes_of-requires
     named-requires
-    named-requires-2
-    returns
-    returns-2)
+    named-requires-else-reads_classes
+    returns-then-reads_classes
+    returns-else-reads_classes)

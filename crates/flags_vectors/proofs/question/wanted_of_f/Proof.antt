@@ -8,16 +8,16 @@ use Rattle.flags_masks.proofs.Masks.{none_wanted}
 use Rattle.flags_vectors.proofs.question.wanted_of_f.Statement.{statement}
 use Rattle.flags_vectors.proofs.question.wanted_of_f.Tie as tie
 
+returns-then-mask-eq0 : tie.Need-returns-then-mask-eq0
+returns-then-mask-eq0 c =
+    let z = c.args in
+    none_wanted z.mask (pack (flags_of_f_by z.f z.g z.m z.c)) c.if-mask-eq0.true
+
+flags_of_f-requires : tie.Need-flags_of_f-requires
+flags_of_f-requires c κs = search rules
+
 returns : tie.Need-returns
-returns c =
-    let z = c.before.args in
-    none_wanted z.mask (pack (flags_of_f_by z.f z.g z.m z.c)) c.if1.true
+returns c = ap (only c.args.mask) c.flags_of_f.ensures
 
-flags-of-f-requires : tie.Need-flags-of-f-requires
-flags-of-f-requires c κs = search rules
-
-returns-2 : tie.Need-returns-2
-returns-2 c = ap (only c.before.before.args.mask) c.flags-of-f.ensures
-
-pub wanted-of-f-spec : {M : Type 1} → statement M
-wanted-of-f-spec = tie.close (tie.spec returns flags-of-f-requires returns-2)
+pub wanted_of_f_spec : {M : Type 1} → statement M
+wanted_of_f_spec = tie.close (tie.spec returns-then-mask-eq0 flags_of_f-requires returns)

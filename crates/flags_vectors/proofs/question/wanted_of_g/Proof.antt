@@ -8,16 +8,16 @@ use Rattle.flags_masks.proofs.Masks.{none_wanted}
 use Rattle.flags_vectors.proofs.question.wanted_of_g.Statement.{statement}
 use Rattle.flags_vectors.proofs.question.wanted_of_g.Tie as tie
 
+returns-then-mask-eq0 : tie.Need-returns-then-mask-eq0
+returns-then-mask-eq0 c =
+    let z = c.args in
+    none_wanted z.mask (pack (flags_of_g_by z.f z.g z.m z.c)) c.if-mask-eq0.true
+
+flags_of_g-requires : tie.Need-flags_of_g-requires
+flags_of_g-requires c κs = search rules
+
 returns : tie.Need-returns
-returns c =
-    let z = c.before.args in
-    none_wanted z.mask (pack (flags_of_g_by z.f z.g z.m z.c)) c.if1.true
+returns c = ap (only c.args.mask) c.flags_of_g.ensures
 
-flags-of-g-requires : tie.Need-flags-of-g-requires
-flags-of-g-requires c κs = search rules
-
-returns-2 : tie.Need-returns-2
-returns-2 c = ap (only c.before.before.args.mask) c.flags-of-g.ensures
-
-pub wanted-of-g-spec : {M : Type 1} → statement M
-wanted-of-g-spec = tie.close (tie.spec returns flags-of-g-requires returns-2)
+pub wanted_of_g_spec : {M : Type 1} → statement M
+wanted_of_g_spec = tie.close (tie.spec returns-then-mask-eq0 flags_of_g-requires returns)

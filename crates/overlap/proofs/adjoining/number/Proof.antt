@@ -15,17 +15,17 @@ sums true false = omega arith
 sums false true = omega arith
 sums false false = omega arith
 
-cast-result : tie.Need-overflow-cast-result
-cast-result c = search rules
+overflow_cast-result : tie.Need-overflow_cast-result
+overflow_cast-result c = search rules
 
-cast-result-2 : tie.Need-overflow-cast-result-2
-cast-result-2 c = search rules
+overflow_cast-result-2 : tie.Need-overflow_cast-result-2
+overflow_cast-result-2 c = search rules
 
-add-result : tie.Need-overflow-add-result
-add-result c = omega (arith, (sums c.args.f c.args.g).1)
+overflow_add-result : tie.Need-overflow_add-result
+overflow_add-result c = omega (arith, (sums c.args.f c.args.g).1)
 
 returns : tie.Need-returns
 returns c = sums c.args.f c.args.g
 
-pub number-spec : {M : Type 1} → statement M
-number-spec = tie.close (tie.spec cast-result cast-result-2 add-result returns)
+pub number_spec : {M : Type 1} → statement M
+number_spec = tie.close (tie.spec overflow_cast-result overflow_cast-result-2 overflow_add-result returns)

@@ -5,11 +5,11 @@ use borrow.Author.Rules.{rules}
 use Rattle.overlap.proofs.adjoining.own_sides.Statement.{statement}
 use Rattle.overlap.proofs.adjoining.own_sides.Tie as tie
 
-is-above-requires : tie.Need-is-above-requires
-is-above-requires c κs = search rules
+is_above-above-requires : tie.Need-is_above-above-requires
+is_above-above-requires c κs = search rules
 
 returns : tie.Need-returns
-returns c = (ap not c.is-above.ensures, c.is-above.ensures)
+returns c = (ap not c.is_above-above.ensures, c.is_above-above.ensures)
 
-pub own-sides-spec : {M : Type 1} → statement M
-own-sides-spec = tie.close (tie.spec is-above-requires returns)
+pub own_sides_spec : {M : Type 1} → statement M
+own_sides_spec = tie.close (tie.spec is_above-above-requires returns)

@@ -11,94 +11,94 @@ use Rattle.overlap.proofs.refusals.check_regions.Statement.{statement}
 use Rattle.overlap.proofs.refusals.check_regions.Tie as tie
 
 -- a scene that was read
-module _ (c : tie.After-known-told2) where
+module _ (c : tie.In-Taken) where
   abbrev z : tie.Start
-  z = c.before.before.before.before.before.before
+  z = c.before.before.before.before
 
   abbrev bytes : List ℕ
   bytes = z.args.s.now
 
   abbrev scene : Scene
-  scene = c.before.scene.given.0.0
+  scene = c.in-Taken.scene
 
   read : IsScene bytes scene
-  read = sym c.before.before.before.read-scene.ensures ∙ c.before.scene.given.1
+  read = sym c.read_scene.ensures ∙ c.in-Taken.is
 
 -- and that the sweep was asked about
-module _ (c : tie.After-noted-verdict) where
-  abbrev its : tie.After-known-told2
+module _ (c : tie.After-noted_verdict) where
+  abbrev its : tie.In-Taken
   its = c.before.before
 
-  verdict_is : geometry_verdict (bytes its) (scene its) ≡ c.noted-verdict.result
-  verdict_is = sym c.noted-verdict.ensures.1
+  verdict_is : geometry_verdict (bytes its) (scene its) ≡ c.noted_verdict.result
+  verdict_is = sym c.noted_verdict.ensures.1
 
-read-scene-requires : tie.Need-read-scene-requires
-read-scene-requires c κs = search rules
+read_scene-requires : tie.Need-read_scene-requires
+read_scene-requires c κs = search rules
 
-enum-known-r : tie.Need-enum-known-r
-enum-known-r c = search rules
+enum_known-r : tie.Need-enum_known-r
+enum_known-r c = search rules
 
-enum-known-scene : tie.Need-enum-known-scene
-enum-known-scene c = search rules
+enum_known-scene : tie.Need-enum_known-scene
+enum_known-scene c = search rules
 
-noted-verdict-requires : tie.Need-noted-verdict-requires
-noted-verdict-requires c κs = let d = c.before in (read d, (z d).requires)
+noted_verdict-requires : tie.Need-noted_verdict-requires
+noted_verdict-requires c κs = let d = c.before in (read d, (z d).requires)
 
-enum_told : tie.Need-enum-told
-enum_told c = search rules
+enum_told-1 : tie.Need-enum_told-1
+enum_told-1 c = search rules
 
 judge-requires : tie.Need-judge-requires
 judge-requires c κs = search rules
 
-enum-known-r-2 : tie.Need-enum-known-r-2
-enum-known-r-2 c = search rules
+enum_known-r-in-Refused-noted_verdict : tie.Need-enum_known-r-in-Refused-noted_verdict
+enum_known-r-in-Refused-noted_verdict c = search rules
 
-returns : tie.Need-returns
-returns c =
-    let k = c.before in
-    let d = k.before.before in
-    let a = d.before.before.before.args in
-    (refl, unread a.s.now k.r.given.0.0 (sym d.read-scene.ensures ∙ k.r.given.1), not_noted)
+returns-in-Refused : tie.Need-returns-in-Refused
+returns-in-Refused c =
+    let k = c in
+    let d = k.before in
+    let a = d.args in
+    (refl, unread a.s.now k.in-Refused.r (sym d.read_scene.ensures ∙ k.in-Refused.is), not_noted)
 
-same_length : tie.Need-same-length
-same_length c = search rules
+shape_of-notes-in-Sound : tie.Need-shape_of-notes-in-Sound
+shape_of-notes-in-Sound c = search rules
 
-returns-2 : tie.Need-returns-2
-returns-2 c =
-    let n = c.before.before.before.before.before in
+returns-in-Sound : tie.Need-returns-in-Sound
+returns-in-Sound c =
+    let n = c.before.before.before.before in
     let d = its n in
-    let is = c.before.enum_told.given.1 in (
-      n.noted-verdict.ensures.0,
+    let is = c.in-Sound.is in (
+      n.noted_verdict.ensures.0,
       c.judge.ensures (bytes d) ∙ sound_regions (bytes d) (scene d) (read d) (verdict_is n ∙ is),
-      noted_judged (bytes d) (scene d) (c.judge.ensures (bytes d)) (n.noted-verdict.ensures.2 is),
+      noted_judged (bytes d) (scene d) (c.judge.ensures (bytes d)) (n.noted_verdict.ensures.2 is),
     )
 
-same-length-2 : tie.Need-same-length-2
-same-length-2 c = search rules
+shape_of-notes-in-Refused-noted_verdict : tie.Need-shape_of-notes-in-Refused-noted_verdict
+shape_of-notes-in-Refused-noted_verdict c = search rules
 
-returns-3 : tie.Need-returns-3
-returns-3 c =
+returns-in-Refused-noted_verdict : tie.Need-returns-in-Refused-noted_verdict
+returns-in-Refused-noted_verdict c =
     let k = c.before in
-    let n = k.before.before.before.before in
+    let n = k.before.before in
     let d = its n in (
-      n.noted-verdict.ensures.0,
-      at_fault (bytes d) (scene d) (read d) k.r2.given.0.0 (verdict_is n ∙ k.r2.given.1),
+      n.noted_verdict.ensures.0,
+      at_fault (bytes d) (scene d) (read d) c.in-Refused-noted_verdict.r (verdict_is n ∙ c.in-Refused-noted_verdict.is),
       not_noted,
     )
 
-pub check-regions-spec : {M : Type 1} → statement M
-check-regions-spec =
+pub check_regions_spec : {M : Type 1} → statement M
+check_regions_spec =
     tie.close
     (tie.spec
-    read-scene-requires
-    enum-known-r
-    enum-known-scene
-    noted-verdict-requires
-    enum_told
+    read_scene-requires
+    enum_known-r
+    enum_known-scene
+    noted_verdict-requires
+    enum_told-1
     judge-requires
-    enum-known-r-2
-    returns
-    same_length
-    returns-2
-    same-length-2
-    returns-3)
+    enum_known-r-in-Refused-noted_verdict
+    returns-in-Refused
+    shape_of-notes-in-Sound
+    returns-in-Sound
+    shape_of-notes-in-Refused-noted_verdict
+    returns-in-Refused-noted_verdict)

@@ -5,24 +5,24 @@ use Rattle.overlap.proofs.Checked.{sixteen, passed}
 use Rattle.overlap.proofs.refusals.judge.Statement.{statement}
 use Rattle.overlap.proofs.refusals.judge.Tie as tie
 
-regions-fault-requires : tie.Need-regions-fault-requires
-regions-fault-requires c κs = search rules
+regions_fault-requires : tie.Need-regions_fault-requires
+regions_fault-requires c κs = search rules
 
-enum-known-place : tie.Need-enum-known-place
-enum-known-place c = search rules
+enum_known-place : tie.Need-enum_known-place
+enum_known-place c = search rules
 
-enum_told : tie.Need-enum-told
-enum_told c = search rules
+enum_told-1 : tie.Need-enum_told-1
+enum_told-1 c = search rules
 
-returns : tie.Need-returns
-returns c s =
-    let d = c.before.before.before in
-    sixteen s d.before.args.scene c.before.place.given.0.0 (sym (d.regions-fault.ensures s) ∙ c.before.place.given.1)
+returns-in-At : tie.Need-returns-in-At
+returns-in-At c s =
+    let d = c.before in
+    sixteen s d.args.scene c.in-At.place (sym (d.regions_fault.ensures s) ∙ c.in-At.is)
 
-returns-2 : tie.Need-returns-2
-returns-2 c s =
-    let d = c.before.before in
-    passed s d.before.args.scene (sym (d.regions-fault.ensures s) ∙ c.enum_told.given.1)
+returns-in-Nothing : tie.Need-returns-in-Nothing
+returns-in-Nothing c s =
+    let d = c.before in
+    passed s d.args.scene (sym (d.regions_fault.ensures s) ∙ c.in-Nothing.is)
 
-pub judge-spec : {M : Type 1} → statement M
-judge-spec = tie.close (tie.spec regions-fault-requires enum-known-place enum_told returns returns-2)
+pub judge_spec : {M : Type 1} → statement M
+judge_spec = tie.close (tie.spec regions_fault-requires enum_known-place enum_told-1 returns-in-At returns-in-Nothing)

@@ -15,54 +15,54 @@ use Rattle.overlap.proofs.refusals.regions_fault.Statement.{statement}
 use Rattle.overlap.proofs.refusals.regions_fault.Tie as tie
 
 -- of the two objects, as they are given
-module _ (c : tie.After-given-second) (s : List ℕ) where
+module _ (c : tie.After-given_second-second) (s : List ℕ) where
   abbrev a : Layout
-  a = c.before.given-first.result
+  a = c.given_first-first.result
 
   abbrev b : Layout
-  b = c.given-second.result
+  b = c.given_second-second.result
 
   abbrev fault_of : Layout → Layout → Fault
   fault_of a b = or_else (unless (is_region a.shape) a.start) (unless (is_region b.shape) b.start)
 
-  given : fault_of a b ≡ not_regions s c.before.before.args.scene
-  given = ap₂ fault_of c.before.given-first.ensures c.given-second.ensures
+  given : fault_of a b ≡ not_regions s c.args.scene
+  given = ap₂ fault_of c.given_first-first.ensures c.given_second-second.ensures
 
-  none : is_region a.shape ≡ true → is_region b.shape ≡ true → Nothing ≡ not_regions s c.before.before.args.scene
+  none : is_region a.shape ≡ true → is_region b.shape ≡ true → Nothing ≡ not_regions s c.args.scene
   none e q = rw (e, q) at given
 
-  at_first : is_region a.shape ≡ false → At a.start ≡ not_regions s c.before.before.args.scene
+  at_first : is_region a.shape ≡ false → At a.start ≡ not_regions s c.args.scene
   at_first e = rw e at given
 
-  at_second : is_region a.shape ≡ true → is_region b.shape ≡ false → At b.start ≡ not_regions s c.before.before.args.scene
+  at_second : is_region a.shape ≡ true → is_region b.shape ≡ false → At b.start ≡ not_regions s c.args.scene
   at_second e q = rw (e, q) at given
 
-given-first-requires : tie.Need-given-first-requires
-given-first-requires c κs = search rules
+given_first-first-requires : tie.Need-given_first-first-requires
+given_first-first-requires c κs = search rules
 
-given-second-requires : tie.Need-given-second-requires
-given-second-requires c κs = search rules
+given_second-second-requires : tie.Need-given_second-second-requires
+given_second-second-requires c κs = search rules
 
-is-region-requires : tie.Need-is-region-requires
-is-region-requires c κs = search rules
+is_region-requires : tie.Need-is_region-requires
+is_region-requires c κs = search rules
 
-returns : tie.Need-returns
-returns c s = at_first c.before.before s (refuted c.before.is-region.ensures c.if1.true)
+returns-then-not-is_region : tie.Need-returns-then-not-is_region
+returns-then-not-is_region c s = at_first c.before.before s (refuted c.is_region.ensures c.if-not-is_region.true-raw)
 
-is-region-requires-2 : tie.Need-is-region-requires-2
-is-region-requires-2 c κs = search rules
+is_region-requires-2 : tie.Need-is_region-requires-2
+is_region-requires-2 c κs = search rules
 
-returns-2 : tie.Need-returns-2
-returns-2 c s =
+returns-then-is_region : tie.Need-returns-then-is_region
+returns-then-is_region c s =
     let d = c.before.before in
-    none d.before.before s (upheld d.before.is-region.ensures d.if1.false) (sym c.before.is-region2.ensures ∙ c.if2.true)
+    none d.before.before s (upheld d.is_region.ensures d.if-not-is_region.false-raw) (sym c.is_region-2.ensures ∙ c.if-is_region.true)
 
-returns-3 : tie.Need-returns-3
-returns-3 c s =
+returns-else-is_region : tie.Need-returns-else-is_region
+returns-else-is_region c s =
     let d = c.before.before in
-    at_second d.before.before s (upheld d.before.is-region.ensures d.if1.false) (sym c.before.is-region2.ensures ∙ c.if2.false)
+    at_second d.before.before s (upheld d.is_region.ensures d.if-not-is_region.false-raw) (sym c.is_region-2.ensures ∙ c.if-is_region.false)
 
-pub regions-fault-spec : {M : Type 1} → statement M
-regions-fault-spec =
+pub regions_fault_spec : {M : Type 1} → statement M
+regions_fault_spec =
     tie.close
-    (tie.spec given-first-requires given-second-requires is-region-requires returns is-region-requires-2 returns-2 returns-3)
+    (tie.spec given_first-first-requires given_second-second-requires is_region-requires returns-then-not-is_region is_region-requires-2 returns-then-is_region returns-else-is_region)

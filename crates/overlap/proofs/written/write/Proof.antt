@@ -17,101 +17,101 @@ use Rattle.overlap.proofs.Filled.{Filled, filled_none, filled_count, filled_leng
 use Rattle.overlap.proofs.written.write.Statement.{statement}
 use Rattle.overlap.proofs.written.write.Tie as tie
 
-abbrev invariant_loop : tie.invariant-loop
+abbrev invariant_loop : tie.invariant-loop-byte
 invariant_loop s scene notes list₀ n₀ i₀ j₀ list n i j =
     (i ≤ scene.f.count) × (j ≤ scene.g.count) × Standing s scene.f scene.g i j
     × Filled (all_bytes s scene.f scene.g) list₀ n (bytes_from s scene.f scene.g i j) list
 
-abbrev decreases_loop : tie.decreases-loop
+abbrev decreases_loop : tie.decreases-loop-byte
 decreases_loop s scene notes list₀ n₀ i₀ j₀ list n i j = scene.f.count + scene.g.count - (i + j)
 
 good : (z : tie.Start invariant_loop decreases_loop) → Listable z.args.s.now (length z.args.list.now) z.args.scene
 good z = listable z.args.s.now (length z.args.list.now) z.args.scene z.requires.0
 
 -- a byte came next
-module _ (c : tie.After-known-told invariant_loop decreases_loop) where
-  abbrev d : tie.At-loop invariant_loop decreases_loop
-  d = c.before.before.before.before
+module _ (c : tie.In-Next invariant_loop decreases_loop) where
+  abbrev d : tie.At-loop-byte invariant_loop decreases_loop
+  d = c.before.before
 
   abbrev z : tie.Start invariant_loop decreases_loop
   z = d.before.before.before.before
 
   abbrev b : ℕ
-  b = c.before.byte.given.0.0
+  b = c.in-Next.byte
 
   abbrev k : ℕ
-  k = c.before.byte.given.0.1.0
+  k = c.in-Next.k
 
   abbrev m : ℕ
-  m = c.before.byte.given.0.1.1.0
+  m = c.in-Next.m
 
-  next : NextByte z.args.s.now z.args.scene.f z.args.scene.g d.loop.i d.loop.j b k m
+  next : NextByte z.args.s.now z.args.scene.f z.args.scene.g d.loop-byte.i d.loop-byte.j b k m
   next =
-      subst (λ (r : ByteStep). ByteStepped z.args.s.now z.args.scene.f z.args.scene.g d.loop.i d.loop.j r) c.before.byte.given.1
-      c.before.before.before.next-byte.ensures
+      subst (λ (r : ByteStep). ByteStepped z.args.s.now z.args.scene.f z.args.scene.g d.loop-byte.i d.loop-byte.j r) c.in-Next.is
+      c.next_byte.ensures
 
-  due : Filled (all_bytes z.args.s.now z.args.scene.f z.args.scene.g) z.args.list.now d.loop.n (b ∷ bytes_from z.args.s.now z.args.scene.f z.args.scene.g k m) d.loop.list
+  due : Filled (all_bytes z.args.s.now z.args.scene.f z.args.scene.g) z.args.list.now d.loop-byte.n (b ∷ bytes_from z.args.s.now z.args.scene.f z.args.scene.g k m) d.loop-byte.list
   due =
-      subst (λ (b : ℕ). Filled (all_bytes z.args.s.now z.args.scene.f z.args.scene.g) z.args.list.now d.loop.n (b ∷ bytes_from z.args.s.now z.args.scene.f z.args.scene.g k m) d.loop.list)
+      subst (λ (b : ℕ). Filled (all_bytes z.args.s.now z.args.scene.f z.args.scene.g) z.args.list.now d.loop-byte.n (b ∷ bytes_from z.args.s.now z.args.scene.f z.args.scene.g k m) d.loop-byte.list)
       (sym next.byte)
-      (subst (λ (r : List ℕ). Filled (all_bytes z.args.s.now z.args.scene.f z.args.scene.g) z.args.list.now d.loop.n r d.loop.list)
-      (ap (map (byte_of (edges z.args.s.now z.args.scene.f) (edges z.args.s.now z.args.scene.g))) next.next.merged) d.loop.inv.3)
+      (subst (λ (r : List ℕ). Filled (all_bytes z.args.s.now z.args.scene.f z.args.scene.g) z.args.list.now d.loop-byte.n r d.loop-byte.list)
+      (ap (map (byte_of (edges z.args.s.now z.args.scene.f) (edges z.args.s.now z.args.scene.g))) next.next.merged) d.loop-byte.invariant.3)
 
-  room : d.loop.n < length z.args.list.now
+  room : d.loop-byte.n < length z.args.list.now
   room = omega (arith, filled_count due, (good z).fits)
 
 -- none came
-filled : (c : tie.After-enum-told invariant_loop decreases_loop)
-    → let d = c.before.before.before in
-    let a = d.before.before.before.before.args in
-    Filled (all_bytes a.s.now a.scene.f a.scene.g) a.list.now d.loop.n [] d.loop.list
+filled : (c : tie.In-End invariant_loop decreases_loop)
+    → let d = c.before.before in
+    let a = d.args in
+    Filled (all_bytes a.s.now a.scene.f a.scene.g) a.list.now d.loop-byte.n [] d.loop-byte.list
 filled c =
-    let d = c.before.before.before in
-    let a = d.before.before.before.before.args in
-    subst (λ (r : List ℕ). Filled (all_bytes a.s.now a.scene.f a.scene.g) a.list.now d.loop.n r d.loop.list)
+    let d = c.before.before in
+    let a = d.args in
+    subst (λ (r : List ℕ). Filled (all_bytes a.s.now a.scene.f a.scene.g) a.list.now d.loop-byte.n r d.loop-byte.list)
     (ap (map (byte_of (edges a.s.now a.scene.f) (edges a.s.now a.scene.g)))
-    (subst (λ (r : ByteStep). ByteStepped a.s.now a.scene.f a.scene.g d.loop.i d.loop.j r) c.enum_told.given.1 c.before.before.next-byte.ensures))
-    d.loop.invariant.3
+    (subst (λ (r : ByteStep). ByteStepped a.s.now a.scene.f a.scene.g d.loop-byte.i d.loop-byte.j r) c.in-End.is c.next_byte.ensures))
+    d.loop-byte.invariant.3
 
-loop-holds : tie.Need-loop-init invariant_loop decreases_loop
-loop-holds c =
-    let a = c.before.before.before.args in (
+loop-byte-init : tie.Need-loop-byte-init invariant_loop decreases_loop
+loop-byte-init c =
+    let a = c.args in (
       omega arith,
       omega arith,
       standing a.s.now a.scene.f a.scene.g,
       filled_none (all_bytes a.s.now a.scene.f a.scene.g) a.list.now (bytes_start a.s.now a.scene.f a.scene.g),
     )
 
-next-byte-requires : tie.Need-next-byte-requires invariant_loop decreases_loop
-next-byte-requires c κs =
+next_byte-requires : tie.Need-next_byte-requires invariant_loop decreases_loop
+next_byte-requires c κs =
     let z = c.before.before.before.before in
-    ((good z).taken, c.loop.invariant.0, c.loop.invariant.1, z.requires.1, z.requires.2, c.loop.invariant.2)
+    ((good z).taken, c.loop-byte.invariant.0, c.loop-byte.invariant.1, z.requires.1, z.requires.2, c.loop-byte.invariant.2)
 
-enum-known-byte : tie.Need-enum-known-byte invariant_loop decreases_loop
-enum-known-byte c = search rules
+enum_known-byte : tie.Need-enum_known-byte invariant_loop decreases_loop
+enum_known-byte c = search rules
 
-slice-write-list : tie.Need-slice-write-list invariant_loop decreases_loop
-slice-write-list c = omega (arith, room c, filled_length (due c) (omega (arith, room c)))
+bounds-list-n : tie.Need-bounds-list-n invariant_loop decreases_loop
+bounds-list-n c = omega (arith, room c, filled_length (due c) (omega (arith, room c)))
 
-enum_told : tie.Need-enum-told invariant_loop decreases_loop
-enum_told c = search rules
+enum_told-1 : tie.Need-enum_told-1 invariant_loop decreases_loop
+enum_told-1 c = search rules
 
-same_length : tie.Need-same-length invariant_loop decreases_loop
-same_length c =
-    let z = c.before.before.before.before.before.before.before in
-    filled_length (filled c) (omega (arith, filled_count (filled c), (good z).ranges))
+shape_of-list-in-End : tie.Need-shape_of-list-in-End invariant_loop decreases_loop
+shape_of-list-in-End c =
+    let z = c.before.before.before.before.before.before in
+    filled_length (filled c) (omega (arith, filled_count (filled c), (good z).fits))
 
-returns : tie.Need-returns invariant_loop decreases_loop
-returns c = filled_all (filled c)
+returns-in-End : tie.Need-returns-in-End invariant_loop decreases_loop
+returns-in-End c = filled_all (filled c)
 
-add-n : tie.Need-overflow-add-n invariant_loop decreases_loop
-add-n c = omega (arith, room c)
+overflow_add-n : tie.Need-overflow_add-n invariant_loop decreases_loop
+overflow_add-n c = omega (arith, room c)
 
-loop-less : tie.Need-loop-smaller invariant_loop decreases_loop
-loop-less c = let n = (next c).next in omega (arith, n.further, n.within_f, n.within_g)
+loop-byte-smaller : tie.Need-loop-byte-smaller invariant_loop decreases_loop
+loop-byte-smaller c = let n = (next c).next in omega (arith, n.further, n.within_f, n.within_g)
 
-loop-again : tie.Need-loop-preserved invariant_loop decreases_loop
-loop-again c = ((next c).next.within_f, (next c).next.within_g, (next c).stands, filled_more (room c) (due c))
+loop-byte-preserved : tie.Need-loop-byte-preserved invariant_loop decreases_loop
+loop-byte-preserved c = ((next c).next.within_f, (next c).next.within_g, (next c).stands, filled_more (room c) (due c))
 
 pub write_spec : {M : Type 1} → statement M
 write_spec =
@@ -119,13 +119,13 @@ write_spec =
     (tie.spec
     invariant_loop
     decreases_loop
-    loop-holds
-    next-byte-requires
-    enum-known-byte
-    slice-write-list
-    enum_told
-    same_length
-    returns
-    add-n
-    loop-less
-    loop-again)
+    loop-byte-init
+    next_byte-requires
+    enum_known-byte
+    bounds-list-n
+    enum_told-1
+    shape_of-list-in-End
+    returns-in-End
+    overflow_add-n
+    loop-byte-smaller
+    loop-byte-preserved)

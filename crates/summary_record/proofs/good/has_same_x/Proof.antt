@@ -14,5 +14,5 @@ module _ (s : tie.Start) where
 returns : tie.Need-returns
 returns c = let s = c.before.before.before.before in bits_eqb (p_held s).x_fits (q_held s).x_fits
 
-pub has-same-x-spec : {M : Type 1} → statement M
-has-same-x-spec = tie.close (tie.spec returns)
+pub has_same_x_spec : {M : Type 1} → statement M
+has_same_x_spec = tie.close (tie.spec returns)

@@ -14,5 +14,5 @@ module _ (s : tie.Start) where
 returns : tie.Need-returns
 returns c = let s = c.before.before.before.before in bits_eqb (p_held s).y_fits (q_held s).y_fits
 
-pub has-same-y-spec : {M : Type 1} → statement M
-has-same-y-spec = tie.close (tie.spec returns)
+pub has_same_y_spec : {M : Type 1} → statement M
+has_same_y_spec = tie.close (tie.spec returns)

@@ -3,11 +3,11 @@ use borrow.Author.Rules.{rules}
 use Rattle.summary_record.proofs.good.is_flat.Statement.{statement}
 use Rattle.summary_record.proofs.good.is_flat.Tie as tie
 
-has-same-x-requires : tie.Need-has-same-x-requires
-has-same-x-requires c κs = search rules
+has_same_x-requires : tie.Need-has_same_x-requires
+has_same_x-requires c κs = search rules
 
-has-same-y-requires : tie.Need-has-same-y-requires
-has-same-y-requires c κs = search rules
+has_same_y-requires : tie.Need-has_same_y-requires
+has_same_y-requires c κs = search rules
 
 either-requires : tie.Need-either-requires
 either-requires c κs = search rules
@@ -15,5 +15,5 @@ either-requires c κs = search rules
 returns : tie.Need-returns
 returns c = cc
 
-pub is-flat-spec : {M : Type 1} → statement M
-is-flat-spec = tie.close (tie.spec has-same-x-requires has-same-y-requires either-requires returns)
+pub is_flat_spec : {M : Type 1} → statement M
+is_flat_spec = tie.close (tie.spec has_same_x-requires has_same_y-requires either-requires returns)

@@ -4,40 +4,40 @@ use borrow.Author.Rules.{rules}
 use Rattle.summary_record.proofs.good.is_good_box.Statement.{statement}
 use Rattle.summary_record.proofs.good.is_good_box.Tie as tie
 
-is-in-range-requires : tie.Need-is-in-range-requires
-is-in-range-requires c κs = search rules
+is_in_range-requires : tie.Need-is_in_range-requires
+is_in_range-requires c κs = search rules
 
-is-in-range-requires-2 : tie.Need-is-in-range-requires-2
-is-in-range-requires-2 c κs = search rules
+is_in_range-requires-2 : tie.Need-is_in_range-requires-2
+is_in_range-requires-2 c κs = search rules
+
+both-in_range-requires : tie.Need-both-in_range-requires
+both-in_range-requires c κs = search rules
+
+is_at_most_x-requires : tie.Need-is_at_most_x-requires
+is_at_most_x-requires c κs = search rules
 
 both-requires : tie.Need-both-requires
 both-requires c κs = search rules
 
-is-at-most-x-requires : tie.Need-is-at-most-x-requires
-is-at-most-x-requires c κs = search rules
+is_at_most_y-requires : tie.Need-is_at_most_y-requires
+is_at_most_y-requires c κs = search rules
 
 both-requires-2 : tie.Need-both-requires-2
 both-requires-2 c κs = search rules
-
-is-at-most-y-requires : tie.Need-is-at-most-y-requires
-is-at-most-y-requires c κs = search rules
-
-both-requires-3 : tie.Need-both-requires-3
-both-requires-3 c κs = search rules
 
 returns : tie.Need-returns
 unfolding good_box
 returns c = cc
 
-pub is-good-box-spec : {M : Type 1} → statement M
-is-good-box-spec =
+pub is_good_box_spec : {M : Type 1} → statement M
+is_good_box_spec =
     tie.close
     (tie.spec
-    is-in-range-requires
-    is-in-range-requires-2
+    is_in_range-requires
+    is_in_range-requires-2
+    both-in_range-requires
+    is_at_most_x-requires
     both-requires
-    is-at-most-x-requires
+    is_at_most_y-requires
     both-requires-2
-    is-at-most-y-requires
-    both-requires-3
     returns)

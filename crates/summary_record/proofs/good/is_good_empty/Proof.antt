@@ -3,11 +3,11 @@ use borrow.Author.Rules.{rules}
 use Rattle.summary_record.proofs.good.is_good_empty.Statement.{statement}
 use Rattle.summary_record.proofs.good.is_good_empty.Tie as tie
 
-is-origin-requires : tie.Need-is-origin-requires
-is-origin-requires c κs = search rules
+is_origin-requires : tie.Need-is_origin-requires
+is_origin-requires c κs = search rules
 
-is-origin-requires-2 : tie.Need-is-origin-requires-2
-is-origin-requires-2 c κs = search rules
+is_origin-requires-2 : tie.Need-is_origin-requires-2
+is_origin-requires-2 c κs = search rules
 
 both-requires : tie.Need-both-requires
 both-requires c κs = search rules
@@ -21,12 +21,12 @@ both-requires-2 c κs = search rules
 returns : tie.Need-returns
 returns c = cc
 
-pub is-good-empty-spec : {M : Type 1} → statement M
-is-good-empty-spec =
+pub is_good_empty_spec : {M : Type 1} → statement M
+is_good_empty_spec =
     tie.close
     (tie.spec
-    is-origin-requires
-    is-origin-requires-2
+    is_origin-requires
+    is_origin-requires-2
     both-requires
     negate-requires
     both-requires-2

@@ -3,51 +3,51 @@ use borrow.Author.Rules.{rules}
 use Rattle.summary_record.proofs.good.is_good_for.Statement.{statement}
 use Rattle.summary_record.proofs.good.is_good_for.Tie as tie
 
-is-good-empty-requires : tie.Need-is-good-empty-requires
-is-good-empty-requires c κs = search rules
+is_good_empty-requires : tie.Need-is_good_empty-requires
+is_good_empty-requires c κs = search rules
 
-returns : tie.Need-returns
-returns c = cc
+returns-then-empty : tie.Need-returns-then-empty
+returns-then-empty c = cc
 
-enum_told : tie.Need-enum-told
-enum_told c = search rules
+enum_told-1 : tie.Need-enum_told-1
+enum_told-1 c = search rules
 
 negate-requires : tie.Need-negate-requires
 negate-requires c κs = search rules
 
-enum-told-2 : tie.Need-enum-told-2
-enum-told-2 c = search rules
+enum_told-in-Line : tie.Need-enum_told-in-Line
+enum_told-in-Line c = search rules
 
-is-good-line-requires : tie.Need-is-good-line-requires
-is-good-line-requires c κs = search rules
+is_good_line-requires : tie.Need-is_good_line-requires
+is_good_line-requires c κs = search rules
 
-enum-told-3 : tie.Need-enum-told-3
-enum-told-3 c = search rules
+enum_told-in-Region : tie.Need-enum_told-in-Region
+enum_told-in-Region c = search rules
 
-is-good-region-requires : tie.Need-is-good-region-requires
-is-good-region-requires c κs = search rules
+is_good_region-requires : tie.Need-is_good_region-requires
+is_good_region-requires c κs = search rules
 
-returns-2 : tie.Need-returns-2
-returns-2 c = search rules
+returns-in-Points : tie.Need-returns-in-Points
+returns-in-Points c = search rules
 
-returns-3 : tie.Need-returns-3
-returns-3 c = cc
+returns-in-Line : tie.Need-returns-in-Line
+returns-in-Line c = cc
 
-returns-4 : tie.Need-returns-4
-returns-4 c = cc
+returns-in-Region : tie.Need-returns-in-Region
+returns-in-Region c = cc
 
-pub is-good-for-spec : {M : Type 1} → statement M
-is-good-for-spec =
+pub is_good_for_spec : {M : Type 1} → statement M
+is_good_for_spec =
     tie.close
     (tie.spec
-    is-good-empty-requires
-    returns
-    enum_told
+    is_good_empty-requires
+    returns-then-empty
+    enum_told-1
     negate-requires
-    enum-told-2
-    is-good-line-requires
-    enum-told-3
-    is-good-region-requires
-    returns-2
-    returns-3
-    returns-4)
+    enum_told-in-Line
+    is_good_line-requires
+    enum_told-in-Region
+    is_good_region-requires
+    returns-in-Points
+    returns-in-Line
+    returns-in-Region)

@@ -3,14 +3,14 @@ use borrow.Author.Rules.{rules}
 use Rattle.summary_record.proofs.good.is_good_line.Statement.{statement}
 use Rattle.summary_record.proofs.good.is_good_line.Tie as tie
 
-is-point-requires : tie.Need-is-point-requires
-is-point-requires c κs = search rules
+is_point-requires : tie.Need-is_point-requires
+is_point-requires c κs = search rules
 
 negate-requires : tie.Need-negate-requires
 negate-requires c κs = search rules
 
-is-flat-requires : tie.Need-is-flat-requires
-is-flat-requires c κs = search rules
+is_flat-requires : tie.Need-is_flat-requires
+is_flat-requires c κs = search rules
 
 negate-requires-2 : tie.Need-negate-requires-2
 negate-requires-2 c κs = search rules
@@ -24,13 +24,13 @@ both-requires c κs = search rules
 returns : tie.Need-returns
 returns c = cc
 
-pub is-good-line-spec : {M : Type 1} → statement M
-is-good-line-spec =
+pub is_good_line_spec : {M : Type 1} → statement M
+is_good_line_spec =
     tie.close
     (tie.spec
-    is-point-requires
+    is_point-requires
     negate-requires
-    is-flat-requires
+    is_flat-requires
     negate-requires-2
     either-requires
     both-requires

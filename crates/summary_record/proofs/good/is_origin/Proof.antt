@@ -4,12 +4,12 @@ use borrow.Author.Rules.{rules}
 use Rattle.summary_record.proofs.good.is_origin.Statement.{statement}
 use Rattle.summary_record.proofs.good.is_origin.Tie as tie
 
-is-same-point-requires : tie.Need-is-same-point-requires
-is-same-point-requires c κs = search rules
+is_same_point-requires : tie.Need-is_same_point-requires
+is_same_point-requires c κs = search rules
 
 returns : tie.Need-returns
 unfolding is_same_point
 returns c = cc
 
-pub is-origin-spec : {M : Type 1} → statement M
-is-origin-spec = tie.close (tie.spec is-same-point-requires returns)
+pub is_origin_spec : {M : Type 1} → statement M
+is_origin_spec = tie.close (tie.spec is_same_point-requires returns)

@@ -14,15 +14,15 @@ held s = search rules
 unsigned-requires : tie.Need-unsigned-requires
 unsigned-requires c κs = search rules
 
-div-result : tie.Need-nonzero-div-result
-div-result c = search rules
+nonzero_div-result : tie.Need-nonzero_div-result
+nonzero_div-result c = search rules
 
-cast-result : tie.Need-overflow-cast-result
-cast-result c = search rules
+overflow_cast-result : tie.Need-overflow_cast-result
+overflow_cast-result c = search rules
 
 returns : tie.Need-returns
 unfolding digit
-returns c = ap (λ n. n / c.before.before.args.unit % 256) (c.unsigned.ensures ∙ ap unsigned (to_z-of_z (held c.before.before).y_fits))
+returns c = ap (λ n. n / c.args.unit % 256) (c.unsigned.ensures ∙ ap unsigned (to_z-of_z (held c.before.before).y_fits))
 
-pub digit-y-spec : {M : Type 1} → statement M
-digit-y-spec = tie.close (tie.spec unsigned-requires div-result cast-result returns)
+pub digit_y_spec : {M : Type 1} → statement M
+digit_y_spec = tie.close (tie.spec unsigned-requires nonzero_div-result overflow_cast-result returns)

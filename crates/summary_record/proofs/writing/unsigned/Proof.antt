@@ -53,39 +53,39 @@ held s = search rules
 under : (z : ℤ) (b : Bool) → SFits w32 z → lt_z (to_z w32 (of_z w32 z)) (pos 0) ≡ b → lt_z z (pos 0) ≡ b
 under z b f e = sym (ap (λ y. lt_z y (pos 0)) (to_z-of_z f)) ∙ e
 
-cast-result : tie.Need-overflow-cast-result
-cast-result c = rw (to_z-of_z (held c.before)) (as_64 c.before.args.z (held c.before))
+overflow_cast-result : tie.Need-overflow_cast-result
+overflow_cast-result c = rw (to_z-of_z (held c.before)) (as_64 c.args.z (held c.before))
 
-add-result : tie.Need-overflow-add-result
-add-result c =
-    let z = c.before.args.z in
+overflow_add-result : tie.Need-overflow_add-result
+overflow_add-result c =
+    let z = c.args.z in
     let f = held c.before in
-    rw (to_z-of_z f, to_z-of_z (as_64 z f), raised z f (under z true f c.if1.true)) (sum_fits z f)
+    rw (to_z-of_z f, to_z-of_z (as_64 z f), raised z f (under z true f c.if-z-lt0.true)) (sum_fits z f)
 
-cast-result-2 : tie.Need-overflow-cast-result-2
-cast-result-2 c =
-    let z = c.before.args.z in
+overflow_cast-result-then-z-lt0 : tie.Need-overflow_cast-result-then-z-lt0
+overflow_cast-result-then-z-lt0 c =
+    let z = c.args.z in
     let f = held c.before in
-    rw (to_z-of_z f, to_z-of_z (as_64 z f), raised z f (under z true f c.if1.true), to_z-of_z (sum_fits z f)) (tt, record { fits = small z f })
+    rw (to_z-of_z f, to_z-of_z (as_64 z f), raised z f (under z true f c.if-z-lt0.true), to_z-of_z (sum_fits z f)) (tt, record { fits = small z f })
 
-cast-result-3 : tie.Need-overflow-cast-result-3
-cast-result-3 c =
-    let z = c.before.args.z in
+overflow_cast-result-else-z-lt0 : tie.Need-overflow_cast-result-else-z-lt0
+overflow_cast-result-else-z-lt0 c =
+    let z = c.args.z in
     let f = held c.before in
-    rw (to_z-of_z f) (above z f (under z false f c.if1.false))
+    rw (to_z-of_z f) (above z f (under z false f c.if-z-lt0.false))
 
-returns : tie.Need-returns
-returns c =
-    let z = c.before.args.z in
+returns-then-z-lt0 : tie.Need-returns-then-z-lt0
+returns-then-z-lt0 c =
+    let z = c.args.z in
     let f = held c.before in
-    rw (to_z-of_z f, to_z-of_z (as_64 z f), raised z f (under z true f c.if1.true), to_z-of_z (sum_fits z f))
+    rw (to_z-of_z f, to_z-of_z (as_64 z f), raised z f (under z true f c.if-z-lt0.true), to_z-of_z (sum_fits z f))
 
-returns-2 : tie.Need-returns-2
-returns-2 c =
-    let z = c.before.args.z in
+returns-else-z-lt0 : tie.Need-returns-else-z-lt0
+returns-else-z-lt0 c =
+    let z = c.args.z in
     let f = held c.before in
-    rw (to_z-of_z f) (same z (under z false f c.if1.false))
+    rw (to_z-of_z f) (same z (under z false f c.if-z-lt0.false))
 
-pub unsigned-spec : {M : Type 1} → statement M
-unsigned-spec =
-    tie.close (tie.spec cast-result add-result cast-result-2 cast-result-3 returns returns-2)
+pub unsigned_spec : {M : Type 1} → statement M
+unsigned_spec =
+    tie.close (tie.spec overflow_cast-result overflow_add-result overflow_cast-result-then-z-lt0 overflow_cast-result-else-z-lt0 returns-then-z-lt0 returns-else-z-lt0)
