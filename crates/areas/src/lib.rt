@@ -1,4 +1,6 @@
 // Shared and separate ground of two regions: twice the area in both, in F only and in G only, in whole numbers.
+#![tactic(auto)]
+
 ghost use Rattle.std.specs.Prelude.{◌≡◌};
 ghost use Rattle.check_verdict.specs.SharedPoints.{CheckedMeans};
 ghost use Rattle.overlap.specs.Rules.{check_regions};

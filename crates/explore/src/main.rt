@@ -1,4 +1,6 @@
 // Reads a scene from standard input and writes its answer line.
+#![tactic(auto)]
+
 use answer_line::LINE_LIMIT;
 use libc::{STDIN_FILENO, STDOUT_FILENO};
 

@@ -1,6 +1,8 @@
 // The call on one object: its summary, or a refusal under 1 to 7 or 10 to 14 over its bytes alone.
 // The object is laid beside an empty one of its type. The two form a scene that is refused as the object is, at the same place, and whose flags say whether the
 // object's boundary has a point: so the checks, and the rule of the boundary, are those of the vectors question.
+#![tactic(auto)]
+
 ghost use Rattle.std.specs.Prelude.{◌≡◌, not, []};
 ghost use Rattle.scene.specs.declared.CheckedObject.{CheckedObject as Checked};
 ghost use Rattle.scene.specs.Conditions.{check_object};

@@ -1,5 +1,7 @@
 // Asks for the overlap list of the scene on standard input, and of two small ones, with buffers of several lengths. Writes what comes back, a line
 // for each: number, place, count, and the whole buffer after the call, which held nines before it.
+#![tactic(auto)]
+
 use libc::{STDIN_FILENO, STDOUT_FILENO};
 
 // Two digits are enough here. Answers false where they could not be written.

@@ -14,9 +14,6 @@ room c =
     omega
     (arith, no_length c.args.number c.args.place, no_limit c.args.number c.args.place c.ranges.number.fits c.ranges.place.fits, c.requires)
 
-slice-aggregate-write-bytes : tie.Need-slice-aggregate-write-bytes
-slice-aggregate-write-bytes c = search rules
-
 write_bytes-first-requires : tie.Need-write_bytes-first-requires
 write_bytes-first-requires c κs = omega (arith, room c.before.before.before.before)
 
@@ -47,7 +44,6 @@ pub write_no_spec : {M : Type 1} → statement M
 write_no_spec =
     tie.close
     (tie.spec
-    slice-aggregate-write-bytes
     write_bytes-first-requires
     write_field-second-requires
     write_field-end-requires

@@ -48,9 +48,6 @@ start_6 c = start_5 c.before.before.before.before
 abbrev start_7 : tie.After-slice_known-8-1 → tie.Start
 start_7 c = start_6 c.before.before.before.before
 
-slice-aggregate-write-bytes : tie.Need-slice-aggregate-write-bytes
-slice-aggregate-write-bytes c = search rules
-
 write_bytes-first-requires : tie.Need-write_bytes-first-requires
 write_bytes-first-requires c κs = omega (arith, room c.before.before.before.before)
 
@@ -97,7 +94,6 @@ pub write_ok_spec : {M : Type 1} → statement M
 write_ok_spec =
     tie.close
     (tie.spec
-    slice-aggregate-write-bytes
     write_bytes-first-requires
     write_field-second-requires
     write_field-third-requires

@@ -20,18 +20,18 @@ use Rattle.areas.proofs.areas_of.Statement.{statement}
 use Rattle.areas.proofs.areas_of.Tie as tie
 
 -- a scene that was taken
-module _ (c : tie.After-notes3) where
-  abbrev k : tie.After-check-regions
-  k = c.before.before.before.before.before
+module _ (c : tie.After-notes-in-Taken-1) where
+  abbrev k : tie.After-check_regions
+  k = c.before.before.before
 
   abbrev bytes : List ℕ
-  bytes = k.before.before.before.args.s.now
+  bytes = k.args.s.now
 
   abbrev scene : Scene
-  scene = c.before.before.scene.given.0.0
+  scene = c.in-Taken.scene
 
   taken : check_regions bytes ≡ CheckedScene.Taken scene
-  taken = sym k.check-regions.ensures.1 ∙ c.before.before.scene.given.1
+  taken = sym k.check_regions.ensures.1 ∙ c.in-Taken.is
 
 -- the sums, read from their bits
 numbers : ℤ → ℤ → ℤ → Areas
@@ -41,52 +41,52 @@ read : {a b c x y z : ℤ} → SFits w64 a → SFits w64 b → SFits w64 c → a
     → numbers (to_z w64 (of_z w64 a)) (to_z w64 (of_z w64 b)) (to_z w64 (of_z w64 c)) ≡ numbers x y z
 read p q r e f g = rw (to_z-of_z p, to_z-of_z q, to_z-of_z r, e, f, g)
 
-slice-aggregate-check-regions : tie.Need-slice-aggregate-check-regions
-slice-aggregate-check-regions c = search rules
+slice_bounds-check_regions-end : tie.Need-slice_bounds-check_regions-end
+slice_bounds-check_regions-end c = search rules
 
-check-regions-requires : tie.Need-check-regions-requires
-check-regions-requires c κs = search rules
+check_regions-requires : tie.Need-check_regions-requires
+check_regions-requires c κs = search rules
 
-enum-known-r : tie.Need-enum-known-r
-enum-known-r c = search rules
+enum_known-r : tie.Need-enum_known-r
+enum_known-r c = search rules
 
-enum-known-scene : tie.Need-enum-known-scene
-enum-known-scene c = search rules
+enum_known-scene : tie.Need-enum_known-scene
+enum_known-scene c = search rules
 
-slice-aggregate-sums-of : tie.Need-slice-aggregate-sums-of
-slice-aggregate-sums-of c = search rules
+slice_bounds-sums_of-end : tie.Need-slice_bounds-sums_of-end
+slice_bounds-sums_of-end c = search rules
 
-sums-of-requires : tie.Need-sums-of-requires
-sums-of-requires c κs =
-    (good (bytes c) (scene c) (taken c), omega (arith, (k c).check-regions.ensures.0), (k c).check-regions.ensures.2 (scene c) c.before.before.scene.given.1)
+sums_of-sums-requires : tie.Need-sums_of-sums-requires
+sums_of-sums-requires c κs =
+    (good (bytes c) (scene c) (taken c), omega (arith, (k c).check_regions.ensures.0), (k c).check_regions.ensures.2 (scene c) c.in-Taken.is)
 
-returns : tie.Need-returns
-returns c =
-    let k = c.before.before.before.before in
-    let s = k.before.before.before.args.s.now in
-    let e = sym (ap (answer s) (sym k.check-regions.ensures.1 ∙ c.before.r.given.1)) in
+returns-in-Refused : tie.Need-returns-in-Refused
+returns-in-Refused c =
+    let k = c.before.before in
+    let s = k.args.s.now in
+    let e = sym (ap (answer s) (sym k.check_regions.ensures.1 ∙ c.in-Refused.is)) in
     (e, parts_make_whole s e, regions_mean s)
 
-returns-2 : tie.Need-returns-2
+returns-in-Taken : tie.Need-returns-in-Taken
 unfolding numbers
-returns-2 c =
+returns-in-Taken c =
     let e = c.before.before in
-    let v = c.before.sums-of.ensures in
-    let fits = c.struct_told.given in
+    let v = c.sums_of-sums.ensures in
+    let fits = c.struct_told-1.given in
     let given = given_area (bytes e) (scene e) (taken e) in
     let sums = read (record { sfits = fits.0.1 }) (record { sfits = fits.1.0.1 }) (record { sfits = fits.1.1.0.1 }) (v in_both ∙ given in_both) (v in_f_only ∙ given in_f_only) (v in_g_only ∙ given in_g_only) in
     let q = sums ∙ sym (ap (answer (bytes e)) (taken e)) in
     (q, parts_make_whole (bytes e) q, regions_mean (bytes e))
 
-pub areas-of-spec : {M : Type 1} → statement M
-areas-of-spec =
+pub areas_of_spec : {M : Type 1} → statement M
+areas_of_spec =
     tie.close
     (tie.spec
-    slice-aggregate-check-regions
-    check-regions-requires
-    enum-known-r
-    enum-known-scene
-    slice-aggregate-sums-of
-    sums-of-requires
-    returns
-    returns-2)
+    slice_bounds-check_regions-end
+    check_regions-requires
+    enum_known-r
+    enum_known-scene
+    slice_bounds-sums_of-end
+    sums_of-sums-requires
+    returns-in-Refused
+    returns-in-Taken)

@@ -9,35 +9,35 @@ use Rattle.answer_line.proofs.Written.{lent_within}
 use Rattle.explore.proofs.main.Statement.{statement}
 use Rattle.explore.proofs.main.Tie as tie
 
-written : (c : tie.After-write-line) → c.write-line.result ≤ length c.write-line.new.1.0
-written c = omega (arith, lent_within c.write-line.ensures.0, c.write-line.auto.1.0)
+written : (c : tie.After-write_line-written) → c.write_line-written.result ≤ length c.write_line-written.new.out
+written c = omega (arith, lent_within c.write_line-written.ensures.0, c.write_line-written.auto.1.0)
 
-slice-aggregate-read-full : tie.Need-slice-aggregate-read-full
-slice-aggregate-read-full c = search rules
+slice_bounds-read_full-end : tie.Need-slice_bounds-read_full-end
+slice_bounds-read_full-end c = search rules
 
-read-full-requires : tie.Need-read-full-requires
-read-full-requires c κs = search rules
+read_full-length-requires : tie.Need-read_full-length-requires
+read_full-length-requires c κs = search rules
 
-array-share-prefix-input : tie.Need-array-share-prefix-input
-array-share-prefix-input c = search rules
+slice_bounds-input-end : tie.Need-slice_bounds-input-end
+slice_bounds-input-end c = search rules
 
-slice-aggregate-write-line : tie.Need-slice-aggregate-write-line
-slice-aggregate-write-line c = search rules
+slice_bounds-write_line-end : tie.Need-slice_bounds-write_line-end
+slice_bounds-write_line-end c = search rules
 
-slice-aggregate-write-line-2 : tie.Need-slice-aggregate-write-line-2
-slice-aggregate-write-line-2 c = search rules
+slice_bounds-write_line-end-2 : tie.Need-slice_bounds-write_line-end-2
+slice_bounds-write_line-end-2 c = search rules
 
-write-line-requires : tie.Need-write-line-requires
-write-line-requires c κs = search rules
+write_line-written-requires : tie.Need-write_line-written-requires
+write_line-written-requires c κs = search rules
 
-array-share-prefix-line : tie.Need-array-share-prefix-line
-array-share-prefix-line c = written c.before
+slice_bounds-line-end : tie.Need-slice_bounds-line-end
+slice_bounds-line-end c = written c.before
 
-slice-aggregate-write-all : tie.Need-slice-aggregate-write-all
-slice-aggregate-write-all c = sym (length-take-le _ _ (written c.before.before))
+slice_bounds-write_all-end : tie.Need-slice_bounds-write_all-end
+slice_bounds-write_all-end c = sym (length-take-le _ _ (written c.before.before))
 
-write-all-requires : tie.Need-write-all-requires
-write-all-requires c κs = search rules
+write_all-requires : tie.Need-write_all-requires
+write_all-requires c κs = search rules
 
 returns : tie.Need-returns
 returns c = search rules
@@ -46,13 +46,13 @@ pub main_spec : {M : Type 1} → statement M
 main_spec =
     tie.close
     (tie.spec
-    slice-aggregate-read-full
-    read-full-requires
-    array-share-prefix-input
-    slice-aggregate-write-line
-    slice-aggregate-write-line-2
-    write-line-requires
-    array-share-prefix-line
-    slice-aggregate-write-all
-    write-all-requires
+    slice_bounds-read_full-end
+    read_full-length-requires
+    slice_bounds-input-end
+    slice_bounds-write_line-end
+    slice_bounds-write_line-end-2
+    write_line-written-requires
+    slice_bounds-line-end
+    slice_bounds-write_all-end
+    write_all-requires
     returns)

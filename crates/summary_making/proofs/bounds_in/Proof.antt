@@ -9,14 +9,14 @@ use Rattle.summary_making.proofs.bounds_in.Tie as tie
 nowhere-requires : tie.Need-nowhere-requires
 nowhere-requires c κs = search rules
 
+returns-then-l-eq0 : tie.Need-returns-then-l-eq0
+returns-then-l-eq0 c = let z = c.before.before.before.before in c.nowhere.ensures ∙ empty_box z.args.s.now z.args.l z.requires c.if-l-eq0.true
+
+bounds_of-requires : tie.Need-bounds_of-requires
+bounds_of-requires c κs = let z = c.before.before.before in (sound_object z.args.s.now z.args.l z.requires).read
+
 returns : tie.Need-returns
-returns c = let z = c.before.before.before.before in c.nowhere.ensures ∙ empty_box z.args.s.now z.args.l z.requires c.before.if1.true
+returns c = let z = c.before.before.before.before in c.bounds_of.ensures ∙ filled_box z.args.s.now z.args.l z.requires c.if-l-eq0.false
 
-bounds-of-requires : tie.Need-bounds-of-requires
-bounds-of-requires c κs = let z = c.before.before.before in (sound_object z.args.s.now z.args.l z.requires).read
-
-returns-2 : tie.Need-returns-2
-returns-2 c = let z = c.before.before.before.before in c.bounds_of.ensures ∙ filled_box z.args.s.now z.args.l z.requires c.before.if1.false
-
-pub bounds-in-spec : {M : Type 1} → statement M
-bounds-in-spec = tie.close (tie.spec nowhere-requires returns bounds-of-requires returns-2)
+pub bounds_in_spec : {M : Type 1} → statement M
+bounds_in_spec = tie.close (tie.spec nowhere-requires returns-then-l-eq0 bounds_of-requires returns)

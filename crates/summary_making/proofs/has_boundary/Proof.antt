@@ -9,24 +9,24 @@ use borrow.Author.Rules.{rules}
 use Rattle.summary_making.proofs.has_boundary.Statement.{statement}
 use Rattle.summary_making.proofs.has_boundary.Tie as tie
 
-enum_told : tie.Need-enum-told
-enum_told c = search rules
+enum_told-1 : tie.Need-enum_told-1
+enum_told-1 c = search rules
 
-enum-told-2 : tie.Need-enum-told-2
-enum-told-2 c = search rules
+enum_told-in-Line : tie.Need-enum_told-in-Line
+enum_told-in-Line c = search rules
 
-enum-told-3 : tie.Need-enum-told-3
-enum-told-3 c = search rules
+enum_told-in-Region : tie.Need-enum_told-in-Region
+enum_told-in-Region c = search rules
 
-returns : tie.Need-returns
-returns c = λ F s e v. of_points F (s ∙ c.enum_told.given.1)
+returns-in-Points : tie.Need-returns-in-Points
+returns-in-Points c = λ F s e v. of_points F (s ∙ c.in-Points.is)
 
-returns-2 : tie.Need-returns-2
-returns-2 c = λ F s e v. of_line (not c.before.before.args.empty) (has_boundary F) (v ∙ ap (λ (k : Shape). pack (flags_f k k (not c.before.before.args.empty) (has_boundary F))) c.enum-told2.given.1)
+returns-in-Line : tie.Need-returns-in-Line
+returns-in-Line c = λ F s e v. of_line (not c.args.empty) (has_boundary F) (v ∙ ap (λ (k : Shape). pack (flags_f k k (not c.args.empty) (has_boundary F))) c.in-Line.is)
 
-returns-3 : tie.Need-returns-3
-returns-3 c = λ F s e v. ap not (sym e) ∙ of_region F (s ∙ c.enum-told3.given.1)
+returns-in-Region : tie.Need-returns-in-Region
+returns-in-Region c = λ F s e v. ap not (sym e) ∙ of_region F (s ∙ c.in-Region.is)
 
-pub has-boundary-spec : {M : Type 1} → statement M
-has-boundary-spec =
-    tie.close (tie.spec enum_told enum-told-2 enum-told-3 returns returns-2 returns-3)
+pub has_boundary_spec : {M : Type 1} → statement M
+has_boundary_spec =
+    tie.close (tie.spec enum_told-1 enum_told-in-Line enum_told-in-Region returns-in-Points returns-in-Line returns-in-Region)

@@ -11,11 +11,11 @@ use borrow.Author.Rules.{rules}
 use Rattle.summary_making.proofs.made.Statement.{statement}
 use Rattle.summary_making.proofs.made.Tie as tie
 
-bounds-in-requires : tie.Need-bounds-in-requires
-bounds-in-requires c κs = search rules
+bounds_in-bounds-requires : tie.Need-bounds_in-bounds-requires
+bounds_in-bounds-requires c κs = search rules
 
-has-boundary-requires : tie.Need-has-boundary-requires
-has-boundary-requires c κs = search rules
+has_boundary-boundary-requires : tie.Need-has_boundary-boundary-requires
+has_boundary-boundary-requires c κs = search rules
 
 returns : tie.Need-returns
 returns c =
@@ -27,9 +27,9 @@ returns c =
     λ i. record {
       shape = sym type i;
       empty = sym empty i;
-      bounds = c.before.bounds-in.ensures i;
-      boundary = c.has-boundary.ensures (elements_of s l) type empty (z.requires.1 ∙ ap₂ (λ (k : Shape) (e : Bool). pack (flags_f k k (not e) (has_boundary (elements_of s l)))) type empty) i;
+      bounds = c.bounds_in-bounds.ensures i;
+      boundary = c.has_boundary-boundary.ensures (elements_of s l) type empty (z.requires.1 ∙ ap₂ (λ (k : Shape) (e : Bool). pack (flags_f k k (not e) (has_boundary (elements_of s l)))) type empty) i;
     }
 
-pub made-spec : {M : Type 1} → statement M
-made-spec = tie.close (tie.spec bounds-in-requires has-boundary-requires returns)
+pub made_spec : {M : Type 1} → statement M
+made_spec = tie.close (tie.spec bounds_in-bounds-requires has_boundary-boundary-requires returns)

@@ -15,75 +15,75 @@ use Rattle.summary_making.proofs.summarize.Statement.{statement}
 use Rattle.summary_making.proofs.summarize.Tie as tie
 
 -- an object that was read
-module _ (c : tie.After-known-told2) where
+module _ (c : tie.In-Taken) where
   abbrev bytes : List ℕ
-  bytes = c.before.before.before.before.before.args.s.now
+  bytes = c.args.s.now
 
   abbrev layout : Layout
-  layout = c.before.l.given.0.0
+  layout = c.in-Taken.l
 
   read : read_alone bytes ≡ CheckedObject.Taken layout
-  read = sym c.before.before.before.read-alone.ensures ∙ c.before.l.given.1
+  read = sym c.read_alone.ensures ∙ c.in-Taken.is
 
 -- and taken beside an empty one
-module _ (c : tie.After-known-told4) where
-  abbrev so : tie.After-known-told2
-  so = c.before.before.before.before
+module _ (c : tie.In-Taken-answer) where
+  abbrev so : tie.In-Taken
+  so = c.before.before
 
-  taken : (check_object (bytes so) ≡ CheckedObject.Taken (layout so)) × (c.before.vectors.given.0.1.0.f ≡ beside_empty (summary_in (bytes so) (layout so)))
+  taken : (check_object (bytes so) ≡ CheckedObject.Taken (layout so)) × (c.in-Taken-answer.vectors.f ≡ beside_empty (summary_in (bytes so) (layout so)))
   taken =
-      let v = c.before.vectors.given in
-      taken_so (bytes so) (layout so) (read so) c.before.before.before.answer.ensures v.0.0 v.0.1.0 v.1
+      let v = c.vectors-1.given in
+      taken_so (bytes so) (layout so) (read so) c.answer.ensures v.0.0 v.0.1.0 v.1
 
-read-alone-requires : tie.Need-read-alone-requires
-read-alone-requires c κs = search rules
+read_alone-requires : tie.Need-read_alone-requires
+read_alone-requires c κs = search rules
 
-enum-known-r : tie.Need-enum-known-r
-enum-known-r c = search rules
+enum_known-r : tie.Need-enum_known-r
+enum_known-r c = search rules
 
-enum-known-l : tie.Need-enum-known-l
-enum-known-l c = search rules
+enum_known-l : tie.Need-enum_known-l
+enum_known-l c = search rules
 
 answer-requires : tie.Need-answer-requires
 answer-requires c κs = short (bytes c) (layout c) (read c)
 
-enum-known-r-2 : tie.Need-enum-known-r-2
-enum-known-r-2 c = search rules
+enum_known-r-in-Refused-answer : tie.Need-enum_known-r-in-Refused-answer
+enum_known-r-in-Refused-answer c = search rules
 
-enum-known-vectors : tie.Need-enum-known-vectors
-enum-known-vectors c = search rules
+enum_known-vectors : tie.Need-enum_known-vectors
+enum_known-vectors c = search rules
 
 made-requires : tie.Need-made-requires
 made-requires c κs = taken c
 
-returns : tie.Need-returns
-returns c =
+returns-in-Refused : tie.Need-returns-in-Refused
+returns-in-Refused c =
     let d = c.before.before.before in
-    let s = d.before.before.args.s.now in
-    let r = c.before.r.given in
-    refused_answer s r.0.0 (object_refused s r.0.0 (sym d.read-alone.ensures ∙ r.1))
+    let s = d.args.s.now in
+    let r = c.r-1.given in
+    refused_answer s r.0.0 (object_refused s r.0.0 (sym d.read_alone.ensures ∙ r.1))
 
-returns-2 : tie.Need-returns-2
-returns-2 c =
+returns-in-Refused-answer : tie.Need-returns-in-Refused-answer
+returns-in-Refused-answer c =
     let a = c.before.before.before in
     let o = a.before in
-    let r = c.before.r2.given in
+    let r = c.r-in-Refused-answer-1.given in
     refused_answer (bytes o) r.0.0 (refused_alone (bytes o) (layout o) (read o) a.answer.ensures r.0.0 r.1)
 
-returns-3 : tie.Need-returns-3
-returns-3 c = made_answer (bytes (so c.before)) (layout (so c.before)) (taken c.before).0 c.made.ensures
+returns-in-Taken-answer : tie.Need-returns-in-Taken-answer
+returns-in-Taken-answer c = made_answer (bytes (so c.before)) (layout (so c.before)) (taken c.before).0 c.made.ensures
 
-pub summarize-spec : {M : Type 1} → statement M
-summarize-spec =
+pub summarize_spec : {M : Type 1} → statement M
+summarize_spec =
     tie.close
     (tie.spec
-    read-alone-requires
-    enum-known-r
-    enum-known-l
+    read_alone-requires
+    enum_known-r
+    enum_known-l
     answer-requires
-    enum-known-r-2
-    enum-known-vectors
+    enum_known-r-in-Refused-answer
+    enum_known-vectors
     made-requires
-    returns
-    returns-2
-    returns-3)
+    returns-in-Refused
+    returns-in-Refused-answer
+    returns-in-Taken-answer)

@@ -6,55 +6,55 @@ use borrow.Author.Rules.{rules}
 use Rattle.test_lists.proofs.write_list.Statement.{statement}
 use Rattle.test_lists.proofs.write_list.Tie as tie
 
-abbrev invariant_loop : tie.invariant-loop
+abbrev invariant_loop : tie.invariant-loop-i
 invariant_loop list i₀ t3 i = i ≤ length list
 
-abbrev decreases_loop : tie.decreases-loop
+abbrev decreases_loop : tie.decreases-loop-i
 decreases_loop list i₀ t3 i = length list - i
 
-loop-holds : tie.Need-loop-init invariant_loop decreases_loop
-loop-holds c = omega arith
+loop-i-init : tie.Need-loop-i-init invariant_loop decreases_loop
+loop-i-init c = omega arith
 
-shared-slice-read-write-field : tie.Need-shared-slice-read-write-field invariant_loop decreases_loop
-shared-slice-read-write-field c = omega arith
+bounds-list-i : tie.Need-bounds-list-i invariant_loop decreases_loop
+bounds-list-i c = omega arith
 
-cast-write-field : tie.Need-overflow-cast-write-field invariant_loop decreases_loop
-cast-write-field c = omega (arith, c.shared-slice-known2.given c.before.before.loop.i)
+overflow_cast-list : tie.Need-overflow_cast-list invariant_loop decreases_loop
+overflow_cast-list c = omega (arith, c.shared_slice_known-in-loop-i-1.given c.loop-i.i)
 
-write-field-requires : tie.Need-write-field-requires invariant_loop decreases_loop
-write-field-requires c κs = search rules
+write_field-requires : tie.Need-write_field-requires invariant_loop decreases_loop
+write_field-requires c κs = search rules
 
-add-i : tie.Need-overflow-add-i invariant_loop decreases_loop
-add-i c = omega arith
+overflow_add-i : tie.Need-overflow_add-i invariant_loop decreases_loop
+overflow_add-i c = omega arith
 
-loop-less : tie.Need-loop-smaller invariant_loop decreases_loop
-loop-less c = omega arith
+loop-i-smaller : tie.Need-loop-i-smaller invariant_loop decreases_loop
+loop-i-smaller c = omega arith
 
-loop-again : tie.Need-loop-preserved invariant_loop decreases_loop
-loop-again c = omega arith
+loop-i-preserved : tie.Need-loop-i-preserved invariant_loop decreases_loop
+loop-i-preserved c = omega arith
 
 slice-aggregate-write-all : tie.Need-slice-aggregate-write-all invariant_loop decreases_loop
 slice-aggregate-write-all c = search rules
 
-write-all-requires : tie.Need-write-all-requires invariant_loop decreases_loop
-write-all-requires c κs = search rules
+write_all-requires : tie.Need-write_all-requires invariant_loop decreases_loop
+write_all-requires c κs = search rules
 
 returns : tie.Need-returns invariant_loop decreases_loop
 returns c = search rules
 
-pub write-list-spec : {M : Type 1} → statement M
-write-list-spec =
+pub write_list_spec : {M : Type 1} → statement M
+write_list_spec =
     tie.close
     (tie.spec
     invariant_loop
     decreases_loop
-    loop-holds
-    shared-slice-read-write-field
-    cast-write-field
-    write-field-requires
-    add-i
-    loop-less
-    loop-again
+    loop-i-init
+    bounds-list-i
+    overflow_cast-list
+    write_field-requires
+    overflow_add-i
+    loop-i-smaller
+    loop-i-preserved
     slice-aggregate-write-all
-    write-all-requires
+    write_all-requires
     returns)

@@ -13,14 +13,14 @@ use Rattle.answer_line.proofs.Cells.{cell, three_rows, three_rows_length}
 use Rattle.answer_line.proofs.fields.write_cells.Statement.{statement}
 use Rattle.answer_line.proofs.fields.write_cells.Tie as tie
 
-whole : (c : tie.Start) → length c.args.t3 ≡ 3
-whole c = good_length (e_arr cell 3) 3 c.args.t3 _ c.well_formed.1.1.0
+whole : (c : tie.Start) → length c.args.cells ≡ 3
+whole c = good_length (e_arr cell 3) 3 c.args.cells _ c.well_formed.1.1.0
 
 abbrev row : tie.Start → ℕ → List ℕ
-row c i = map sign (get_or c.args.t3 i [])
+row c i = map sign (get_or c.args.cells i [])
 
-parts : (c : tie.Start) → length (cell_bytes c.args.t3) ≡ length (row c 0) + length (row c 1) + length (row c 2)
-parts c = three_rows_length c.args.t3 (whole c)
+parts : (c : tie.Start) → length (cell_bytes c.args.cells) ≡ length (row c 0) + length (row c 1) + length (row c 2)
+parts c = three_rows_length c.args.cells (whole c)
 
 bounds-cells-0 : tie.Need-bounds-cells-0
 bounds-cells-0 c = search rules
@@ -50,7 +50,7 @@ returns c =
     let second = c.before.before.before.before.before.before.before in
     let third = c.before.before in
     let start = first.before.before.before.before in
-    rw (three_rows start.args.t3 (whole start))
+    rw (three_rows start.args.cells (whole start))
     (followed first.write_row-boundary.ensures (followed second.write_row-exterior.ensures third.write_row.ensures))
 
 pub write_cells_spec : {M : Type 1} → statement M

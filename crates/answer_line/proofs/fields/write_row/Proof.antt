@@ -12,11 +12,11 @@ use Rattle.answer_line.proofs.Cells.{cell, three}
 use Rattle.answer_line.proofs.fields.write_row.Statement.{statement}
 use Rattle.answer_line.proofs.fields.write_row.Tie as tie
 
-whole : (c : tie.Start) → length c.args.t3 ≡ 3
-whole c = good_length cell 3 c.args.t3 _ c.well_formed.1.1.0
+whole : (c : tie.Start) → length c.args.row ≡ 3
+whole c = good_length cell 3 c.args.row _ c.well_formed.1.1.0
 
-three_bytes : (c : tie.Start) → length (map sign c.args.t3) ≡ 3
-three_bytes c = length-map c.args.t3 sign ∙ whole c
+three_bytes : (c : tie.Start) → length (map sign c.args.row) ≡ 3
+three_bytes c = length-map c.args.row sign ∙ whole c
 
 bounds-row-0 : tie.Need-bounds-row-0
 bounds-row-0 c = search rules
@@ -45,7 +45,7 @@ returns c =
     let second = c.before.before.before.before.before.before.before in
     let third = c.before.before in
     let start = first.before.before.before.before in
-    rw (three Empty start.args.t3 (whole start))
+    rw (three Empty start.args.row (whole start))
     (followed first.write_cell-second.ensures (followed second.write_cell-third.ensures third.write_cell.ensures))
 
 pub write_row_spec : {M : Type 1} → statement M

@@ -20,65 +20,65 @@ handed : (x : Sums) (p : Part) (t : Segment) → T (segment_in_range t) → Smal
 handed x p t range small e =
     (subst (λ (z : ℤ). nat_abs z ≤ 2 ^ 61) (sym (back (sum_of x p) (small p))) (small p), subst (λ (z : ℤ). nat_abs z ≤ 2 ^ 61) (sym (back_as e (value_small t range))) (value_small t range))
 
-shoelace-requires : tie.Need-shoelace-requires
-shoelace-requires c κs = search rules
+shoelace-v-requires : tie.Need-shoelace-v-requires
+shoelace-v-requires c κs = search rules
 
-is-both-requires : tie.Need-is-both-requires
-is-both-requires c κs = search rules
+is_both-requires : tie.Need-is_both-requires
+is_both-requires c κs = search rules
 
-is-both-requires-2 : tie.Need-is-both-requires-2
-is-both-requires-2 c κs = search rules
+is_both-requires-2 : tie.Need-is_both-requires-2
+is_both-requires-2 c κs = search rules
 
 added-requires : tie.Need-added-requires
 added-requires c κs =
     let z = c.before.before.before.before in
-    handed z.args.sums in_both z.args.t z.requires.0 z.requires.1 c.before.before.before.shoelace.ensures
+    handed z.args.sums in_both z.args.t z.requires.0 z.requires.1 c.shoelace-v.ensures
 
-is-both-requires-3 : tie.Need-is-both-requires-3
-is-both-requires-3 c κs = search rules
+is_both-requires-3 : tie.Need-is_both-requires-3
+is_both-requires-3 c κs = search rules
 
-is-both-requires-4 : tie.Need-is-both-requires-4
-is-both-requires-4 c κs = search rules
+is_both-requires-4 : tie.Need-is_both-requires-4
+is_both-requires-4 c κs = search rules
 
 added-requires-2 : tie.Need-added-requires-2
 added-requires-2 c κs =
     let z = c.before.before.before.before.before.before.before.before.before.before in
-    handed z.args.sums in_f_only z.args.t z.requires.0 z.requires.1 c.before.before.before.before.before.before.before.before.before.shoelace.ensures
+    handed z.args.sums in_f_only z.args.t z.requires.0 z.requires.1 c.shoelace-v.ensures
 
-is-both-requires-5 : tie.Need-is-both-requires-5
-is-both-requires-5 c κs = search rules
+is_both-requires-5 : tie.Need-is_both-requires-5
+is_both-requires-5 c κs = search rules
 
-is-both-requires-6 : tie.Need-is-both-requires-6
-is-both-requires-6 c κs = search rules
+is_both-requires-6 : tie.Need-is_both-requires-6
+is_both-requires-6 c κs = search rules
 
 added-requires-3 : tie.Need-added-requires-3
 added-requires-3 c κs =
     let z = c.before.before.before.before.before.before.before.before.before.before.before.before.before.before.before.before in
-    handed z.args.sums in_g_only z.args.t z.requires.0 z.requires.1 c.before.before.before.before.before.before.before.before.before.before.before.before.before.before.before.shoelace.ensures
+    handed z.args.sums in_g_only z.args.t z.requires.0 z.requires.1 c.shoelace-v.ensures
 
 returns : tie.Need-returns
 returns c in_both =
     let z = c.before.before.before.before.before.before.before.before.before.before.before.before.before.before.before.before.before in
-    sum_added z.args.t z.requires.0 (sum_of z.args.sums in_both) (z.requires.1 in_both) c.before.before.before.before.before.before.before.before.before.before.before.before.before.before.before.before.shoelace.ensures c.before.before.before.before.before.before.before.before.before.before.before.before.before.before.before.is-both.ensures c.before.before.before.before.before.before.before.before.before.before.before.before.before.before.is-both2.ensures c.before.before.before.before.before.before.before.before.before.before.before.before.added.ensures
+    sum_added z.args.t z.requires.0 (sum_of z.args.sums in_both) (z.requires.1 in_both) c.shoelace-v.ensures c.is_both.ensures c.is_both-2.ensures c.added.ensures
 returns c in_f_only =
     let z = c.before.before.before.before.before.before.before.before.before.before.before.before.before.before.before.before.before in
-    sum_added z.args.t z.requires.0 (sum_of z.args.sums in_f_only) (z.requires.1 in_f_only) c.before.before.before.before.before.before.before.before.before.before.before.before.before.before.before.before.shoelace.ensures c.before.before.before.before.before.before.before.before.before.before.is-both3.ensures c.before.before.before.before.before.before.before.before.is-both4.ensures c.before.before.before.before.before.before.added2.ensures
+    sum_added z.args.t z.requires.0 (sum_of z.args.sums in_f_only) (z.requires.1 in_f_only) c.shoelace-v.ensures c.is_both-3.ensures c.is_both-4.ensures c.added-2.ensures
 returns c in_g_only =
     let z = c.before.before.before.before.before.before.before.before.before.before.before.before.before.before.before.before.before in
-    sum_added z.args.t z.requires.0 (sum_of z.args.sums in_g_only) (z.requires.1 in_g_only) c.before.before.before.before.before.before.before.before.before.before.before.before.before.before.before.before.shoelace.ensures c.before.before.before.before.is-both5.ensures c.before.before.is-both6.ensures c.added3.ensures
+    sum_added z.args.t z.requires.0 (sum_of z.args.sums in_g_only) (z.requires.1 in_g_only) c.shoelace-v.ensures c.is_both-5.ensures c.is_both-6.ensures c.added-3.ensures
 
 pub add_spec : {M : Type 1} → statement M
 add_spec =
     tie.close
     (tie.spec
-    shoelace-requires
-    is-both-requires
-    is-both-requires-2
+    shoelace-v-requires
+    is_both-requires
+    is_both-requires-2
     added-requires
-    is-both-requires-3
-    is-both-requires-4
+    is_both-requires-3
+    is_both-requires-4
     added-requires-2
-    is-both-requires-5
-    is-both-requires-6
+    is_both-requires-5
+    is_both-requires-6
     added-requires-3
     returns)

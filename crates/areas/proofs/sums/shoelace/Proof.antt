@@ -12,7 +12,7 @@ side-requires : tie.Need-side-requires
 side-requires c κs = (is_within (2 * limit) origin (omega arith) (omega arith), left_in_doubled c.args.t c.requires, right_in_doubled c.args.t c.requires)
 
 returns : tie.Need-returns
-returns c = let t = c.before.args.t in back_as (c.side.ensures ∙ origin_side t) (value_small t c.before.requires)
+returns c = let t = c.args.t in back_as (c.side.ensures ∙ origin_side t) (value_small t c.requires)
 
-pub shoelace-spec : {M : Type 1} → statement M
-shoelace-spec = tie.close (tie.spec side-requires returns)
+pub shoelace_spec : {M : Type 1} → statement M
+shoelace_spec = tie.close (tie.spec side-requires returns)

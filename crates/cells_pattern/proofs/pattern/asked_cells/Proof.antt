@@ -15,7 +15,7 @@ fits-requires c κs = search rules
 
 returns-then-not-fits : tie.Need-returns-then-not-fits
 unfolding asked_cells
-returns-then-not-fits c = rw (sym c.fits2.ensures ∙ not-true _ c.if-not-fits.true-raw)
+returns-then-not-fits c = rw (sym c.fits.ensures ∙ not-true _ c.if-not-fits.true-raw)
 
 asked_row-requires : tie.Need-asked_row-requires
 asked_row-requires c κs = search rules
@@ -43,7 +43,7 @@ unfolding asked_cells
 returns c =
     let d = c.before.before in
     let asked = d.before in
-    rw (sym asked.fits2.ensures ∙ not-false _ asked.if-not-fits.false-raw) (omega (arith, d.asked_row.ensures.0, c.asked_row-2.ensures.0, c.asked_row-3.ensures.0))
+    rw (sym asked.fits.ensures ∙ not-false _ asked.if-not-fits.false-raw) (omega (arith, d.asked_row.ensures.0, c.asked_row-2.ensures.0, c.asked_row-3.ensures.0))
 
 pub asked_cells_spec : {M : Type 1} → statement M
 asked_cells_spec =

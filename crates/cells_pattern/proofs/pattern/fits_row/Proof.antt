@@ -43,10 +43,8 @@ fits-requires-3 c κs = search rules
 
 returns : tie.Need-returns
 returns c =
-    let second = c.before.before.before in
-    let first = second.before.before.before in
-    let z = first.args in
-    all_three (first.fits.ensures ∙ ap (λ n. fits (get_or z.p.now n 0) (get_or z.t3 0 Empty)) (first_at z.at)) second.fits-3.ensures c.fits4.ensures
+    let z = c.args in
+    all_three (c.fits.ensures ∙ ap (λ n. fits (get_or z.p.now n 0) (get_or z.row 0 Empty)) (first_at z.at)) c.fits-2.ensures c.fits-3.ensures
 
 pub fits_row_spec : {M : Type 1} → statement M
 fits_row_spec =

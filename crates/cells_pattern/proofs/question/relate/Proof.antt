@@ -72,19 +72,15 @@ returns-in-Refused c =
 
 returns-in-Refused-verdict : tie.Need-returns-in-Refused-verdict
 returns-in-Refused-verdict c =
-    let v = c.before in
-    let k = v.before.before.before in
-    let a = k.before.before in
-    pattern_refused (scene a) (pattern a) a.wanted_cells-cells.result a.answer.ensures k.in-Taken.scene k.in-Taken.vectors k.in-Taken.is
-    v.in-Refused-verdict.r (verdict_is a ∙ v.in-Refused-verdict.is)
+    let a = c.before.before in
+    pattern_refused (scene a) (pattern a) a.wanted_cells-cells.result a.answer.ensures c.in-Taken.scene c.in-Taken.vectors c.in-Taken.is
+    c.in-Refused-verdict.r (verdict_is a ∙ c.in-Refused-verdict.is)
 
 returns-in-Sound : tie.Need-returns-in-Sound
 returns-in-Sound c =
-    let told = c.before.before.before in
-    let k = told.before.before.before in
-    let a = k.before.before in
-    let sound : judged a ≡ Sound = told.in-Sound.is in
-    both_taken (scene a) (pattern a) a.wanted_cells-cells.result a.answer.ensures k.in-Taken.scene k.in-Taken.vectors k.in-Taken.is
+    let a = c.before.before.before.before.before in
+    let sound : judged a ≡ Sound = c.in-Sound.is in
+    both_taken (scene a) (pattern a) a.wanted_cells-cells.result a.answer.ensures c.in-Taken.scene c.in-Taken.vectors c.in-Taken.is
     (verdict_is a ∙ sound) (a.wanted_cells-cells.ensures ∙ ap (wanted_cells (pattern a)) sound)
     (c.fits_all.ensures ∙ ap (fits_all (pattern a)) (c.matrix.ensures ∙ ap (λ (e : Explored). matrix_from e) c.explored-explored.ensures))
 

@@ -4,31 +4,31 @@ use borrow.Author.Rules.{rules}
 use Rattle.summary_making.proofs.beside.answer.Statement.{statement}
 use Rattle.summary_making.proofs.beside.answer.Tie as tie
 
-slice-aggregate-lay : tie.Need-slice-aggregate-lay
-slice-aggregate-lay c = search rules
+slice_bounds-lay-end : tie.Need-slice_bounds-lay-end
+slice_bounds-lay-end c = search rules
 
-lay-requires : tie.Need-lay-requires
-lay-requires c κs = search rules
+lay-n-requires : tie.Need-lay-n-requires
+lay-n-requires c κs = search rules
 
-array-share-prefix-room : tie.Need-array-share-prefix-room
-array-share-prefix-room c = search rules
+slice_bounds-room-end : tie.Need-slice_bounds-room-end
+slice_bounds-room-end c = search rules
 
-slice-aggregate-answer : tie.Need-slice-aggregate-answer
-slice-aggregate-answer c = let w = c.before.before.lay.ensures in rw (start_holds w) (start_length w)
+slice_bounds-answer-end : tie.Need-slice_bounds-answer-end
+slice_bounds-answer-end c = let w = c.lay-n.ensures in rw (start_holds w) (start_length w)
 
 answer-requires : tie.Need-answer-requires
 answer-requires c κs = search rules
 
 returns : tie.Need-returns
-returns c = rw (start_holds c.before.before.before.lay.ensures) at c.answer.ensures
+returns c = rw (start_holds c.lay-n.ensures) at c.answer.ensures
 
-pub answer-spec : {M : Type 1} → statement M
-answer-spec =
+pub answer_spec : {M : Type 1} → statement M
+answer_spec =
     tie.close
     (tie.spec
-    slice-aggregate-lay
-    lay-requires
-    array-share-prefix-room
-    slice-aggregate-answer
+    slice_bounds-lay-end
+    lay-n-requires
+    slice_bounds-room-end
+    slice_bounds-answer-end
     answer-requires
     returns)

@@ -4,23 +4,23 @@ use borrow.Author.Rules.{rules}
 use Rattle.summary_making.proofs.beside.lay.Statement.{statement}
 use Rattle.summary_making.proofs.beside.lay.Tie as tie
 
-shape-number-requires : tie.Need-shape-number-requires
-shape-number-requires c κs = search rules
+shape_number-number-requires : tie.Need-shape_number-number-requires
+shape_number-number-requires c κs = search rules
 
-write-bytes-requires : tie.Need-write-bytes-requires
-write-bytes-requires c κs = search rules
+write_bytes-start-requires : tie.Need-write_bytes-start-requires
+write_bytes-start-requires c κs = search rules
 
-write-byte-requires : tie.Need-write-byte-requires
-write-byte-requires c κs = search rules
+write_byte-second-requires : tie.Need-write_byte-second-requires
+write_byte-second-requires c κs = search rules
 
-write-byte-requires-2 : tie.Need-write-byte-requires-2
-write-byte-requires-2 c κs = search rules
+write_byte-third-requires : tie.Need-write_byte-third-requires
+write_byte-third-requires c κs = search rules
 
-write-byte-requires-3 : tie.Need-write-byte-requires-3
-write-byte-requires-3 c κs = search rules
+write_byte-requires : tie.Need-write_byte-requires
+write_byte-requires c κs = search rules
 
-same_length : tie.Need-same-length
-same_length c = search rules
+shape_of-room : tie.Need-shape_of-room
+shape_of-room c = search rules
 
 returns : tie.Need-returns
 returns c =
@@ -28,17 +28,17 @@ returns c =
     let d = e.before.before.before.before in
     let b = d.before.before.before.before in
     let w = b.before.before.before.before in
-    rw (← w.before.before.shape-number.ensures)
-    (followed w.write_bytes.ensures (followed b.write_byte.ensures (followed d.write-byte2.ensures e.write-byte3.ensures)))
+    rw (← w.shape_number-number.ensures)
+    (followed w.write_bytes-start.ensures (followed b.write_byte-second.ensures (followed d.write_byte-third.ensures e.write_byte.ensures)))
 
-pub lay-spec : {M : Type 1} → statement M
-lay-spec =
+pub lay_spec : {M : Type 1} → statement M
+lay_spec =
     tie.close
     (tie.spec
-    shape-number-requires
-    write-bytes-requires
-    write-byte-requires
-    write-byte-requires-2
-    write-byte-requires-3
-    same_length
+    shape_number-number-requires
+    write_bytes-start-requires
+    write_byte-second-requires
+    write_byte-third-requires
+    write_byte-requires
+    shape_of-room
     returns)

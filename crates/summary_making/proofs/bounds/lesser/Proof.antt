@@ -28,13 +28,13 @@ module _ (s : tie.Start) where
   tested : {t : Bool} → le_z (to_z w32 (of_z w32 a)) (to_z w32 (of_z w32 b)) ≡ t → le_z a b ≡ t
   tested e = sym (ap₂ le_z (to_z-of_z a_fits) (to_z-of_z b_fits)) ∙ e
 
-returns : tie.Need-returns
+returns-then-a-b : tie.Need-returns-then-a-b
 unfolding lesser
-returns c = rw (to_z-of_z (a_fits c.before), tested c.before c.if1.true)
+returns-then-a-b c = rw (to_z-of_z (a_fits c.before), tested c.before c.if-a-b.true)
 
-returns-2 : tie.Need-returns-2
+returns-else-a-b : tie.Need-returns-else-a-b
 unfolding lesser
-returns-2 c = rw (to_z-of_z (b_fits c.before), tested c.before c.if1.false)
+returns-else-a-b c = rw (to_z-of_z (b_fits c.before), tested c.before c.if-a-b.false)
 
-pub lesser-spec : {M : Type 1} → statement M
-lesser-spec = tie.close (tie.spec returns returns-2)
+pub lesser_spec : {M : Type 1} → statement M
+lesser_spec = tie.close (tie.spec returns-then-a-b returns-else-a-b)

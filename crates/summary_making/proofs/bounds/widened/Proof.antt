@@ -37,15 +37,15 @@ returns c =
     λ i. record {
       least = record {
         x = (to_z-of_z {w = w32} {z = k.lesser.result} (search rules) ∙ k.lesser.ensures ∙ ap₂ lesser (to_z-of_z b.0.x_fits) (to_z-of_z p.x_fits)) i;
-        y = (to_z-of_z {w = w32} {z = m.lesser2.result} (search rules) ∙ m.lesser2.ensures ∙ ap₂ lesser (to_z-of_z b.0.y_fits) (to_z-of_z p.y_fits)) i;
+        y = (to_z-of_z {w = w32} {z = m.lesser-2.result} (search rules) ∙ m.lesser-2.ensures ∙ ap₂ lesser (to_z-of_z b.0.y_fits) (to_z-of_z p.y_fits)) i;
       };
       greatest = record {
         x = (to_z-of_z {w = w32} {z = g.greater.result} (search rules) ∙ g.greater.ensures ∙ ap₂ greater (to_z-of_z b.1.x_fits) (to_z-of_z p.x_fits)) i;
-        y = (to_z-of_z {w = w32} {z = c.greater2.result} (search rules) ∙ c.greater2.ensures ∙ ap₂ greater (to_z-of_z b.1.y_fits) (to_z-of_z p.y_fits)) i;
+        y = (to_z-of_z {w = w32} {z = c.greater-2.result} (search rules) ∙ c.greater-2.ensures ∙ ap₂ greater (to_z-of_z b.1.y_fits) (to_z-of_z p.y_fits)) i;
       };
     }
 
-pub widened-spec : {M : Type 1} → statement M
-widened-spec =
+pub widened_spec : {M : Type 1} → statement M
+widened_spec =
     tie.close
     (tie.spec lesser-requires lesser-requires-2 greater-requires greater-requires-2 returns)

@@ -9,55 +9,55 @@ use borrow.Author.Rules.{rules}
 use Rattle.summary_making.proofs.bounds.with_element.Statement.{statement}
 use Rattle.summary_making.proofs.bounds.with_element.Tie as tie
 
-enum_told : tie.Need-enum-told
-enum_told c = search rules
+enum_told-1 : tie.Need-enum_told-1
+enum_told-1 c = search rules
 
 point-requires : tie.Need-point-requires
-point-requires c κs = omega (arith, c.before.before.before.requires, ap size c.enum_told.given.1)
+point-requires c κs = omega (arith, c.requires, ap size c.in-Points.is)
 
 widened-requires : tie.Need-widened-requires
 widened-requires c κs = search rules
 
-enum-told-2 : tie.Need-enum-told-2
-enum-told-2 c = search rules
+enum_told-in-Line : tie.Need-enum_told-in-Line
+enum_told-in-Line c = search rules
 
 halfsegment-requires : tie.Need-halfsegment-requires
-halfsegment-requires c κs = omega (arith, c.before.before.before.requires, ap size c.enum-told2.given.1)
+halfsegment-requires c κs = omega (arith, c.requires, ap size c.in-Line.is)
 
-with-half-requires : tie.Need-with-half-requires
-with-half-requires c κs = search rules
+with_half-requires : tie.Need-with_half-requires
+with_half-requires c κs = search rules
 
-enum-told-3 : tie.Need-enum-told-3
-enum-told-3 c = search rules
+enum_told-in-Region : tie.Need-enum_told-in-Region
+enum_told-in-Region c = search rules
 
-halfsegment-requires-2 : tie.Need-halfsegment-requires-2
-halfsegment-requires-2 c κs = omega (arith, c.before.before.before.requires, ap size c.enum-told3.given.1)
+halfsegment-requires-in-Region : tie.Need-halfsegment-requires-in-Region
+halfsegment-requires-in-Region c κs = omega (arith, c.requires, ap size c.in-Region.is)
 
-with-half-requires-2 : tie.Need-with-half-requires-2
-with-half-requires-2 c κs = search rules
+with_half-requires-in-Region : tie.Need-with_half-requires-in-Region
+with_half-requires-in-Region c κs = search rules
 
-returns : tie.Need-returns
-returns c = let d = c.before.before in rw d.enum_told.given.1 (c.widened.ensures ∙ ap (widen d.before.before.before.args.b) c.before.point.ensures)
+returns-in-Points : tie.Need-returns-in-Points
+returns-in-Points c = let d = c.before.before in rw d.in-Points.is (c.widened.ensures ∙ ap (widen d.args.b) c.point.ensures)
 
-returns-2 : tie.Need-returns-2
-returns-2 c = let d = c.before.before in rw d.enum-told2.given.1 (c.with-half.ensures ∙ ap (λ (h : Halfsegment). grow d.before.before.before.args.b (corners_of h)) c.before.halfsegment.ensures)
+returns-in-Line : tie.Need-returns-in-Line
+returns-in-Line c = let d = c.before.before in rw d.in-Line.is (c.with_half.ensures ∙ ap (λ (h : Halfsegment). grow d.args.b (corners_of h)) c.halfsegment.ensures)
 
-returns-3 : tie.Need-returns-3
-returns-3 c = let d = c.before.before in rw d.enum-told3.given.1 (c.with-half2.ensures ∙ ap (λ (h : Halfsegment). grow d.before.before.before.args.b (corners_of h)) c.before.halfsegment2.ensures)
+returns-in-Region : tie.Need-returns-in-Region
+returns-in-Region c = let d = c.before.before in rw d.in-Region.is (c.with_half-in-Region.ensures ∙ ap (λ (h : Halfsegment). grow d.args.b (corners_of h)) c.halfsegment-in-Region.ensures)
 
-pub with-element-spec : {M : Type 1} → statement M
-with-element-spec =
+pub with_element_spec : {M : Type 1} → statement M
+with_element_spec =
     tie.close
     (tie.spec
-    enum_told
+    enum_told-1
     point-requires
     widened-requires
-    enum-told-2
+    enum_told-in-Line
     halfsegment-requires
-    with-half-requires
-    enum-told-3
-    halfsegment-requires-2
-    with-half-requires-2
-    returns
-    returns-2
-    returns-3)
+    with_half-requires
+    enum_told-in-Region
+    halfsegment-requires-in-Region
+    with_half-requires-in-Region
+    returns-in-Points
+    returns-in-Line
+    returns-in-Region)

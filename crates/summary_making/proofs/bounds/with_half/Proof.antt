@@ -9,16 +9,16 @@ use Rattle.summary_making.proofs.bounds.with_half.Tie as tie
 widened-requires : tie.Need-widened-requires
 widened-requires c κs = search rules
 
-widened-requires-2 : tie.Need-widened-requires-2
-widened-requires-2 c κs = search rules
+widened-requires-then-h : tie.Need-widened-requires-then-h
+widened-requires-then-h c κs = search rules
 
-returns : tie.Need-returns
-returns c =
-    rw c.before.before.if1.true
-    (c.widened2.ensures ∙ ap (λ (b : Bounds). widen b c.before.before.before.before.args.h.segment.right) c.before.widened.ensures)
+returns-then-h : tie.Need-returns-then-h
+returns-then-h c =
+    rw c.if-h.true
+    (c.widened-then-h.ensures ∙ ap (λ (b : Bounds). widen b c.args.h.segment.right) c.widened.ensures)
 
-returns-2 : tie.Need-returns-2
-returns-2 c = search rules
+returns-else-h : tie.Need-returns-else-h
+returns-else-h c = search rules
 
-pub with-half-spec : {M : Type 1} → statement M
-with-half-spec = tie.close (tie.spec widened-requires widened-requires-2 returns returns-2)
+pub with_half_spec : {M : Type 1} → statement M
+with_half_spec = tie.close (tie.spec widened-requires widened-requires-then-h returns-then-h returns-else-h)
