@@ -2,15 +2,16 @@
 #![tactic(auto)]
 
 use answer_line::LINE_LIMIT;
-use libc::{STDIN_FILENO, STDOUT_FILENO};
+use std::io;
 
 // One byte more than the longest scene has. A longer input has the line of its first 38,919 bytes: `line_of_first_bytes` (answer_line, `FirstBytes`).
 const ROOM: usize = 38919;
 
-fn main() {
+fn main(rt: HostRuntime) -> io::Result<()> {
     let mut input = [0u8; ROOM];
-    let length = io::read_full(STDIN_FILENO, &mut input);
+    // A read that fails ends the input, as the end does.
+    let (length, _) = streams::read_full(&mut rt.stdin(), &mut input);
     let mut line = [0u8; LINE_LIMIT];
     let written = answer_line::write_line(&input[..length], &mut line);
-    io::write_all(STDOUT_FILENO, &line[..written]);
+    rt.write_all(&line[..written])
 }

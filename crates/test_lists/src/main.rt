@@ -2,48 +2,58 @@
 // for each: number, place, count, and the whole buffer after the call, which held nines before it.
 #![tactic(auto)]
 
-use libc::{STDIN_FILENO, STDOUT_FILENO};
+use std::io;
+use std::io::Stdout;
+use streams::Output;
 
 // Two digits are enough here. Answers false where they could not be written.
-fn write_field(n: usize) -> bool {
+fn write_field(out: &mut Output<Stdout>, n: usize) -> bool {
     let digits = [b' ', b'0' + (n / 10 % 10) as u8, b'0' + (n % 10) as u8];
-    io::write_all(STDOUT_FILENO, &digits)
+    out.write(&digits)
 }
 
-fn write_list(list: &[u8]) {
+fn write_list(out: &mut Output<Stdout>, list: &[u8]) {
     let mut i = 0;
     while i < list.len() {
-        write_field(list[i] as usize);
+        write_field(out, list[i] as usize);
         i += 1;
     }
-    io::write_all(STDOUT_FILENO, b"\n");
+    out.write(b"\n");
 }
 
-fn ask(name: &[u8], scene: &[u8], list: &mut [u8]) {
+fn ask(out: &mut Output<Stdout>, name: &[u8], scene: &[u8], list: &mut [u8]) {
     let answer = overlap::overlap_list(scene, list);
-    io::write_all(STDOUT_FILENO, name);
-    write_field(answer.number as usize);
-    write_field(answer.place);
-    write_field(answer.count);
-    write_list(list);
+    out.write(name);
+    write_field(out, answer.number as usize);
+    write_field(out, answer.place);
+    write_field(out, answer.count);
+    write_list(out, list);
 }
 
 // Scene e: its list has seven bytes.
-fn ask_for_e(scene: &[u8]) {
+fn ask_for_e(out: &mut Output<Stdout>, scene: &[u8]) {
     let mut more = [9u8; 9];
-    ask(b"e, room for more", scene, &mut more);
+    ask(out, b"e, room for more", scene, &mut more);
     let mut enough = [9u8; 7];
-    ask(b"e, just enough", scene, &mut enough);
+    ask(out, b"e, just enough", scene, &mut enough);
     let mut short = [9u8; 6];
-    ask(b"e, one short", scene, &mut short);
+    ask(out, b"e, one short", scene, &mut short);
 }
 
-fn main() {
+fn main(rt: HostRuntime) -> io::Result<()> {
     let mut input = [0u8; 512];
-    let n = io::read_full(STDIN_FILENO, &mut input);
-    ask_for_e(&input[..n]);
+    let (n, outcome) = streams::read_full(&mut rt.stdin(), &mut input);
+    outcome?;
+    let mut out = Output::new(rt.stdout());
+    ask_for_e(&mut out, &input[..n]);
     let mut none = [9u8; 1];
-    ask(b"two empty regions", b"T\x03ET\x03E", &mut none[..0]);
+    ask(
+        &mut out,
+        b"two empty regions",
+        b"T\x03ET\x03E",
+        &mut none[..0],
+    );
     let mut buffer = [9u8; 2];
-    ask(b"no points twice", b"T\x01ET\x01E", &mut buffer);
+    ask(&mut out, b"no points twice", b"T\x01ET\x01E", &mut buffer);
+    out.finish()
 }

@@ -4,64 +4,69 @@
 
 ghost use Rattle.std.specs.Prelude.{◌<◌, ◌≤◌, length};
 
-use libc::{STDIN_FILENO, STDOUT_FILENO};
 use scene::{CheckedObject, CheckedScene};
+use std::io;
+use std::io::Stdout;
+use streams::Output;
 
-fn report(label: &[u8], number: u8, place: usize) {
-    io::write_all(STDOUT_FILENO, label);
-    io::write_all(STDOUT_FILENO, b": ");
-    io::print_decimal(STDOUT_FILENO, number as u64);
-    io::write_all(STDOUT_FILENO, b" ");
-    io::print_decimal(STDOUT_FILENO, place as u64);
-    io::write_all(STDOUT_FILENO, b"\n");
+fn report(out: &mut Output<Stdout>, label: &[u8], number: u8, place: usize) {
+    out.write(label);
+    out.write(b": ");
+    out.print(number);
+    out.write(b" ");
+    out.print(place);
+    out.write(b"\n");
 }
 
-fn check_scene(label: &[u8], bytes: &[u8]) {
+fn check_scene(out: &mut Output<Stdout>, label: &[u8], bytes: &[u8]) {
     match check_verdict::check_scene(bytes) {
-        CheckedScene::Taken(_) => report(label, 0, 0),
-        CheckedScene::Refused(r) => report(label, r.number, r.place),
+        CheckedScene::Taken(_) => report(out, label, 0, 0),
+        CheckedScene::Refused(r) => report(out, label, r.number, r.place),
     }
 }
 
-fn check_object(label: &[u8], bytes: &[u8]) {
+fn check_object(out: &mut Output<Stdout>, label: &[u8], bytes: &[u8]) {
     match check_verdict::check_object(bytes) {
-        CheckedObject::Taken(_) => report(label, 0, 0),
-        CheckedObject::Refused(r) => report(label, r.number, r.place),
+        CheckedObject::Taken(_) => report(out, label, 0, 0),
+        CheckedObject::Refused(r) => report(out, label, r.number, r.place),
     }
 }
 
-fn check(label: &[u8], text: &[u8]) {
+fn check(out: &mut Output<Stdout>, label: &[u8], text: &[u8]) {
     let mut space = [0u8; 16384];
     let n = test_notation::write(&mut space, text);
     let bytes = &space[..n];
     if label.len() > 0 && label[0] == b'o' {
-        check_object(label, bytes);
+        check_object(out, label, bytes);
     } else {
-        check_scene(label, bytes);
+        check_scene(out, label, bytes);
     }
 }
 
 // Checks the case that begins at some place, and says where the next one begins.
-fn check_case(text: &[u8], at: usize) -> usize
+fn check_case(out: &mut Output<Stdout>, text: &[u8], at: usize) -> usize
     requires { at < length text.now }
     ensures { (at < result) × (result ≤ length text.now) }
 {
     let case = test_notation::case_at(text, at);
     let colon = case.colon;
     let end = case.end;
-    check(&text[at..colon], &text[colon..end]);
+    check(out, &text[at..colon], &text[colon..end]);
     case.next
 }
 
-fn check_all(text: &[u8]) {
+fn check_all(out: &mut Output<Stdout>, text: &[u8]) {
     let mut at: usize = 0;
     while at < text.len() {
-        at = check_case(text, at);
+        at = check_case(out, text, at);
     }
 }
 
-fn main() {
-    let mut space = io::large_buffer();
-    let n = io::read_full(STDIN_FILENO, &mut space);
-    check_all(&space[..n]);
+fn main(rt: HostRuntime) -> io::Result<()> {
+    let mut space = [0u8; 65536];
+    let (n, outcome) = streams::read_full(&mut rt.stdin(), &mut space);
+    outcome?;
+    let mut out = Output::new(rt.stdout());
+    check_all(&mut out, &space[..n]);
+    out.finish()
 }

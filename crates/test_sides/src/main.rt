@@ -3,12 +3,12 @@
 #![tactic(auto)]
 
 ghost use Rattle.std.specs.Prelude.{◌≡◌, ◌+◌, ◌*◌, ◌≤◌, T, length};
-ghost use Rattle.io.specs.Counts.{IsPrefixLen};
 ghost use Rattle.plane.specs.Plane.{in_range};
+ghost use Rattle.streams.specs.Counts.{IsPrefixLen};
 
-use libc::{STDIN_FILENO, STDOUT_FILENO};
 use plane::{Point, Segment, Turn};
 use scene::bytes;
+use std::io;
 
 // Quadruples in a block, and the most blocks that are read: four million quadruples.
 const MANY: usize = 1024;
@@ -97,18 +97,20 @@ fn write_block(s: &[u8], out: &mut [u8]) -> usize
 }
 
 // One block read and answered. Was it full?
-fn answer_block() -> bool {
+fn answer_block(rt: &(impl Input + Print)) -> io::Result<bool> {
     let mut block = [0u8; 32 * MANY];
     let mut letters = [0u8; 2 * MANY];
-    let length = io::read_full(STDIN_FILENO, &mut block);
+    let (length, outcome) = streams::read_full(&mut rt.reader(), &mut block);
+    outcome?;
     let written = write_block(&block[..length], &mut letters);
-    io::write_all(STDOUT_FILENO, &letters[..written]);
-    length == 32 * MANY
+    rt.write_all(&letters[..written])?;
+    Ok(length == 32 * MANY)
 }
 
-fn main() {
+fn main(rt: HostRuntime) -> io::Result<()> {
     let mut n: usize = 0;
-    while n < BLOCKS && answer_block() {
+    while n < BLOCKS && answer_block(&rt)? {
         n += 1;
     }
+    Ok(())
 }

@@ -5,23 +5,25 @@
 ghost use Rattle.std.specs.Prelude.{◌<◌, ◌≤◌, length};
 
 use flags_vectors::{VectorsAnswer, question};
-use libc::{STDIN_FILENO, STDOUT_FILENO};
+use std::io;
+use std::io::Stdout;
+use streams::Output;
 
-fn report(label: &[u8], word: &[u8], one: u64, two: u64) {
-    io::write_all(STDOUT_FILENO, label);
-    io::write_all(STDOUT_FILENO, word);
-    io::print_decimal(STDOUT_FILENO, one);
-    io::write_all(STDOUT_FILENO, b" ");
-    io::print_decimal(STDOUT_FILENO, two);
-    io::write_all(STDOUT_FILENO, b"\n");
+fn report(out: &mut Output<Stdout>, label: &[u8], word: &[u8], one: u64, two: u64) {
+    out.write(label);
+    out.write(word);
+    out.print(one);
+    out.write(b" ");
+    out.print(two);
+    out.write(b"\n");
 }
 
-fn answer(label: &[u8], want_f: u16, want_g: u16, text: &[u8]) {
+fn answer(out: &mut Output<Stdout>, label: &[u8], want_f: u16, want_g: u16, text: &[u8]) {
     let mut space = [0u8; 16384];
     let n = test_notation::write(&mut space, text);
     match question::vectors(&space[..n], want_f, want_g) {
-        VectorsAnswer::Taken(v) => report(label, b": ", v.f as u64, v.g as u64),
-        VectorsAnswer::Refused(r) => report(label, b": no ", r.number as u64, r.place as u64),
+        VectorsAnswer::Taken(v) => report(out, label, b": ", v.f as u64, v.g as u64),
+        VectorsAnswer::Refused(r) => report(out, label, b": no ", r.number as u64, r.place as u64),
     }
 }
 
@@ -43,9 +45,10 @@ fn number(text: &[u8]) -> u16 {
     n
 }
 
-fn answer_wanted(label: &[u8], masks: &[u8], text: &[u8]) {
+fn answer_wanted(out: &mut Output<Stdout>, label: &[u8], masks: &[u8], text: &[u8]) {
     let comma = test_notation::find(masks, 0, b',');
     answer(
+        out,
         label,
         number(&masks[0..comma]),
         number(&masks[comma..]),
@@ -53,36 +56,39 @@ fn answer_wanted(label: &[u8], masks: &[u8], text: &[u8]) {
     );
 }
 
-fn answer_text(label: &[u8], text: &[u8]) {
+fn answer_text(out: &mut Output<Stdout>, label: &[u8], text: &[u8]) {
     let close = test_notation::find(text, 0, b']');
     if close == text.len() {
-        answer(label, 0, 0, text);
+        answer(out, label, 0, 0, text);
     } else {
-        answer_wanted(label, &text[0..close], &text[close..]);
+        answer_wanted(out, label, &text[0..close], &text[close..]);
     }
 }
 
 // Answers the case that begins at some place, and says where the next one begins.
-fn answer_case(text: &[u8], at: usize) -> usize
+fn answer_case(out: &mut Output<Stdout>, text: &[u8], at: usize) -> usize
     requires { at < length text.now }
     ensures { (at < result) × (result ≤ length text.now) }
 {
     let case = test_notation::case_at(text, at);
     let colon = case.colon;
     let end = case.end;
-    answer_text(&text[at..colon], &text[colon..end]);
+    answer_text(out, &text[at..colon], &text[colon..end]);
     case.next
 }
 
-fn answer_all(text: &[u8]) {
+fn answer_all(out: &mut Output<Stdout>, text: &[u8]) {
     let mut at: usize = 0;
     while at < text.len() {
-        at = answer_case(text, at);
+        at = answer_case(out, text, at);
     }
 }
 
-fn main() {
-    let mut space = io::large_buffer();
-    let n = io::read_full(STDIN_FILENO, &mut space);
-    answer_all(&space[..n]);
+fn main(rt: HostRuntime) -> io::Result<()> {
+    let mut space = [0u8; 65536];
+    let (n, outcome) = streams::read_full(&mut rt.stdin(), &mut space);
+    outcome?;
+    let mut out = Output::new(rt.stdout());
+    answer_all(&mut out, &space[..n]);
+    out.finish()
 }
