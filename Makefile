@@ -6,16 +6,16 @@
 test:
 	@bash tests/gate
 
-# The proved program, and the archive for C; tools/prove says how far the proofs have come
-sources := $(shell find crates -name '*.rt' -o -name '*.antt')
+# The proved programs, and the archive for C: copies of what rt builds; tools/prove says how far the proofs have come
+sources := crates.txt $(shell find crates -name out -prune -o \( -name '*.rt' -o -name '*.antt' \) -print)
 
-target/bin/explore: $(sources)
-	@tools/prove explore rt check explore && touch $@
+target/bin/explore target/bin/test_sides: target/bin/%: $(sources)
+	@tools/prove $*
 
 archive: target/staticlib/libkarvoiss.a
 
 target/staticlib/libkarvoiss.a: $(sources)
-	@tools/prove karvoiss rt staticlib karvoiss && touch $@
+	@tools/prove karvoiss
 
 # Where a C build finds them; DESTDIR is put before PREFIX for packages
 PREFIX ?= /usr/local
@@ -64,7 +64,7 @@ bench: archive
 	@bench/window
 
 fmt:
-	@rt fmt
+	@for crate in crates/*/; do (cd $$crate && rt fmt) || exit 1; done
 
 clean:
-	rm -rf target
+	rm -rf target crates/*/out
