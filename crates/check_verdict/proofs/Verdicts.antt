@@ -50,9 +50,9 @@ decide_alike n f g a b e then = go f refl ∙ ap (λ (h : Fault). decide Refused
     go Nothing q = then q
 
 -- each test rests on the conditions before it
-pub object-numbered : (s : List ℕ) (l : Layout) → IsObject s l → object_verdict s l ≡ verdict (numbered (fault_under s l l) 10 15)
+pub object_numbered : (s : List ℕ) (l : Layout) → IsObject s l → object_verdict s l ≡ verdict (numbered (fault_under s l l) 10 15)
 unfolding object_verdict out_of_order
-object-numbered s l is =
+object_numbered s l is =
     decide_alike 10 (out_of_order s l) (fault_under s l l 10) _ _ refl (λ order.
     decide_alike 11 (unpaired s l) (fault_under s l l 11) _ _ (sym (fault_11 s l is order)) (λ paired.
     decide_alike 12 (touching_itself s l) (fault_under s l l 12) _ _ (sym (fault_12 s l is order)) (λ _.

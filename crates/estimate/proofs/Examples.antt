@@ -21,11 +21,11 @@ abbrev sides : List Estimated → List Side
 sides = map (λ (e : Estimated). e.side)
 
 -- 524,289 is certain, 524,288 is not; so to the right
-certain-from :
+certain_from :
     sides (along (pos 524289) ∷ along (pos 524288) ∷ along (negsuc 524287) ∷ along (negsuc 524288) ∷ along (pos 1000000) ∷ [])
     ≡ (Left ∷ Close ∷ Close ∷ Right ∷ Left ∷ [])
 unfolding estimated all_in_range within float_side certain of_int round add sub mul neg sum size span climb units odd count_trailing_zeros lt
-certain-from = refl
+certain_from = refl
 
 -- outside the range
 outside : along (pos 1000001) ≡ record { estimate = fin false 0 (pos 0); side = Close }

@@ -58,21 +58,21 @@ module _ (s : List ℕ) (f g : Layout) (notes : List ℕ) where
   marks_of_g = marks_at s g f (λ k. get_or notes (1024 + k) 0)
 
   pub record Walking (of_f_lem of_g_lem : ℕ) (i j : ℕ) : Type 0 where
-    pub found-f : Gathering marks_of_f f.count of_f_lem i
-    pub found-g : Gathering marks_of_g g.count of_g_lem j
+    pub found_f : Gathering marks_of_f f.count of_f_lem i
+    pub found_g : Gathering marks_of_g g.count of_g_lem j
     pub stands : Standing s f g i j
 
   pub walking : Walking 0 0 0 0
   walking = record {
-    found-f = gathering marks_of_f f.count;
-    found-g = gathering marks_of_g g.count;
+    found_f = gathering marks_of_f f.count;
+    found_g = gathering marks_of_g g.count;
     stands = standing s f g;
   }
 
   to_next : {of_f_lem of_g_lem : ℕ} {i j a b : ℕ} → Walking of_f_lem of_g_lem i j → Nexts s f g i j a b → Walking of_f_lem of_g_lem a b
   to_next w n = record {
-    found-f = gathered_left s f g (λ k. get_or notes k 0) w.found-f n.of_f_lem;
-    found-g = gathered_left s g f (λ k. get_or notes (1024 + k) 0) w.found-g n.of_g_lem;
+    found_f = gathered_left s f g (λ k. get_or notes k 0) w.found_f n.of_f_lem;
+    found_g = gathered_left s g f (λ k. get_or notes (1024 + k) 0) w.found_g n.of_g_lem;
     stands = stands_next s f g w.stands n;
   }
 
@@ -87,8 +87,8 @@ module _ {s : List ℕ} {sc : Scene} (o : SoundScene s sc) (notes : List ℕ) wh
   module _ {of_f_lem of_g_lem : ℕ} {i j : ℕ} (w : Walking s f g notes of_f_lem of_g_lem i j) where
     pub walking_f : {a b : ℕ} → NextOfF s f g i j a b → {x y : ℕ} → x ≡ unshared_marks (ia s f a) (get_or notes a 0) → y ≡ bit_or of_f_lem x → Walking s f g notes y of_g_lem (a + 1) b
     walking_f {a} {b} n e q = record {
-      found-f = gathered_one (marks_of_f s f g notes) f.count v.found-f n.there (e ∙ marks_unshared s f g o.g_sound n.there (n.nexts.of_f_lem.there n.there) (alone_f o w.stands n) (λ k. get_or notes k 0)) q;
-      found-g = v.found-g;
+      found_f = gathered_one (marks_of_f s f g notes) f.count v.found_f n.there (e ∙ marks_unshared s f g o.g_sound n.there (n.nexts.of_f_lem.there n.there) (alone_f o w.stands n) (λ k. get_or notes k 0)) q;
+      found_g = v.found_g;
       stands = standing_f o w.stands n;
     }
       where
@@ -97,8 +97,8 @@ module _ {s : List ℕ} {sc : Scene} (o : SoundScene s sc) (notes : List ℕ) wh
 
     pub walking_g : {a b : ℕ} → NextOfG s f g i j a b → {x y : ℕ} → x ≡ unshared_marks (ia s g b) (get_or notes (1024 + b) 0) → y ≡ bit_or of_g_lem x → Walking s f g notes of_f_lem y a (b + 1)
     walking_g {a} {b} n e q = record {
-      found-f = v.found-f;
-      found-g = gathered_one (marks_of_g s f g notes) g.count v.found-g n.there (e ∙ marks_unshared s g f o.f_sound n.there (n.nexts.of_g_lem.there n.there) (alone_g o w.stands n) (λ k. get_or notes (1024 + k) 0)) q;
+      found_f = v.found_f;
+      found_g = gathered_one (marks_of_g s f g notes) g.count v.found_g n.there (e ∙ marks_unshared s g f o.f_sound n.there (n.nexts.of_g_lem.there n.there) (alone_g o w.stands n) (λ k. get_or notes (1024 + k) 0)) q;
       stands = standing_g o w.stands n;
     }
       where
@@ -110,8 +110,8 @@ module _ {s : List ℕ} {sc : Scene} (o : SoundScene s sc) (notes : List ℕ) wh
         → p ≡ shared_marks (ia s g b) (ia s f a) → q ≡ bit_or of_g_lem p
         → Walking s f g notes y q (a + 1) (b + 1)
     walking_both {a} {b} n e y d q = record {
-      found-f = gathered_one (marks_of_f s f g notes) f.count v.found-f n.there_f (e ∙ marks_shared s f g o.g_sound n.there_f left_f n.there_g left_g (one_segment n) (λ k. get_or notes k 0)) y;
-      found-g = gathered_one (marks_of_g s f g notes) g.count v.found-g n.there_g (d ∙ marks_shared s g f o.f_sound n.there_g left_g n.there_f left_f (sym (one_segment n)) (λ k. get_or notes (1024 + k) 0)) q;
+      found_f = gathered_one (marks_of_f s f g notes) f.count v.found_f n.there_f (e ∙ marks_shared s f g o.g_sound n.there_f left_f n.there_g left_g (one_segment n) (λ k. get_or notes k 0)) y;
+      found_g = gathered_one (marks_of_g s f g notes) g.count v.found_g n.there_g (d ∙ marks_shared s g f o.f_sound n.there_g left_g n.there_f left_f (sym (one_segment n)) (λ k. get_or notes (1024 + k) 0)) q;
       stands = standing_both o w.stands n;
     }
       where
@@ -127,4 +127,4 @@ module _ {s : List ℕ} {sc : Scene} (o : SoundScene s sc) (notes : List ℕ) wh
     pub walked : Nexts s f g i j f.count g.count → (named of_f_lem ≡ classes_of_f s sc notes) × (named of_g_lem ≡ classes_of_g s sc notes)
     walked n =
         let v = to_next s f g notes w n in
-        (ap named (gathered_all (marks_of_f s f g notes) f.count v.found-f (omega arith)) ∙ all_named s f g (λ k. get_or notes k 0), ap named (gathered_all (marks_of_g s f g notes) g.count v.found-g (omega arith)) ∙ all_named s g f (λ k. get_or notes (1024 + k) 0))
+        (ap named (gathered_all (marks_of_f s f g notes) f.count v.found_f (omega arith)) ∙ all_named s f g (λ k. get_or notes k 0), ap named (gathered_all (marks_of_g s f g notes) g.count v.found_g (omega arith)) ∙ all_named s g f (λ k. get_or notes (1024 + k) 0))

@@ -14,7 +14,7 @@ use lib.Ieee.Fits.{down_pos}
 use lib.Ieee.Scale.{round_same}
 use Rattle.whole.proofs.Balance.{P, N, add_balance, sub_balanceℤ, neg_P, neg_N, pos_P, pos_N, balance_eq}
 use Rattle.floats.specs.Value.{with_sign, Whole, Within, Near}
-use Rattle.floats.proofs.Rounded.{round-within}
+use Rattle.floats.proofs.Rounded.{round_within}
 
 -- ---- with_sign numbers
 signed_P : (s : Bool) (n : ℕ) → P (with_sign s n) + N (with_sign s n) ≡ n
@@ -68,7 +68,7 @@ module _ (f : Format) (j d : ℕ) (room : prec f + j + 1 ≤ suc (emax f)) (half
   rounded : (s : Bool) (n : ℕ) (z : ℤ) → with_sign s n ≡ z → nat_abs z < 2 ^ (prec f + j) → Rounded (round f s n 1) d z
   rounded s n z e h =
       let m : n < 2 ^ (prec f + j) = subst (λ (x : ℕ). x < 2 ^ (prec f + j)) (ap nat_abs (sym e) ∙ nat_abs_signed s n) h in
-      let r = round-within f s j n m room in
+      let r = round_within f s j n m room in
       record {
         near = with_sign s r.0;
         whole = record { negative = s; size = r.0; value = r.1; is = refl };

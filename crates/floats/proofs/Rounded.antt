@@ -115,10 +115,10 @@ module _ (f : Format) (s : Bool) (n i : ℕ) where
           tail p j = omega arith
 
 -- a whole number rounded is a whole number, moved by at most half of 2 ^ j
-pub round-within :
+pub round_within :
     (f : Format) (s : Bool) (j n : ℕ) → n < 2 ^ (prec f + j) → prec f + j + 1 ≤ suc (emax f) →
     (r : ℕ) × HasValue (round f s n 1) s r 1 × Within (2 ^ j) (r * 2) (n * 2)
-round-within f s j n h room = go (leb n (2 ^ prec f)) (leb→le n (2 ^ prec f)) (nleb→lt n (2 ^ prec f))
+round_within f s j n h room = go (leb n (2 ^ prec f)) (leb→le n (2 ^ prec f)) (nleb→lt n (2 ^ prec f))
   where
     same : (x d : ℕ) → Within d (x * 2) (x * 2)
     same x d = (omega arith, omega arith)

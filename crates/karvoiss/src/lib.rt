@@ -1,4 +1,6 @@
 // What C programs call: every function is total, keeps no state and allocates nothing. include/karvoiss.h is for those who call them.
+#![tactic(auto)]
+
 ghost use Rattle.std.specs.Prelude.{◌≡◌, length};
 ghost use Rattle.check_verdict.specs.SharedPoints.{CheckedMeans, CheckedObjectMeans};
 ghost use Rattle.flags_vectors.specs.Vectors.{these, check_vectors, vectors_of, NoFlagWrong};

@@ -95,11 +95,11 @@ closed = refl
 abbrev long : Segment
 long = from (at (negsuc 9999999) (negsuc 9999999)) (at (pos 10000000) (pos 9999998))
 
-on-long :
+on_long :
     map (on long) (grid long.left ∷ grid long.right ∷ midpoint long ∷ grid (at (pos 30000000) (pos 29999996)) ∷ grid (at (pos 0) (pos 0)) ∷ [])
     ≡ (true ∷ true ∷ true ∷ false ∷ false ∷ [])
 unfolding on is_not_before is_not_after side_at
-on-long = refl
+on_long = refl
 
 ends_of_long : map (is_end long) (grid long.left ∷ grid long.right ∷ midpoint long ∷ []) ≡ (true ∷ true ∷ false ∷ [])
 unfolding is_end is_at
@@ -132,9 +132,9 @@ touching = refl
 abbrev half : Segment → Bool → Halfsegment
 half s b = record { segment = s; is_left = b }
 
-order-at-the-corner :
+order_at_the_corner :
     map (λ (h : Halfsegment). comes_before h (half bottom false))
     (half slope false ∷ half (from (at (pos 4) (pos 0)) (at (pos 5) (pos 0))) true ∷ half bottom true ∷ [])
     ≡ (true ∷ false ∷ true ∷ [])
 unfolding comes_before before is_same_point dominating far_end side
-order-at-the-corner = refl
+order_at_the_corner = refl

@@ -159,10 +159,10 @@ module _ (s : Segment) (t : T (segment_in_range s)) where
   right_in_doubled = in_doubled s.right (right_in_range s t)
 
 -- what a turn at a segment's ends and a point asks
-pub turn-asks :
+pub turn_asks :
     (s : Segment) (p : Point) → T (segment_in_range s) → T (in_range p) →
     T (within (2 * limit) s.left) × T (within (2 * limit) s.right) × T (within (2 * limit) p)
-turn-asks s p t u = (left_in_doubled s t, right_in_doubled s t, in_doubled p u)
+turn_asks s p t u = (left_in_doubled s t, right_in_doubled s t, in_doubled p u)
 
 pub near_fits : (z : ℤ) → nat_abs z ≤ 2 * limit → SFits w32 z
 near_fits z h = half_fits z (omega arith)

@@ -106,9 +106,9 @@ module _ (a b : ℤ) (h : nat_abs a ≤ 2 * limit) (k : nat_abs b ≤ 2 * limit)
   pub raised_casts : T (non_neg (to_z w32 (of_z w32 (raised_gap a b)))) × Fits w32 (nat_abs (to_z w32 (of_z w32 (raised_gap a b))))
   raised_casts = rw raised_back (tt, record { fits = omega (arith, most) })
 
-  pub raised-gives :
+  pub raised_gives :
       Raised (nat_abs (to_z w32 (of_z w32 (raised_gap a b)))) (a -ℤ b) × (nat_abs (to_z w32 (of_z w32 (raised_gap a b))) < 134217728)
-  raised-gives = rw raised_back (lift_is (a -ℤ b) (omega (arith, gap_small)), most)
+  raised_gives = rw raised_back (lift_is (a -ℤ b) (omega (arith, gap_small)), most)
 
 module _ (p q : Point) (hp : T (within (2 * limit) p)) (hq : T (within (2 * limit) q)) where
   pub raised_asks_x : (nat_abs (to_z w32 (of_z w32 p.x)) ≤ 2 * limit) × (nat_abs (to_z w32 (of_z w32 q.x)) ≤ 2 * limit)

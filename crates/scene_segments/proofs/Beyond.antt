@@ -38,8 +38,8 @@ module _ (t u : Segment) (o : T (ordered t)) (b : T (beyond t u)) where
   gap : Pos (u.left.x -ℤ t.right.x)
   gap = lt_z_pos t.right.x u.left.x b
 
-  right-of-middle : Neg ((t.left.x +ℤ t.right.x) -ℤ u.left.x *ℤ pos 2)
-  right-of-middle =
+  right_of_middle : Neg ((t.left.x +ℤ t.right.x) -ℤ u.left.x *ℤ pos 2)
+  right_of_middle =
       subst Neg
       (solve (t.left.x ∷ t.right.x ∷ u.left.x ∷ []) (opp (var 2 :- var 1 :+ (var 2 :- var 1) :+ (var 1 :- var 0))) (var 0 :+ var 1 :- var 2 :* con (pos 2)) tt)
       (pos_neg (pos_add_nonneg (pos_add gap gap) (width (ordered_read t o))))
@@ -59,11 +59,11 @@ module _ (t u : Segment) (o : T (ordered t)) (b : T (beyond t u)) where
 
       upright : T (counts_below_left (midpoint t) u) → ⊥
       upright h =
-          nonneg_clash (pos_nonneg (lt_z_pos from middle (and_left (lt_z from middle) (le_z middle to) (and_left (lt_z from middle && le_z middle to) (lt_z (pos 0) (side_at u (midpoint t))) h)))) right-of-middle
+          nonneg_clash (pos_nonneg (lt_z_pos from middle (and_left (lt_z from middle) (le_z middle to) (and_left (lt_z from middle && le_z middle to) (lt_z (pos 0) (side_at u (midpoint t))) h)))) right_of_middle
 
       slanting : T (counts_below (midpoint t) u) → ⊥
       slanting h =
-          nonneg_clash (le_z_nonneg from middle (and_left (le_z from middle) (lt_z middle to) (and_left (le_z from middle && lt_z middle to) (lt_z (pos 0) (side_at u (midpoint t))) h))) right-of-middle
+          nonneg_clash (le_z_nonneg from middle (and_left (le_z from middle) (lt_z middle to) (and_left (le_z from middle && lt_z middle to) (lt_z (pos 0) (side_at u (midpoint t))) h))) right_of_middle
 
       go : (v : Bool) → cond v (counts_below_left (midpoint t) u) (counts_below (midpoint t) u) ≡ false
       go true = refute (counts_below_left (midpoint t) u) upright

@@ -19,7 +19,7 @@ use Rattle.plane.proofs.Means.{EndOf, end_make, end_read}
 use Rattle.plane.proofs.Equal.{same_point_read, same_point_refl, same_segment_read, same_segment_refl, segment_eq}
 use Rattle.plane.proofs.Order.{ordered_make, ends_differ, before_irreflexive, before_trans, comes_irreflexive, half_of, LeftBefore}
 use Rattle.plane.proofs.AlongSegment.{Apart}
-use Rattle.plane.proofs.Grid.{on-grid, end_grid}
+use Rattle.plane.proofs.Grid.{on_grid, end_grid}
 use Rattle.plane.proofs.Machine.{is_straight}
 use Rattle.plane.proofs.Accepted.{Split, Regular}
 use Rattle.flags.specs.Flags.{is_bound, has_some_end, joins}
@@ -71,7 +71,7 @@ meet_flat s t o u e flat late apart =
     on_s : Along s (grid t.right)
     on_s =
         on_along s (grid t.right) o
-        (subst T (sym (on-grid s t.right))
+        (subst T (sym (on_grid s t.right))
         (and_make (is_straight (turn s.left s.right t.right) && not (before t.right s.left)) (not (before s.right t.right))
         (and_make (is_straight (turn s.left s.right t.right)) (not (before t.right s.left)) straight (not_T (before t.right s.left) not_early))
         (not_T (before s.right t.right) late)))

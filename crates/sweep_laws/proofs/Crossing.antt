@@ -14,7 +14,7 @@ use Rattle.plane.specs.Plane.{turn, turn_of, before, ordered, is_same_point, is_
 use Rattle.plane.proofs.Machine.{is_straight}
 use Rattle.plane.proofs.OnSegment.{Ordered, ordered_read}
 use Rattle.plane.proofs.Equal.{same_point_read, same_segment_read, same_point_refl}
-use Rattle.plane.proofs.Grid.{on-grid, end_grid}
+use Rattle.plane.proofs.Grid.{on_grid, end_grid}
 use Rattle.plane.proofs.Order.{ordered_make, ends_differ, before_irreflexive, before_trans, turns}
 use Rattle.sweep_laws.specs.Lower.{passes_under, passes_over, lower_at_right}
 use Rattle.sweep_laws.proofs.Under.{NotBefore, side_left, side_right}
@@ -40,7 +40,7 @@ pub within_make : (t : Segment) (e : Point) → side_of t e ≡ pos 0 → NotBef
 unfolding end_within turn
 within_make t e z l r n m =
     and_make (on t (grid e)) (not (is_end t (grid e)))
-    (subst T (sym (on-grid t e))
+    (subst T (sym (on_grid t e))
     (and_make (is_straight (turn t.left t.right e) && not (before e t.left)) (not (before t.right e)) (and_make (is_straight (turn t.left t.right e)) (not (before e t.left)) straight l) r))
     (not_T (is_end t (grid e)) (λ h. ends (subst T (end_grid t e) h)))
   where

@@ -22,7 +22,7 @@ use Rattle.plane.specs.Plane.{side, turn, is_same_point, before, grid, on, is_en
 use Rattle.plane.proofs.OnSegment.{Ordered, ordered_read}
 use Rattle.plane.proofs.Equal.{same_point_refl}
 use Rattle.plane.proofs.Machine.{is_straight, straight_is, eq_z_no}
-use Rattle.plane.proofs.Grid.{on-grid, end_grid}
+use Rattle.plane.proofs.Grid.{on_grid, end_grid}
 use Rattle.scene.specs.declared.Scene.{Scene}
 use Rattle.scene.specs.Read.{segment_at}
 use Rattle.scene.specs.Conditions.{has_segments, is_region, segments}
@@ -76,7 +76,7 @@ module _ (t : Segment) (v : Point) where
 
   on_tests : T (on t (grid v)) → NotBefore v t.left × NotBefore t.right v
   on_tests h =
-      let u = subst T (on-grid t v) h in (
+      let u = subst T (on_grid t v) h in (
         and_right straight (not (before v t.left)) (and_left (straight && not (before v t.left)) (not (before t.right v)) u),
         and_right (straight && not (before v t.left)) (not (before t.right v)) u,
       )
@@ -85,7 +85,7 @@ module _ (t : Segment) (v : Point) where
   on_active : NotBefore v t.left → NotBefore t.right v → on t (grid v) ≡ on_line t v
   unfolding turn
   on_active l r =
-      on-grid t v
+      on_grid t v
       ∙ and_follows (straight && not (before v t.left)) (not (before t.right v)) (λ h. r)
       ∙ and_follows straight (not (before v t.left)) (λ h. l)
       ∙ straight_is (side t.left t.right v)

@@ -6,7 +6,7 @@ use mathlib.Core.Path.{◌≡◌, sym, ◌∙◌}
 use borrow.Author.Rules.{rules}
 use Rattle.check_conditions.specs.Faults.{fault_under}
 use Rattle.check_verdict.specs.Refusals.{verdict, object_verdict}
-use Rattle.check_verdict.proofs.Verdicts.{numbered, refuses, passes, sound, object-numbered}
+use Rattle.check_verdict.proofs.Verdicts.{numbered, refuses, passes, sound, object_numbered}
 use Rattle.check_verdict.proofs.object_verdict.Statement.{statement}
 use Rattle.check_verdict.proofs.object_verdict.Tie as tie
 
@@ -17,7 +17,7 @@ abbrev decreases_loop : tie.decreases-loop-number
 decreases_loop s l number₀ number = 15 - number
 
 loop-number-init : tie.Need-loop-number-init invariant_loop decreases_loop
-loop-number-init c = let z = c.before in (omega arith, omega arith, object-numbered z.args.s.now z.args.l z.requires)
+loop-number-init c = let z = c.before in (omega arith, omega arith, object_numbered z.args.s.now z.args.l z.requires)
 
 fault_under-requires : tie.Need-fault_under-requires invariant_loop decreases_loop
 fault_under-requires c κs = search rules

@@ -85,7 +85,7 @@ loop-a-init c = let a = c.args in walking a.s.now a.scene.f a.scene.g a.notes.no
 next_step-requires : tie.Need-next_step-requires invariant_loop decreases_loop
 next_step-requires c κs =
     let o = sound c.before.before.before.before.before in
-    (o.f_sound.read, o.g_sound.read, c.loop-a.invariant.found-f.few, c.loop-a.invariant.found-g.few)
+    (o.f_sound.read, o.g_sound.read, c.loop-a.invariant.found_f.few, c.loop-a.invariant.found_g.few)
 
 enum_known-a : tie.Need-enum_known-a invariant_loop decreases_loop
 enum_known-a c = search rules

@@ -24,18 +24,18 @@ in_fields : (s : List ℕ) {M : Type 0} {a : Areas} {x : KarvoissAreas} → (a �
     → (x ≡ areas_for_c (areas_of s)) × PartsMakeWhole s x.both x.f_only x.g_only × M
 in_fields s e is = (is ∙ ap areas_for_c e.0, subst (λ (x : KarvoissAreas). PartsMakeWhole s x.both x.f_only x.g_only) (sym is) e.1, e.2)
 
-areas-of-requires : tie.Need-areas-of-requires
-areas-of-requires c κs = search rules
+areas_of-answer-requires : tie.Need-areas_of-answer-requires
+areas_of-answer-requires c κs = search rules
 
-cast-t3 : tie.Need-overflow-cast-t3
-cast-t3 c = search rules
+overflow_cast-result : tie.Need-overflow_cast-result
+overflow_cast-result c = search rules
 
 returns : tie.Need-returns
 returns c =
     let k = c.before.before in
-    let answer = k.areas-of in
-    let fits = c.struct_told.given.1.1 in
-    in_fields k.before.before.args.scene.now answer.ensures (read answer.result (record { sfits = fits.0.1 }) (record { sfits = fits.1.0.1 }) (record { sfits = fits.1.1.0.1 }))
+    let answer = k.areas_of-answer in
+    let fits = c.struct_told-1.given.1.1 in
+    in_fields k.args.scene.now answer.ensures (read answer.result (record { sfits = fits.0.1 }) (record { sfits = fits.1.0.1 }) (record { sfits = fits.1.1.0.1 }))
 
-pub karvoiss-areas-spec : {M : Type 1} → statement M
-karvoiss-areas-spec = tie.close (tie.spec areas-of-requires cast-t3 returns)
+pub karvoiss_areas_spec : {M : Type 1} → statement M
+karvoiss_areas_spec = tie.close (tie.spec areas_of-answer-requires overflow_cast-result returns)

@@ -40,57 +40,49 @@ module _ (s : List ℕ) {M : Type 0} {a b : CellsAnswer} {m : List (List Dimensi
       whole : x ≡ cells_for_c a
       whole = is ∙ ap (λ (b : CellsAnswer). given b n) (sym q) ∙ ap (given a) (written ∙ ap signs cells)
 
-explore-requires : tie.Need-explore-requires
-explore-requires c κs = search rules
+explore-answer-requires : tie.Need-explore-answer-requires
+explore-answer-requires c κs = search rules
 
 cells-requires : tie.Need-cells-requires
 cells-requires c κs = search rules
 
-signs-requires : tie.Need-signs-requires
-signs-requires c κs = search rules
+signs-cell-requires : tie.Need-signs-cell-requires
+signs-cell-requires c κs = search rules
 
-enum_told : tie.Need-enum-told
-enum_told c = search rules
+enum_told-1 : tie.Need-enum_told-1
+enum_told-1 c = search rules
 
 handed-requires : tie.Need-handed-requires
 handed-requires c κs = search rules
 
-enum-known-answer : tie.Need-enum-known-answer
-enum-known-answer c = search rules
+enum_known-answer : tie.Need-enum_known-answer
+enum_known-answer c = search rules
 
-cast-handed : tie.Need-overflow-cast-handed
-cast-handed c = search rules
+overflow_cast-r : tie.Need-overflow_cast-r
+overflow_cast-r c = search rules
 
-handed-requires-2 : tie.Need-handed-requires-2
-handed-requires-2 c κs = search rules
+handed-requires-in-Refused : tie.Need-handed-requires-in-Refused
+handed-requires-in-Refused c κs = search rules
 
-returns : tie.Need-returns
-returns c =
-    let told = c.before in
-    let written = told.before.before in
-    let called = written.before in
-    let explored = called.before in
-    in_fields explored.before.before.args.scene.now explored.explore.ensures called.cells.ensures written.signs.ensures told.enum_told.given.1 c.handed.ensures
+returns-in-Taken : tie.Need-returns-in-Taken
+returns-in-Taken c =
+    in_fields c.args.scene.now c.explore-answer.ensures c.cells.ensures c.signs-cell.ensures c.in-Taken.is c.handed.ensures
 
-returns-2 : tie.Need-returns-2
-returns-2 c =
-    let told = c.before.before.before in
-    let written = told.before.before in
-    let called = written.before in
-    let explored = called.before in
-    in_fields explored.before.before.args.scene.now explored.explore.ensures called.cells.ensures written.signs.ensures told.answer.given.1 c.handed2.ensures
+returns-in-Refused : tie.Need-returns-in-Refused
+returns-in-Refused c =
+    in_fields c.args.scene.now c.explore-answer.ensures c.cells.ensures c.signs-cell.ensures c.in-Refused.is c.handed-in-Refused.ensures
 
-pub karvoiss-cells-spec : {M : Type 1} → statement M
-karvoiss-cells-spec =
+pub karvoiss_cells_spec : {M : Type 1} → statement M
+karvoiss_cells_spec =
     tie.close
     (tie.spec
-    explore-requires
+    explore-answer-requires
     cells-requires
-    signs-requires
-    enum_told
+    signs-cell-requires
+    enum_told-1
     handed-requires
-    enum-known-answer
-    cast-handed
-    handed-requires-2
-    returns
-    returns-2)
+    enum_known-answer
+    overflow_cast-r
+    handed-requires-in-Refused
+    returns-in-Taken
+    returns-in-Refused)

@@ -17,11 +17,11 @@ use Rattle.karvoiss.proofs.karvoiss_estimate.Tie as tie
 abbrev read : ℤ → ℤ → Point
 read x y = at (to_z w32 (of_z w32 x)) (to_z w32 (of_z w32 y))
 
-estimate-requires : tie.Need-estimate-requires
-estimate-requires c κs = search rules
+estimate-answer-requires : tie.Need-estimate-answer-requires
+estimate-answer-requires c κs = search rules
 
-side-number-requires : tie.Need-side-number-requires
-side-number-requires c κs = search rules
+side_number-requires : tie.Need-side_number-requires
+side_number-requires c κs = search rules
 
 -- the numbers that were passed, and the side's, as the machine reads them from their bits
 module _ (s : tie.Start) where
@@ -29,13 +29,13 @@ module _ (s : tie.Start) where
   first = ap₂ at (to_z-of_z s.ranges.ax) (to_z-of_z s.ranges.ay)
 
   second : read s.args.bx s.args.by ≡ at s.args.bx s.args.by
-  second = ap₂ at (to_z-of_z s.fits.bx) (to_z-of_z s.fits.by)
+  second = ap₂ at (to_z-of_z s.ranges.bx) (to_z-of_z s.ranges.by)
 
   third : read s.args.cx s.args.cy ≡ at s.args.cx s.args.cy
-  third = ap₂ at (to_z-of_z s.fits.cx) (to_z-of_z s.fits.cy)
+  third = ap₂ at (to_z-of_z s.ranges.cx) (to_z-of_z s.ranges.cy)
 
-side_back : (c : tie.After-side-number) → to_z w32 (of_z w32 c.side-number.result) ≡ c.side-number.result
-side_back c = to_z-of_z (search rules)
+side_back : (c : tie.After-side_number) → to_z w32 (of_z w32 c.side_number.result) ≡ c.side_number.result
+side_back c = to_z-of_z {w = w32} (search rules)
 
 -- what an answer says of its points
 abbrev Said : Point → Point → Point → Estimated → Type 0
@@ -54,7 +54,7 @@ module _ {a b c a' b' c' : Point} {e : Estimated} {n : ℤ} (p : a' ≡ a) (q : 
 returns : tie.Need-returns
 returns c =
     let s = c.before.before in
-    in_fields (first s) (second s) (third s) c.before.estimate.ensures (side_back c ∙ c.side-number.ensures)
+    in_fields (first s) (second s) (third s) c.estimate-answer.ensures (side_back c ∙ c.side_number.ensures)
 
-pub karvoiss-estimate-spec : {M : Type 1} → statement M
-karvoiss-estimate-spec = tie.close (tie.spec estimate-requires side-number-requires returns)
+pub karvoiss_estimate_spec : {M : Type 1} → statement M
+karvoiss_estimate_spec = tie.close (tie.spec estimate-answer-requires side_number-requires returns)

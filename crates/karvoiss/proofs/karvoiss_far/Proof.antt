@@ -18,59 +18,59 @@ in_fields r q e is h = (h ∙ ap far_for_c (sym is ∙ e.0), e.1, e.2, subst (To
 far-requires : tie.Need-far-requires
 far-requires c κs = search rules
 
-enum-known-v : tie.Need-enum-known-v
-enum-known-v c = search rules
+enum_known-v : tie.Need-enum_known-v
+enum_known-v c = search rules
 
 told-requires : tie.Need-told-requires
 told-requires c κs = search rules
 
-enum_told : tie.Need-enum-told
-enum_told c = search rules
+enum_told-1 : tie.Need-enum_told-1
+enum_told-1 c = search rules
 
-told-requires-2 : tie.Need-told-requires-2
-told-requires-2 c κs = search rules
+told-requires-in-Look : tie.Need-told-requires-in-Look
+told-requires-in-Look c κs = search rules
 
-enum-known-r : tie.Need-enum-known-r
-enum-known-r c = search rules
+enum_known-r : tie.Need-enum_known-r
+enum_known-r c = search rules
 
-cast-told : tie.Need-overflow-cast-told
-cast-told c = search rules
+overflow_cast-r : tie.Need-overflow_cast-r
+overflow_cast-r c = search rules
 
-told-requires-3 : tie.Need-told-requires-3
-told-requires-3 c κs = search rules
+told-requires-in-Refused : tie.Need-told-requires-in-Refused
+told-requires-in-Refused c κs = search rules
 
-returns : tie.Need-returns
-returns c =
-    let v = c.before.before in
-    let k = v.before.before in
-    let a = k.before.before.before.args in
-    in_fields a.first.now a.second.now k.far.ensures v.v.given.1 c.told.ensures
+returns-in-Told : tie.Need-returns-in-Told
+returns-in-Told c =
+    let v = c.before in
+    let k = v in
+    let a = k.args in
+    in_fields a.first.now a.second.now k.far.ensures v.in-Told.is c.told.ensures
 
-returns-2 : tie.Need-returns-2
-returns-2 c =
-    let k = c.before.before.before in
-    let a = k.before.before.before.args in
-    in_fields a.first.now a.second.now k.far.ensures c.before.enum_told.given.1 c.told2.ensures
+returns-in-Look : tie.Need-returns-in-Look
+returns-in-Look c =
+    let k = c.before.before in
+    let a = k.args in
+    in_fields a.first.now a.second.now k.far.ensures c.in-Look.is c.told-in-Look.ensures
 
-returns-3 : tie.Need-returns-3
-returns-3 c =
-    let r = c.before.before.before in
-    let k = r.before.before in
-    let a = k.before.before.before.args in
-    in_fields a.first.now a.second.now k.far.ensures r.r.given.1 c.told3.ensures
+returns-in-Refused : tie.Need-returns-in-Refused
+returns-in-Refused c =
+    let r = c.before.before in
+    let k = r in
+    let a = k.args in
+    in_fields a.first.now a.second.now k.far.ensures r.in-Refused.is c.told-in-Refused.ensures
 
-pub karvoiss-far-spec : {M : Type 1} → statement M
-karvoiss-far-spec =
+pub karvoiss_far_spec : {M : Type 1} → statement M
+karvoiss_far_spec =
     tie.close
     (tie.spec
     far-requires
-    enum-known-v
+    enum_known-v
     told-requires
-    enum_told
-    told-requires-2
-    enum-known-r
-    cast-told
-    told-requires-3
-    returns
-    returns-2
-    returns-3)
+    enum_told-1
+    told-requires-in-Look
+    enum_known-r
+    overflow_cast-r
+    told-requires-in-Refused
+    returns-in-Told
+    returns-in-Look
+    returns-in-Refused)

@@ -5,11 +5,11 @@ use Rattle.karvoiss.specs.Answer.{in_window_for_c}
 use Rattle.karvoiss.proofs.karvoiss_in_window.Statement.{statement}
 use Rattle.karvoiss.proofs.karvoiss_in_window.Tie as tie
 
-in-window-requires : tie.Need-in-window-requires
-in-window-requires c κs = search rules
+in_window-answer-requires : tie.Need-in_window-answer-requires
+in_window-answer-requires c κs = search rules
 
 returns : tie.Need-returns
-returns c = let answer = c.in_window.ensures in (ap in_window_for_c answer.0, answer.1, answer.2)
+returns c = let answer = c.in_window-answer.ensures in (ap in_window_for_c answer.0, answer.1, answer.2)
 
-pub karvoiss-in-window-spec : {M : Type 1} → statement M
-karvoiss-in-window-spec = tie.close (tie.spec in-window-requires returns)
+pub karvoiss_in_window_spec : {M : Type 1} → statement M
+karvoiss_in_window_spec = tie.close (tie.spec in_window-answer-requires returns)

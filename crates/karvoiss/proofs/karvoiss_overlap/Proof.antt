@@ -5,17 +5,17 @@ use Rattle.karvoiss.specs.Answer.{overlap_for_c}
 use Rattle.karvoiss.proofs.karvoiss_overlap.Statement.{statement}
 use Rattle.karvoiss.proofs.karvoiss_overlap.Tie as tie
 
-overlap-list-requires : tie.Need-overlap-list-requires
-overlap-list-requires c κs = search rules
+overlap_list-answer-requires : tie.Need-overlap_list-answer-requires
+overlap_list-answer-requires c κs = search rules
 
-cast-t6 : tie.Need-overflow-cast-t6
-cast-t6 c = search rules
+overflow_cast-result : tie.Need-overflow_cast-result
+overflow_cast-result c = search rules
 
-same_length : tie.Need-same-length
-same_length c = search rules
+shape_of-list : tie.Need-shape_of-list
+shape_of-list c = search rules
 
 returns : tie.Need-returns
-returns c = let answer = c.before.before.before.overlap-list.ensures in (ap overlap_for_c answer.0, answer.1, answer.2)
+returns c = let answer = c.overlap_list-answer.ensures in (ap overlap_for_c answer.0, answer.1, answer.2)
 
-pub karvoiss-overlap-spec : {M : Type 1} → statement M
-karvoiss-overlap-spec = tie.close (tie.spec overlap-list-requires cast-t6 same_length returns)
+pub karvoiss_overlap_spec : {M : Type 1} → statement M
+karvoiss_overlap_spec = tie.close (tie.spec overlap_list-answer-requires overflow_cast-result shape_of-list returns)

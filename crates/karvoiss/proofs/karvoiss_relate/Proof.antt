@@ -20,35 +20,35 @@ in_fields s p {a = a} {x = x} e q is = (whole ∙ ap relate_for_c e.0, subst (λ
 relate-requires : tie.Need-relate-requires
 relate-requires c κs = search rules
 
-enum-known-holds : tie.Need-enum-known-init
-enum-known-holds c = search rules
+enum_known-holds : tie.Need-enum_known-holds
+enum_known-holds c = search rules
 
-enum-known-r : tie.Need-enum-known-r
-enum-known-r c = search rules
+enum_known-r : tie.Need-enum_known-r
+enum_known-r c = search rules
 
 related-requires : tie.Need-related-requires
 related-requires c κs = search rules
 
-cast-related : tie.Need-overflow-cast-related
-cast-related c = search rules
+overflow_cast-r : tie.Need-overflow_cast-r
+overflow_cast-r c = search rules
 
-related-requires-2 : tie.Need-related-requires-2
-related-requires-2 c κs = search rules
+related-requires-in-Refused : tie.Need-related-requires-in-Refused
+related-requires-in-Refused c κs = search rules
 
-returns : tie.Need-returns
-returns c =
+returns-in-Taken : tie.Need-returns-in-Taken
+returns-in-Taken c =
+    let h = c.before in
+    let k = h in
+    let a = k.args in
+    in_fields a.scene.now a.pattern.now k.relate.ensures h.in-Taken.is c.related.ensures
+
+returns-in-Refused : tie.Need-returns-in-Refused
+returns-in-Refused c =
     let h = c.before.before in
-    let k = h.before.before in
-    let a = k.before.before.before.args in
-    in_fields a.scene.now a.pattern.now k.relate.ensures h.holds.given.1 c.related.ensures
+    let k = h in
+    let a = k.args in
+    in_fields a.scene.now a.pattern.now k.relate.ensures h.in-Refused.is c.related-in-Refused.ensures
 
-returns-2 : tie.Need-returns-2
-returns-2 c =
-    let h = c.before.before.before in
-    let k = h.before.before in
-    let a = k.before.before.before.args in
-    in_fields a.scene.now a.pattern.now k.relate.ensures h.r.given.1 c.related2.ensures
-
-pub karvoiss-relate-spec : {M : Type 1} → statement M
-karvoiss-relate-spec =
-    tie.close (tie.spec relate-requires enum-known-holds related-requires enum-known-r cast-related related-requires-2 returns returns-2)
+pub karvoiss_relate_spec : {M : Type 1} → statement M
+karvoiss_relate_spec =
+    tie.close (tie.spec relate-requires enum_known-holds related-requires enum_known-r overflow_cast-r related-requires-in-Refused returns-in-Taken returns-in-Refused)

@@ -14,8 +14,8 @@ handed n p b = record { number = n; place = p; «record» = b }
 summarize-requires : tie.Need-summarize-requires
 summarize-requires c κs = search rules
 
-enum-known-m : tie.Need-enum-known-m
-enum-known-m c = search rules
+enum_known-m : tie.Need-enum_known-m
+enum_known-m c = search rules
 
 written-requires : tie.Need-written-requires
 written-requires c κs = search rules
@@ -23,37 +23,37 @@ written-requires c κs = search rules
 recorded-requires : tie.Need-recorded-requires
 recorded-requires c κs = search rules
 
-enum-known-r : tie.Need-enum-known-r
-enum-known-r c = search rules
+enum_known-r : tie.Need-enum_known-r
+enum_known-r c = search rules
 
-cast-recorded : tie.Need-overflow-cast-recorded
-cast-recorded c = search rules
+overflow_cast-r : tie.Need-overflow_cast-r
+overflow_cast-r c = search rules
 
-recorded-requires-2 : tie.Need-recorded-requires-2
-recorded-requires-2 c κs = search rules
+recorded-requires-in-Refused : tie.Need-recorded-requires-in-Refused
+recorded-requires-in-Refused c κs = search rules
 
-returns : tie.Need-returns
-returns c =
-    let m = c.before.before.before in
-    let e = m.before.before.summarize.ensures in
-    (c.recorded.ensures ∙ ap (handed 0 0) c.before.written.ensures ∙ ap summary_for_c (sym m.m.given.1 ∙ e.0), e.1)
+returns-in-Made : tie.Need-returns-in-Made
+returns-in-Made c =
+    let m = c.before.before in
+    let e = m.summarize.ensures in
+    (c.recorded.ensures ∙ ap (handed 0 0) c.written.ensures ∙ ap summary_for_c (sym m.in-Made.is ∙ e.0), e.1)
 
-returns-2 : tie.Need-returns-2
-returns-2 c =
-    let r = c.before.before.before in
-    let e = r.before.before.summarize.ensures in
-    (c.recorded2.ensures ∙ ap summary_for_c (sym r.r.given.1 ∙ e.0), e.1)
+returns-in-Refused : tie.Need-returns-in-Refused
+returns-in-Refused c =
+    let r = c.before.before in
+    let e = r.summarize.ensures in
+    (c.recorded-in-Refused.ensures ∙ ap summary_for_c (sym r.in-Refused.is ∙ e.0), e.1)
 
-pub karvoiss-summary-spec : {M : Type 1} → statement M
-karvoiss-summary-spec =
+pub karvoiss_summary_spec : {M : Type 1} → statement M
+karvoiss_summary_spec =
     tie.close
     (tie.spec
     summarize-requires
-    enum-known-m
+    enum_known-m
     written-requires
     recorded-requires
-    enum-known-r
-    cast-recorded
-    recorded-requires-2
-    returns
-    returns-2)
+    enum_known-r
+    overflow_cast-r
+    recorded-requires-in-Refused
+    returns-in-Made
+    returns-in-Refused)

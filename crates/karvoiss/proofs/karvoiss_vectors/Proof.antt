@@ -17,27 +17,27 @@ in_fields s f g e q =
 vectors-requires : tie.Need-vectors-requires
 vectors-requires c κs = search rules
 
-enum-known-v : tie.Need-enum-known-v
-enum-known-v c = search rules
+enum_known-v : tie.Need-enum_known-v
+enum_known-v c = search rules
 
-enum-known-r : tie.Need-enum-known-r
-enum-known-r c = search rules
+enum_known-r : tie.Need-enum_known-r
+enum_known-r c = search rules
 
-cast-t8 : tie.Need-overflow-cast-t8
-cast-t8 c = search rules
+overflow_cast-result : tie.Need-overflow_cast-result
+overflow_cast-result c = search rules
 
-returns : tie.Need-returns
-returns c =
-    let k = c.before.before.before in
-    let a = k.before.before.args in
-    in_fields a.scene.now a.want_f a.want_g k.vectors.ensures c.before.v.given.1
+returns-in-Taken : tie.Need-returns-in-Taken
+returns-in-Taken c =
+    let k = c.before in
+    let a = k.args in
+    in_fields a.scene.now a.want_f a.want_g k.vectors.ensures c.in-Taken.is
 
-returns-2 : tie.Need-returns-2
-returns-2 c =
-    let k = c.before.before.before.before in
-    let a = k.before.before.args in
-    in_fields a.scene.now a.want_f a.want_g k.vectors.ensures c.before.before.r.given.1
+returns-in-Refused : tie.Need-returns-in-Refused
+returns-in-Refused c =
+    let k = c.before.before in
+    let a = k.args in
+    in_fields a.scene.now a.want_f a.want_g k.vectors.ensures c.in-Refused.is
 
-pub karvoiss-vectors-spec : {M : Type 1} → statement M
-karvoiss-vectors-spec =
-    tie.close (tie.spec vectors-requires enum-known-v enum-known-r cast-t8 returns returns-2)
+pub karvoiss_vectors_spec : {M : Type 1} → statement M
+karvoiss_vectors_spec =
+    tie.close (tie.spec vectors-requires enum_known-v enum_known-r overflow_cast-result returns-in-Taken returns-in-Refused)

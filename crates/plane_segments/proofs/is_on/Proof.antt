@@ -1,13 +1,13 @@
 -- `plane_segments::is_on` meets its contract: a grid point lies on a segment when there is no turn and it is neither before the left end nor after the right.
 use mathlib.Core.Path.{sym, ◌∙◌}
 use borrow.Author.Rules.{rules}
-use Rattle.plane.proofs.Machine.{turn-asks}
-use Rattle.plane.proofs.Grid.{on-grid}
+use Rattle.plane.proofs.Machine.{turn_asks}
+use Rattle.plane.proofs.Grid.{on_grid}
 use Rattle.plane_segments.proofs.is_on.Statement.{statement}
 use Rattle.plane_segments.proofs.is_on.Tie as tie
 
 turn_from-requires : tie.Need-turn_from-requires
-turn_from-requires c κs = turn-asks c.args.s c.args.p c.requires.0 c.requires.1
+turn_from-requires c κs = turn_asks c.args.s c.args.p c.requires.0 c.requires.1
 
 enum_told-1 : tie.Need-enum_told-1
 enum_told-1 c = search rules
@@ -27,14 +27,14 @@ enum_told-in-Right c = search rules
 returns-in-Left : tie.Need-returns-in-Left
 returns-in-Left c =
     let s = c.before.before.before in
-    rw (on-grid s.args.s s.args.p, sym c.turn_from.ensures ∙ c.in-Left.is)
+    rw (on_grid s.args.s s.args.p, sym c.turn_from.ensures ∙ c.in-Left.is)
 
 returns-then-not-is_before : tie.Need-returns-then-not-is_before
 returns-then-not-is_before c =
     let d = c.before.before.before in
     let s = d.before.before.before in
     rw (
-      on-grid s.args.s s.args.p,
+      on_grid s.args.s s.args.p,
       sym d.turn_from.ensures ∙ d.in-Straight.is,
       sym c.is_before.ensures,
       c.if-not-is_before.true-raw,
@@ -46,7 +46,7 @@ returns-else-not-is_before c =
     let d = c.before.before in
     let s = d.before.before.before in
     rw (
-      on-grid s.args.s s.args.p,
+      on_grid s.args.s s.args.p,
       sym d.turn_from.ensures ∙ d.in-Straight.is,
       sym c.is_before.ensures,
       c.if-not-is_before.false-raw,
@@ -55,7 +55,7 @@ returns-else-not-is_before c =
 returns-in-Right : tie.Need-returns-in-Right
 returns-in-Right c =
     let s = c.before.before.before in
-    rw (on-grid s.args.s s.args.p, sym c.turn_from.ensures ∙ c.in-Right.is)
+    rw (on_grid s.args.s s.args.p, sym c.turn_from.ensures ∙ c.in-Right.is)
 
 pub is_on_spec : {M : Type 1} → statement M
 is_on_spec =

@@ -6,7 +6,7 @@ use lib.IntN.{ℤ, pos}
 use lib.Signed.{lt_z}
 use Rattle.plane.specs.declared.Turn.{Turn}
 use Rattle.plane.specs.Plane.{side, turn_of, turn, opposite}
-use Rattle.plane.proofs.Machine.{left_test, is_right, left_is, right_is, turn-asks}
+use Rattle.plane.proofs.Machine.{left_test, is_right, left_is, right_is, turn_asks}
 use Rattle.plane_segments.proofs.separates.Statement.{statement}
 use Rattle.plane_segments.proofs.separates.Tie as tie
 
@@ -27,7 +27,7 @@ arm c u e =
     ∙ ap (λ (t : Turn). (is_right t && lt_z (pos 0) q) || (left_test t && lt_z q (pos 0))) (sym c.turn_from.ensures ∙ e)
 
 turn_from-requires : tie.Need-turn_from-requires
-turn_from-requires c κs = turn-asks c.args.s c.args.p c.requires.0 c.requires.1
+turn_from-requires c κs = turn_asks c.args.s c.args.p c.requires.0 c.requires.1
 
 enum_told-1 : tie.Need-enum_told-1
 enum_told-1 c = search rules
@@ -35,7 +35,7 @@ enum_told-1 c = search rules
 is_right_of-requires : tie.Need-is_right_of-requires
 is_right_of-requires c κs =
     let s = c.before.before.before in
-    turn-asks s.args.s s.args.q s.requires.0 s.requires.2
+    turn_asks s.args.s s.args.q s.requires.0 s.requires.2
 
 enum_told-in-Straight : tie.Need-enum_told-in-Straight
 enum_told-in-Straight c = search rules
@@ -46,7 +46,7 @@ enum_told-in-Right c = search rules
 is_left_of-requires : tie.Need-is_left_of-requires
 is_left_of-requires c κs =
     let s = c.before.before.before in
-    turn-asks s.args.s s.args.q s.requires.0 s.requires.2
+    turn_asks s.args.s s.args.q s.requires.0 s.requires.2
 
 returns-in-Left : tie.Need-returns-in-Left
 returns-in-Left c = c.is_right_of.ensures ∙ sym (arm c.before.before.before.before _ c.in-Left.is)

@@ -32,8 +32,8 @@ module _ (c : tie.In-Taken-answer) where
 
   taken : (check_object (bytes so) ≡ CheckedObject.Taken (layout so)) × (c.in-Taken-answer.vectors.f ≡ beside_empty (summary_in (bytes so) (layout so)))
   taken =
-      let v = c.vectors-1.given in
-      taken_so (bytes so) (layout so) (read so) c.answer.ensures v.0.0 v.0.1.0 v.1
+      let v = c.in-Taken-answer in
+      taken_so (bytes so) (layout so) (read so) c.answer.ensures v.scene v.vectors v.is
 
 read_alone-requires : tie.Need-read_alone-requires
 read_alone-requires c κs = search rules
@@ -58,17 +58,15 @@ made-requires c κs = taken c
 
 returns-in-Refused : tie.Need-returns-in-Refused
 returns-in-Refused c =
-    let d = c.before.before.before in
-    let s = d.args.s.now in
-    let r = c.r-1.given in
-    refused_answer s r.0.0 (object_refused s r.0.0 (sym d.read_alone.ensures ∙ r.1))
+    let s = c.args.s.now in
+    let r = c.in-Refused in
+    refused_answer s r.r (object_refused s r.r (sym c.read_alone.ensures ∙ r.is))
 
 returns-in-Refused-answer : tie.Need-returns-in-Refused-answer
 returns-in-Refused-answer c =
-    let a = c.before.before.before in
-    let o = a.before in
-    let r = c.r-in-Refused-answer-1.given in
-    refused_answer (bytes o) r.0.0 (refused_alone (bytes o) (layout o) (read o) a.answer.ensures r.0.0 r.1)
+    let o = c.before.before in
+    let r = c.in-Refused-answer in
+    refused_answer (bytes o) r.r (refused_alone (bytes o) (layout o) (read o) c.answer.ensures r.r r.is)
 
 returns-in-Taken-answer : tie.Need-returns-in-Taken-answer
 returns-in-Taken-answer c = made_answer (bytes (so c.before)) (layout (so c.before)) (taken c.before).0 c.made.ensures

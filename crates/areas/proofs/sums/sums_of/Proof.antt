@@ -36,8 +36,8 @@ module _ (c : tie.In-Next invariant_loop decreases_loop) where
 
   next :
       let a = (z d).args in
-      let v = c.t-1.given.0 in
-      NextSides a.s.now a.scene.f a.scene.g (at d).loop-t.i (at d).loop-t.j v.0 v.1.0 v.1.1.0 v.1.1.1.0 v.1.1.1.1.0
+      let v = c.in-Next in
+      NextSides a.s.now a.scene.f a.scene.g (at d).loop-t.i (at d).loop-t.j v.t v.f v.g v.k v.m
   next = stepped d c.in-Next.is
 
 loop-t-init : tie.Need-loop-t-init invariant_loop decreases_loop

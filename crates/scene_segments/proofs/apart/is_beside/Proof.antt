@@ -9,7 +9,7 @@ use Rattle.whole.proofs.Sign.{Pos, Neg, lt_z0_pos, lt_z0_neg}
 use Rattle.plane.specs.declared.Point.{Point}
 use Rattle.plane.specs.declared.Turn.TheVariants.{Left, Right}
 use Rattle.plane.specs.Plane.{side, touch}
-use Rattle.plane.proofs.Machine.{left_test, is_right, left_is, right_is, told, turn-asks, left_in_range, right_in_range}
+use Rattle.plane.proofs.Machine.{left_test, is_right, left_is, right_is, told, turn_asks, left_in_range, right_in_range}
 use Rattle.scene_segments.proofs.Parted.{Beside, over, under, beside_clear}
 use Rattle.scene_segments.proofs.apart.is_beside.Statement.{statement}
 use Rattle.scene_segments.proofs.apart.is_beside.Tie as tie
@@ -33,7 +33,7 @@ module _ (c : tie.After-turn_from) where
   clear = beside_clear z.args.t z.args.u z.requires.1 z.requires.3
 
 turn_from-requires : tie.Need-turn_from-requires
-turn_from-requires c κs = turn-asks c.args.t c.args.u.left c.requires.0 (left_in_range c.args.u c.requires.2)
+turn_from-requires c κs = turn_asks c.args.t c.args.u.left c.requires.0 (left_in_range c.args.u c.requires.2)
 
 enum_told-1 : tie.Need-enum_told-1
 enum_told-1 c = search rules
@@ -41,7 +41,7 @@ enum_told-1 c = search rules
 is_left_of-requires : tie.Need-is_left_of-requires
 is_left_of-requires c κs =
     let s = c.before.before.before in
-    turn-asks s.args.t s.args.u.right s.requires.0 (right_in_range s.args.u s.requires.2)
+    turn_asks s.args.t s.args.u.right s.requires.0 (right_in_range s.args.u s.requires.2)
 
 enum_told-in-Straight : tie.Need-enum_told-in-Straight
 enum_told-in-Straight c = search rules
@@ -52,7 +52,7 @@ enum_told-in-Right c = search rules
 is_right_of-requires : tie.Need-is_right_of-requires
 is_right_of-requires c κs =
     let s = c.before.before.before in
-    turn-asks s.args.t s.args.u.right s.requires.0 (right_in_range s.args.u s.requires.2)
+    turn_asks s.args.t s.args.u.right s.requires.0 (right_in_range s.args.u s.requires.2)
 
 returns-in-Left : tie.Need-returns-in-Left
 returns-in-Left c q =

@@ -10,7 +10,7 @@ use Rattle.whole.specs.Count.{eq_z}
 use Rattle.plane.specs.declared.Turn.{Turn}
 use Rattle.plane.specs.declared.Turn.TheVariants.{Left, Straight, Right}
 use Rattle.plane.specs.Plane.{side, turn_of, turn}
-use Rattle.plane.proofs.Machine.{turn-asks}
+use Rattle.plane.proofs.Machine.{turn_asks}
 use Rattle.scene_segments.proofs.apart.is_off.Statement.{statement}
 use Rattle.scene_segments.proofs.apart.is_off.Tie as tie
 
@@ -31,7 +31,7 @@ arm c u e =
     ap turns (sym e ∙ c.turn_from.ensures) ∙ turns_is (side c.args.t.left c.args.t.right c.args.p)
 
 turn_from-requires : tie.Need-turn_from-requires
-turn_from-requires c κs = turn-asks c.args.t c.args.p c.requires.0 c.requires.1
+turn_from-requires c κs = turn_asks c.args.t c.args.p c.requires.0 c.requires.1
 
 enum_told-1 : tie.Need-enum_told-1
 enum_told-1 c = search rules

@@ -12,7 +12,7 @@ use Rattle.whole.specs.Count.{eq_z, bit, odd}
 use Rattle.whole.proofs.Logic.{is_true}
 use Rattle.plane.specs.declared.Segment.{Segment}
 use Rattle.plane.specs.Plane.{side}
-use Rattle.plane.proofs.Machine.{turn-asks, eq_z_false}
+use Rattle.plane.proofs.Machine.{turn_asks, eq_z_false}
 use Rattle.scene.specs.Read.{segment_at}
 use Rattle.scene.proofs.Given.{GoodHalfsegment}
 use Rattle.scene_segments.proofs.Walk.{byte_bit}
@@ -101,7 +101,7 @@ segment-u-requires : tie.Need-segment-u-requires
 segment-u-requires c κs = (here c).there
 
 is_in_line-requires : tie.Need-is_in_line-requires
-is_in_line-requires c κs = let w = c.before in turn-asks c.segment-u.result (y w.before.before).args.v (in_range_at (here w.before.before) c.segment-u.ensures) (y w.before.before).requires.1
+is_in_line-requires c κs = let w = c.before in turn_asks c.segment-u.result (y w.before.before).args.v (in_range_at (here w.before.before) c.segment-u.ensures) (y w.before.before).requires.1
 
 returns-then-is_in_line : tie.Need-returns-then-is_in_line
 returns-then-is_in_line c =

@@ -3,7 +3,7 @@ use mathlib.Core.Path.{◌≡◌, sym, ap, ◌∙◌}
 use borrow.Author.Rules.{rules}
 use Rattle.plane.specs.declared.Turn.{Turn}
 use Rattle.plane.specs.Plane.{side, turn, Told}
-use Rattle.plane.proofs.Machine.{is_right, right_is, turn-asks, doubled_held}
+use Rattle.plane.proofs.Machine.{is_right, right_is, turn_asks, doubled_held}
 use Rattle.plane.proofs.Narrow.{point_back}
 use Rattle.sweep_laws.specs.Lower.{passes_over}
 use Rattle.sweep_status.proofs.place.is_over.Statement.{statement}
@@ -16,7 +16,7 @@ module _ (c : tie.After-beside_box) where
 
   told : Told c.beside_box.result (turn y.args.u.left y.args.u.right y.args.p)
   told =
-      let h = turn-asks y.args.u y.args.p y.requires.0 y.requires.1 in
+      let h = turn_asks y.args.u y.args.p y.requires.0 y.requires.1 in
       rw (point_back y.args.u.left (doubled_held _ h.0), point_back y.args.u.right (doubled_held _ h.1), point_back y.args.p (doubled_held _ h.2)) at c.beside_box.ensures
 
   by_turn : (t : Turn) → turn y.args.u.left y.args.u.right y.args.p ≡ t → is_right t ≡ passes_over y.args.u y.args.p
@@ -36,7 +36,7 @@ enum_told-in-Neither : tie.Need-enum_told-in-Neither
 enum_told-in-Neither c = search rules
 
 is_right_of-requires : tie.Need-is_right_of-requires
-is_right_of-requires c κs = let z = y c.before.before.before in turn-asks z.args.u z.args.p z.requires.0 z.requires.1
+is_right_of-requires c κs = let z = y c.before.before.before in turn_asks z.args.u z.args.p z.requires.0 z.requires.1
 
 returns-in-Over : tie.Need-returns-in-Over
 returns-in-Over c = let d = c.before in by_turn d _ ((told d).over c.in-Over.is)
