@@ -1,25 +1,24 @@
 -- Beside a segment: points just above it and just below it, off any finite set and off any segments that share only ends with it, with the parities
 -- that the flip lemma gives. So a region that is not empty has interior points near each of its segments.
 use Prim.Native.Nat.{ℕ, suc}
-use mathlib.Core.Path.{◌≡◌, refl, sym, ap, ◌∙◌, subst}
-use mathlib.Core.Logic.{◌⊎◌, inl, inr, ⊎_elim}
-use mathlib.Core.Bool.{Bool, true, false, not, ◌&&◌}
+use mathlib.Core.Path.{◌≡◌, refl, ap, ◌∙◌}
+use mathlib.Core.Logic.{◌⊎◌}
+use mathlib.Core.Bool.{Bool, true, false}
 use mathlib.Core.List.{List, []}
 use lib.Dec.{T}
-use lib.IntN.{ℤ, pos, ◌*ℤ◌, ◌+ℤ◌}
 use Rattle.whole.specs.Count.{◌∈◌}
 use Rattle.whole.proofs.Sign.{Pos, NonNeg, one_pos, lit_nonneg, pos_mul, pos_add_nonneg}
-use Rattle.whole.proofs.Logic.{in_nil, is_true, is_false, and_make}
+use Rattle.whole.proofs.Logic.{in_nil, is_true}
 use Rattle.whole.proofs.Parity.{◌⊻◌, parity, parity_nil}
 use Rattle.plane.specs.declared.Point.{Point}
 use Rattle.plane.specs.declared.Segment.{Segment}
-use Rattle.plane.specs.Plane.{HPoint, midpoint, is_at, is_same_point, is_same_segment, counts_below, is_on_some, inside, Object, in_interior, in_exterior, in_boundary}
+use Rattle.plane.specs.Plane.{HPoint, midpoint, is_at, is_same_point, is_same_segment, counts_below, inside}
 use Rattle.plane.proofs.OnSegment.{Ordered, slanting, upright, Away}
 use Rattle.plane.proofs.Path.{Even}
 use Rattle.plane.proofs.Steps.{Large, large_and, large_one, step}
 use Rattle.plane.proofs.AlongSegment.{Apart}
 use Rattle.plane.proofs.Flip.{upper_way, lower_way, upper_away, lower_away, flip_upper, flip_lower}
-use Rattle.plane.proofs.Accepted.{Split, Regular, Across, middle_away}
+use Rattle.plane.proofs.Accepted.{Regular, middle_away}
 use Rattle.cells_matrix.proofs.Common.{off_points, upper_free, lower_free, away_none, inside_parity}
 
 -- A point off the points P, away from l and from m, with these parities over m and k

@@ -1,27 +1,26 @@
 -- What the pairs of types share: a cell as a test and the points that it speaks of; points at grid points; lines' boundaries and interiors; points of a
 -- segment and beside it that avoid any finite set; a point outside everything.
-use Prim.Native.Nat.{ℕ, zero, suc, ◌+◌}
-use native.Mathlib.Omega.{arith}
+use Prim.Native.Nat.{ℕ, suc}
 use mathlib.Core.Path.{◌≡◌, refl, sym, ap, ap₂, ◌∙◌, subst}
 use mathlib.Core.Logic.{◌⊎◌, inl, inr, ⊎_elim}
 use mathlib.Core.Bool.{Bool, true, false, not, ◌&&◌, ◌||◌, false≢true}
 use mathlib.Core.List.{List, [], ◌∷◌}
 use lib.Dec.{T, T_not, not_T}
-use lib.IntN.{ℤ, pos, negsuc, neg_ℤ, ◌+ℤ◌, ◌-ℤ◌, ◌*ℤ◌}
-use Rattle.whole.specs.Count.{◌∈◌, here, there, some, count, bit, odd}
-use Rattle.whole.proofs.Solver.{var, con, opp, ◌:+◌, ◌:-◌, ◌:*◌, solve}
-use Rattle.whole.proofs.Sign.{Pos, NonNeg, Neg, Sign, minus, nought, plus, sign, pos_nonneg, zero_nonneg, neg_pos, pos_neg, neg_of_pos, pos_clash, zero_pos, zero_neg, pos_mul, pos_add_nonneg, nonneg_add, nonneg_add_pos, nonneg_mul, cancel_zero, cancel_zero_right, one_pos, lit_nonneg, sub_zero_eq}
-use Rattle.whole.proofs.Logic.{and_left, and_right, and_make, or_cases, or_left, or_right, decide, is_true, is_false, true_is, false_is, refute, same_test, and_never, some_find, some_make}
+use lib.IntN.{ℤ, pos, negsuc, ◌+ℤ◌, ◌-ℤ◌, ◌*ℤ◌}
+use Rattle.whole.specs.Count.{◌∈◌, here, there, some, count, odd}
+use Rattle.whole.proofs.Solver.{var, con, ◌:+◌, ◌:-◌, ◌:*◌, solve}
+use Rattle.whole.proofs.Sign.{Pos, Neg, Sign, minus, nought, plus, sign, pos_neg, pos_clash, zero_pos, zero_neg, nonneg_add, nonneg_add_pos, nonneg_mul, cancel_zero_right, one_pos, lit_nonneg, sub_zero_eq}
+use Rattle.whole.proofs.Logic.{and_left, and_right, and_make, or_cases, or_left, or_right, decide, is_false, false_is, refute, same_test, and_never, some_find, some_make}
 use Rattle.whole.proofs.Counted.{count_none}
 use Rattle.whole.proofs.Parity.{◌⊻◌, parity, parity_same, parity_none, odd_count}
 use Rattle.plane.specs.declared.Point.{Point}
 use Rattle.plane.specs.declared.Segment.{Segment}
 use Rattle.plane.specs.Plane.{HPoint, grid, midpoint, side_at, is_same_point, is_same_segment, is_at, is_end, on, is_on_some, counts_below, inside, is_boundary, ends_at, Object, in_interior, in_boundary, in_exterior}
 use Rattle.flags.specs.Flags.{has_point, has_segment, joins, has_some_end, is_bound}
-use Rattle.plane.proofs.Homogeneous.{◌⋆◌, ◌⊞◌, triple_eq, one_times}
-use Rattle.plane.proofs.OnSegment.{Ordered, slanting, upright, Between, Along, Away, over, beneath, leftward, rightward, short, past, on_or_away, on_away, along_on, on_along, away_off}
+use Rattle.plane.proofs.Homogeneous.{triple_eq, one_times}
+use Rattle.plane.proofs.OnSegment.{Ordered, slanting, upright, Along, Away, beneath, short, on_away, along_on, on_along}
 use Rattle.plane.proofs.Equal.{same_point_read, same_point_refl, same_segment_read, same_segment_refl, point_eq}
-use Rattle.plane.proofs.Scale.{ScaleFree, is_at_scale, is_end_scale, on_some_scale, ends_at_scale, inside_scale}
+use Rattle.plane.proofs.Scale.{ScaleFree, ends_at_scale}
 use Rattle.plane.proofs.Touch.{at_grid, at_multiple, is_end_read, first_between}
 use Rattle.plane.proofs.Meeting.{between_swap}
 use Rattle.plane.proofs.Means.{Multiple, between_multiple, At, at_read, at_make, EndOf, left_end, right_end, end_read, end_make, middle, middle_inner}

@@ -1,23 +1,20 @@
 -- A line against a line: two lists of segments that share only common ends, or are equal.
-use mathlib.Core.Path.{◌≡◌, refl, sym, subst}
-use mathlib.Core.Logic.{◌⊎◌, inl, inr, ⊎_elim}
-use mathlib.Core.Bool.{Bool, true, false, not, ◌&&◌, ◌||◌}
+use mathlib.Core.Path.{sym, subst}
+use mathlib.Core.Logic.{⊎_elim}
+use mathlib.Core.Bool.{true, not, ◌&&◌, ◌||◌}
 use mathlib.Core.List.{List, []}
 use lib.Dec.{T, T_not, not_T}
-use Rattle.whole.specs.Count.{◌∈◌, some}
+use Rattle.whole.specs.Count.{◌∈◌}
 use Rattle.whole.proofs.Sign.{Pos, one_pos}
-use Rattle.whole.proofs.Logic.{and_left, and_right, and_make, or_cases, or_left, or_right, some_find, some_make, refute, is_false}
-use Rattle.plane.specs.declared.Point.{Point}
+use Rattle.whole.proofs.Logic.{and_left, and_right, and_make, or_cases, or_left, or_right, some_find, some_make}
 use Rattle.plane.specs.declared.Segment.{Segment}
-use Rattle.plane.specs.Plane.{HPoint, grid, midpoint, is_end, is_same_segment, is_on_some, is_boundary, ends_at, Object, in_interior, in_boundary, in_exterior}
-use Rattle.plane.proofs.OnSegment.{Ordered, Along}
-use Rattle.plane.proofs.Equal.{same_segment_read, same_segment_refl}
+use Rattle.plane.specs.Plane.{HPoint, grid, midpoint, is_end, is_on_some, is_boundary, ends_at, Object, in_interior, in_boundary, in_exterior}
+use Rattle.plane.proofs.OnSegment.{Along}
 use Rattle.plane.proofs.Scale.{is_end_scale, in_interior_scale, in_boundary_scale, in_exterior_scale}
-use Rattle.plane.proofs.Means.{EndOf, middle, end_read, end_make, middle_inner}
-use Rattle.plane.proofs.AlongSegment.{Apart}
+use Rattle.plane.proofs.Means.{EndOf, end_read, end_make}
 use Rattle.plane.proofs.Accepted.{Split, Across}
-use Rattle.flags.specs.Flags.{has_segment, on_object, has_end, is_bound, has_some_end, seg_shared, seg_unshared, interior_poi_shared, bound_on_interior, bound_shared, bound_disjoint}
-use Rattle.cells_matrix.proofs.Common.{Cell, cell_swap, across_swap, bound_scale, carry, carry_not, on_find, on_make, end_along, no_bound, bound_cell, end_find, end_give, end_place_lem, line_outside, outside_line, outside_both, along_clear, line_inner, is_in, in_has, middle_off, middle_in, line_on}
+use Rattle.flags.specs.Flags.{has_segment, on_object, has_end, is_bound, seg_shared, seg_unshared, interior_poi_shared, bound_on_interior, bound_shared, bound_disjoint}
+use Rattle.cells_matrix.proofs.Common.{Cell, cell_swap, across_swap, bound_scale, carry, carry_not, on_find, on_make, end_along, bound_cell, end_find, end_give, end_place_lem, line_outside, outside_line, outside_both, along_clear, line_inner, is_in, in_has, middle_off, middle_in, line_on}
 
 -- ---- the rows
 

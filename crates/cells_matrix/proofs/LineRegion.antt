@@ -1,10 +1,10 @@
 -- A line against a region.
-use mathlib.Core.Path.{◌≡◌, refl, sym, subst}
+use mathlib.Core.Path.{◌≡◌, sym, subst}
 use mathlib.Core.Logic.{◌⊎◌, inl, inr, ⊎_elim}
-use mathlib.Core.Bool.{Bool, true, false, not, ◌&&◌, ◌||◌}
+use mathlib.Core.Bool.{true, not, ◌&&◌, ◌||◌}
 use mathlib.Core.List.{List, []}
 use lib.Dec.{T, T_not, not_T}
-use Rattle.whole.specs.Count.{◌∈◌, some}
+use Rattle.whole.specs.Count.{◌∈◌}
 use Rattle.whole.proofs.Sign.{Pos, one_pos}
 use Rattle.whole.proofs.Logic.{and_left, and_right, and_make, or_cases, or_left, or_right, some_find, some_make, decide, is_false}
 use Rattle.plane.specs.declared.Point.{Point}
@@ -12,13 +12,13 @@ use Rattle.plane.specs.declared.Segment.{Segment}
 use Rattle.plane.specs.Plane.{HPoint, grid, midpoint, is_at, is_end, is_same_segment, is_on_some, inside, is_boundary, ends_at, Object, in_interior, in_boundary, in_exterior}
 use Rattle.plane.proofs.OnSegment.{Ordered, Along}
 use Rattle.plane.proofs.Equal.{same_segment_read, same_segment_refl}
-use Rattle.plane.proofs.Scale.{is_end_scale, on_some_scale, in_interior_scale, in_exterior_scale}
+use Rattle.plane.proofs.Scale.{is_end_scale, in_interior_scale, in_exterior_scale}
 use Rattle.plane.proofs.Means.{at_read, EndOf, left_end, right_end, middle, end_read, end_make}
 use Rattle.plane.proofs.AlongSegment.{Apart}
 use Rattle.plane.proofs.Accepted.{Split, Regular, Across}
-use Rattle.flags.specs.Flags.{has_segment, on_object, is_bound, joins, has_some_end, seg_inside, seg_shared, seg_outside, seg_unshared, poi_joins, bound_joins, bound_inside_test, bound_outside_test}
-use Rattle.cells_matrix.proofs.Common.{Cell, across_swap, bound_scale, carry, carry_not, on_find, on_make, end_along, bound_at, bound_cell, end_find, end_give, end_place_lem, line_outside, outside_line, outside_both, along_clear, line_inner, away_none, filled, first_of, filled_of, inside_filled, inside_off, is_in, in_has, middle_off, middle_in, line_on, moving, another_end}
-use Rattle.cells_matrix.proofs.Beside.{Within, region_inner}
+use Rattle.flags.specs.Flags.{has_segment, on_object, is_bound, joins, seg_inside, seg_shared, seg_outside, seg_unshared, poi_joins, bound_joins, bound_inside_test, bound_outside_test}
+use Rattle.cells_matrix.proofs.Common.{Cell, across_swap, bound_scale, carry, carry_not, on_find, on_make, end_along, bound_at, bound_cell, end_find, end_give, end_place_lem, line_outside, outside_line, outside_both, along_clear, line_inner, away_none, filled, first_of, inside_filled, inside_off, is_in, middle_off, middle_in, line_on, moving, another_end}
+use Rattle.cells_matrix.proofs.Beside.{region_inner}
 
 module _ (F G : List Segment) (f : Split F) (g : Regular G) (across : Across F G) where
   ord : (t : Segment) → t ∈ G → Ordered t

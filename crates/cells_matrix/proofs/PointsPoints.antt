@@ -1,8 +1,8 @@
 -- Points against points.
 use mathlib.Core.Path.{◌≡◌, refl, ap, ◌∙◌}
 use mathlib.Core.Bool.{Bool, true, false, not, ◌&&◌}
-use mathlib.Core.List.{List, []}
-use Rattle.whole.specs.Count.{some, ◌∈◌}
+use mathlib.Core.List.{List}
+use Rattle.whole.specs.Count.{some}
 use Rattle.whole.proofs.Logic.{in_nil}
 use Rattle.plane.specs.declared.Point.{Point}
 use Rattle.plane.specs.Plane.{HPoint, grid, is_at, Object, in_interior, in_boundary, in_exterior}

@@ -1,19 +1,16 @@
 -- Points against a region.
-use mathlib.Core.Path.{◌≡◌, refl}
-use mathlib.Core.Logic.{inl}
+use mathlib.Core.Path.{refl}
 use mathlib.Core.Bool.{Bool, true, false, not, ◌&&◌}
 use mathlib.Core.List.{List, []}
-use lib.Dec.{T, T_not}
-use Rattle.whole.specs.Count.{◌∈◌, odd, count}
 use Rattle.whole.proofs.Logic.{in_nil}
 use Rattle.plane.specs.declared.Point.{Point}
 use Rattle.plane.specs.declared.Segment.{Segment}
-use Rattle.plane.specs.Plane.{HPoint, grid, is_on_some, inside, counts_below, Object, in_interior, in_boundary, in_exterior}
+use Rattle.plane.specs.Plane.{HPoint, grid, inside, Object, in_interior, in_boundary, in_exterior}
 use Rattle.plane.proofs.Scale.{in_interior_scale, in_boundary_scale, in_exterior_scale}
 use Rattle.plane.proofs.Accepted.{Regular}
 use Rattle.flags.specs.Flags.{on_object, poi_inside, poi_on_outline, poi_outside}
 use Rattle.cells_matrix.proofs.Common.{Cell, no_boundary, points_cell, outside_both, along_clear, points_off, filled, first_of, filled_of, on_find, on_make, inside_filled}
-use Rattle.cells_matrix.proofs.Beside.{Within, region_inner}
+use Rattle.cells_matrix.proofs.Beside.{region_inner}
 
 module _ (F : List Point) (G : List Segment) (regular : Regular G) where
   pub ii : Cell (poi_inside F G) (in_interior (Object.points F)) (in_interior (Object.region G))

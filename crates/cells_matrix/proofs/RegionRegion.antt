@@ -2,23 +2,22 @@
 -- every segment are taken (the flip lemma): so a cell of two open parts is a question of the four values beside a segment, and so are the segment classes.
 use mathlib.Core.Path.{◌≡◌, refl, sym, ap, ap₂, ◌∙◌, subst}
 use mathlib.Core.Logic.{◌⊎◌, inl, inr, ⊎_elim}
-use mathlib.Core.Bool.{Bool, true, false, not, ◌&&◌, ◌||◌, false≢true, true≢false}
+use mathlib.Core.Bool.{Bool, true, false, not, ◌&&◌, ◌||◌}
 use mathlib.Core.List.{List, [], ◌∷◌, ◌++◌}
 use lib.Dec.{T, T_not, not_T}
 use Rattle.whole.specs.Count.{◌∈◌, here, there, some}
 use Rattle.whole.proofs.Sign.{Pos, one_pos}
 use Rattle.whole.proofs.Logic.{in_nil, in_cons, in_left, in_right, in_append, and_left, and_right, and_make, or_cases, or_left, or_right, some_find, some_make, decide, is_true, is_false, true_is, false_is, refute, same_test}
 use Rattle.whole.proofs.Parity.{◌⊻◌, xor_false, parity, parity_none}
-use Rattle.plane.specs.declared.Point.{Point}
 use Rattle.plane.specs.declared.Segment.{Segment}
-use Rattle.plane.specs.Plane.{HPoint, grid, midpoint, is_at, is_end, is_same_segment, is_on_some, inside, counts_below, Object, in_interior, in_boundary, in_exterior}
+use Rattle.plane.specs.Plane.{HPoint, grid, midpoint, is_end, is_same_segment, is_on_some, inside, counts_below, Object, in_interior, in_boundary, in_exterior}
 use Rattle.plane.proofs.OnSegment.{Ordered, Along, Away, on_or_away}
 use Rattle.plane.proofs.Equal.{same_segment_read, same_segment_refl}
 use Rattle.plane.proofs.Scale.{is_end_scale}
-use Rattle.plane.proofs.Means.{EndOf, middle, end_read, end_make}
+use Rattle.plane.proofs.Means.{middle, end_read, end_make}
 use Rattle.plane.proofs.AlongSegment.{Apart}
 use Rattle.plane.proofs.Topmost.{topmost}
-use Rattle.plane.proofs.Accepted.{Split, Regular, Across, middle_away}
+use Rattle.plane.proofs.Accepted.{Regular, Across, middle_away}
 use Rattle.flags.specs.Flags.{Edge, outline, has_segment, joins, mid_inside, mid_outside, class01, class10, class12, class21, class02, class20, class11, bound_poi_shared}
 use Rattle.cells_matrix.proofs.Common.{Cell, cell_swap, across_swap, carry, on_find, on_make, end_along, end_find, end_give, end_place_lem, outside_both, away_none, inside_parity, inside_off, inside_count, is_in, in_has, middle_off, moving}
 use Rattle.cells_matrix.proofs.Beside.{Beside, below_it, above_it}

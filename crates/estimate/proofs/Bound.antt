@@ -2,7 +2,7 @@
 -- 2 ^ 42 and moves by at most 2 ^ 17, and their difference is below 2 ^ 43 and moves by at most 2 ^ 18.
 use mathlib.Core.Path.{◌≡◌, refl, sym, ap, ap₂, ◌∙◌}
 use mathlib.Core.Bool.{Bool, true, false, ◌&&◌, false≢true}
-use Prim.Native.Nat.{ℕ, zero, suc, ◌+◌, ◌*◌, ◌≤◌, ◌<◌}
+use Prim.Native.Nat.{ℕ, zero, suc, ◌+◌, ◌≤◌, ◌<◌}
 use native.Mathlib.Nat.{mul-le-mul, le_trans, le_of_eq, lt_of_le_of_lt, lt_irrefl, not-suc-le-zero}
 use native.Mathlib.Omega.{arith}
 use lib.Dec.{T, lit<, lit≤}

@@ -18,7 +18,7 @@ use Rattle.scene.specs.Read.{shape_number}
 use Rattle.scene.specs.Conditions.{indices}
 use Rattle.scene.proofs.Indices.{in_indices}
 use Rattle.flags.specs.Flags.{has_bit}
-use Rattle.flags.proofs.Bits.{and_bit, no_bit, same_number}
+use Rattle.flags.proofs.Bits.{and_bit, same_number}
 use Rattle.flags.proofs.Marks.{gather, gather_bit}
 use Rattle.flags_masks.specs.declared.Wanted.{Wanted}
 use Rattle.flags_masks.specs.Wanted.{mask_of_f, mask_of_g, cell_masks, cell_place, cell_masks_of, wanted_for_f, wanted_for_g, masks_for, has_stray, any_stray}

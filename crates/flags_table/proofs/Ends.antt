@@ -6,7 +6,7 @@ use mathlib.Core.Logic.{◌⊎◌, inl, inr, ⊎_elim}
 use mathlib.Core.Bool.{Bool, true, false, not, ◌&&◌, ◌||◌}
 use mathlib.Core.List.{List}
 use lib.Dec.{T, ltb}
-use Rattle.whole.specs.Count.{◌∈◌, some, count}
+use Rattle.whole.specs.Count.{◌∈◌, some}
 use Rattle.whole.proofs.Sign.{one_pos}
 use Rattle.whole.proofs.Logic.{and_right, and_make, or_cases, or_left, or_right, true_is, same_test, decide, some_find, some_make}
 use Rattle.plane.specs.declared.Point.{Point}

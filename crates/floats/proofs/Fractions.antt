@@ -1,13 +1,12 @@
 -- The order of fractions, and what two stretches share: some number lies in both exactly where neither begins above the other's end.
-use mathlib.Core.Path.{◌≡◌, sym, subst}
+use mathlib.Core.Path.{◌≡◌, subst}
 use mathlib.Core.Logic.{◌↔◌, ◌⊎◌, inl, inr}
 use mathlib.Core.List.{[], ◌∷◌}
 use lib.Dec.{T}
 use lib.IntN.{ℤ, pos, ◌+ℤ◌, ◌-ℤ◌, ◌*ℤ◌}
-use lib.Signed.{le_z}
 use native.Mathlib.Omega.{arith}
 use Rattle.whole.proofs.Sign.{Pos, NonNeg, pos_nonneg, lit_pos, nonneg_add, nonneg_mul, cancel_nonneg, le_z_nonneg, nonneg_le_z, Half, at_least_lem, under, half}
-use Rattle.whole.proofs.Balance.{P, N, sub_balanceℤ, le_z_make}
+use Rattle.whole.proofs.Balance.{sub_balanceℤ, le_z_make}
 use Rattle.whole.proofs.Solver.{solve, var, ◌:+◌, ◌:*◌, ◌:-◌}
 use Rattle.plane.specs.Plane.{Fraction}
 use Rattle.floats.specs.Value.{at_most, InStretch}

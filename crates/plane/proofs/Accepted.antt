@@ -5,7 +5,7 @@ use mathlib.Core.Logic.{◌⊎◌, inl, inr, ⊎_elim}
 use mathlib.Core.Bool.{Bool, true, false, not, ◌&&◌, ◌||◌, or-false}
 use mathlib.Core.List.{List}
 use lib.Dec.{T, T_not}
-use lib.IntN.{one, ◌*ℤ◌, *ℤ-one}
+use lib.IntN.{one, *ℤ-one}
 use Rattle.whole.specs.Count.{eq_z, odd, some, count, ◌∈◌}
 use Rattle.whole.proofs.Sign.{one_pos, eq_z_zero, zero_eq_z, zero_pos}
 use Rattle.whole.proofs.Logic.{and_left, and_right, decide, true_is, refute, is_false, some_find, some_make, Sorted}

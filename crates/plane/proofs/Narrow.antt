@@ -3,23 +3,22 @@ use Prim.Native.Nat.{ℕ, zero, suc, ◌+◌, ◌*◌, ◌-◌, ◌<◌, ◌≤�
 use native.Mathlib.Omega.{arith}
 use mathlib.Core.Path.{◌≡◌, refl, sym, ap, ap₂, subst, ◌∙◌}
 use mathlib.Core.Bool.{Bool, true, false, ◌&&◌}
-use mathlib.Core.List.{List, [], ◌∷◌}
+use mathlib.Core.List.{[], ◌∷◌}
 use lib.Dec.{T, eqb}
-use lib.IntN.{ℤ, pos, negsuc, neg_ℤ, nat_abs, ◌+ℤ◌, ◌-ℤ◌, ◌*ℤ◌}
+use lib.IntN.{ℤ, pos, negsuc, nat_abs, ◌+ℤ◌, ◌-ℤ◌, ◌*ℤ◌}
 use lib.Signed.{lt_z, le_z, non_neg}
 use mir.Syntax.{w32}
 use mir.Val.{SFits, Fits, to_z, of_z}
 use mir.Facts.{to_z-of_z}
 use borrow.Author.Tests.{le-ltb}
 use Rattle.whole.specs.Count.{eq_z}
-use Rattle.whole.proofs.Solver.{Exp, var, con, opp, ◌:+◌, ◌:-◌, ◌:*◌, solve}
+use Rattle.whole.proofs.Solver.{var, con, opp, ◌:+◌, ◌:-◌, ◌:*◌, solve}
 use Rattle.whole.proofs.Balance.{P, N, add_balance, sub_balanceℤ, pos_P, pos_N, eq_z_read}
 use Rattle.whole.proofs.Sign.{Pos, NonNeg, Neg, Weak, weak, weak_zero, weak_plus, pos_nonneg, pos_mul, nonneg_mul, pos_add_nonneg, nonneg_add_pos, neg_of_pos, lt_z_pos, le_z_nonneg}
 use Rattle.whole.proofs.Logic.{and_left, and_right}
 use Rattle.plane.specs.declared.Point.{Point}
 use Rattle.plane.specs.declared.Turn.{Turn}
 use Rattle.plane.specs.declared.Turn.TheVariants.{Left, Straight, Right}
-use Rattle.plane.specs.declared.Beside.{Beside}
 use Rattle.plane.specs.declared.Beside.TheVariants.{Over, Under, Neither}
 use Rattle.plane.specs.Plane.{limit, within, is_same_point, side, at, turn_of, turn, turn_code, Told}
 use Rattle.plane.proofs.Machine.{Held, is_straight, nat_abs_difference, half_fits, near_fits, within_x, within_y}

@@ -2,7 +2,6 @@
 // Elements are read where they stand in the bytes; nothing is copied out of them.
 #![tactic(auto)]
 
-
 // An object's type: 1, 2, 3 in a type record.
 #[derive(Clone, Copy)]
 pub enum Shape {

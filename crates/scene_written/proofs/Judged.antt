@@ -1,6 +1,6 @@
 -- An object that is read as the halfsegments of segments that share only common ends passes 10 to 12. Where each segment occurs an odd number of
 -- times, the ends are even and ia is as the rule has it, it passes 13 and 14.
-use Prim.Native.Nat.{ℕ, zero, suc, ◌+◌, ◌-◌, ◌<◌}
+use Prim.Native.Nat.{ℕ, zero, suc, ◌-◌, ◌<◌}
 use native.Mathlib.Nat.{not-suc-le-zero, le_of_suc-le-suc}
 use native.Mathlib.Omega.{arith}
 use mathlib.Core.Path.{◌≡◌, refl, sym, ap, ap₂, subst, subst₂, ◌∙◌}

@@ -1,6 +1,5 @@
 -- The two kinds of event keep what the sweep keeps: a strand that begins between those under its left end and those over it, and a strand that ends
 -- between those under its right end and those over it.
-use Prim.Native.Nat.{◌+◌}
 use native.Mathlib.Omega.{arith}
 use mathlib.Core.Path.{◌≡◌, refl, sym, ap, ◌∙◌, subst}
 use mathlib.Core.Logic.{◌⊎◌, inl, inr, ⊎_elim}

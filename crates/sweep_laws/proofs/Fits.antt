@@ -1,7 +1,7 @@
 -- A strand begins among active ones that it does not touch: one that does not pass over its left end is under it, and neighbours are in order at the
 -- right, too.
 use mathlib.Core.Path.{◌≡◌, sym, ap, ◌∙◌, subst}
-use mathlib.Core.Logic.{◌⊎◌, ⊎_elim}
+use mathlib.Core.Logic.{⊎_elim}
 use mathlib.Core.Bool.{false, not, ◌&&◌, ◌||◌}
 use mathlib.Core.List.{[], ◌∷◌}
 use lib.Dec.{T, T_not, not_T}

@@ -1,6 +1,6 @@
 -- The sweep over the bytes of a scene, from event to event. What it keeps holds of every run that ends with no segment active: each active segment
 -- then ends at a later event, so that it reaches as far as the events do.
-use Prim.Native.Nat.{ℕ, suc, ◌+◌, ◌<◌, ◌≤◌}
+use Prim.Native.Nat.{ℕ, suc, ◌<◌, ◌≤◌}
 use native.Mathlib.Nat.{le_refl, not-suc-le-zero}
 use native.Mathlib.Omega.{arith}
 use mathlib.Core.Path.{◌≡◌, refl, sym, ap, ◌∙◌, subst}

@@ -1,11 +1,11 @@
 -- What an object gives that 10 to 14 do not refuse, in the form that the plane's lemmas take.
-use Prim.Native.Nat.{ℕ, zero, suc, ◌-◌, ◌<◌}
+use Prim.Native.Nat.{ℕ, zero, suc, ◌<◌}
 use mathlib.Core.Path.{◌≡◌, refl, sym, ap, subst, subst₂, ◌∙◌}
 use mathlib.Core.Bool.{Bool, true, false, not, cond, beq}
 use mathlib.Core.List.{List, map}
 use lib.Dec.{T}
 use borrow.Author.Tests.{not-false}
-use Rattle.whole.specs.Count.{odd, ◌∈◌, there}
+use Rattle.whole.specs.Count.{odd, ◌∈◌}
 use Rattle.whole.proofs.Logic.{beq_same, and_left, and_right, is_true, true_is, refute, none_of, in_map, map_in, Sorted, sorted_nil, sorted_cons, sorted_map}
 use Rattle.plane.specs.declared.Point.{Point}
 use Rattle.plane.specs.declared.Segment.{Segment}

@@ -1,6 +1,6 @@
 -- Signs of whole numbers, as records over the number so that it can be inferred: closure under sum and product, cancellation of a positive
 -- factor, and the tests lt_z, le_z, eq_z as signs of a difference. An inequality is then an identity (Solver) and closure.
-use Prim.Native.Nat.{ℕ, zero, suc, ◌+◌, ◌*◌, ◌≤◌, ◌<◌}
+use Prim.Native.Nat.{ℕ, zero, suc, ◌≤◌, ◌<◌}
 use native.Mathlib.Omega.{arith}
 use mathlib.Core.Path.{◌≡◌, refl, sym, ap, ◌∙◌, subst}
 use mathlib.Core.Bool.{Bool, not}

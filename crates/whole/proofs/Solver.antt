@@ -6,7 +6,7 @@ use mathlib.Core.Bool.{Bool, true, false, ◌&&◌}
 use mathlib.Core.List.{List, [], ◌∷◌}
 use lib.Dec.{T, leb, ltb, eqb, eqb→eq}
 use lib.ListN.{get_or}
-use lib.IntN.{ℤ, pos, negsuc, neg_ℤ, ◌+ℤ◌, ◌-ℤ◌, ◌*ℤ◌, +ℤ_idl, +ℤ_idr, +ℤ_assoc, -ℤ-+ℤ_cancel, zero-*ℤ, *ℤ-zero, *ℤ_comm, neg_ℤ-+ℤ}
+use lib.IntN.{ℤ, pos, negsuc, neg_ℤ, ◌+ℤ◌, ◌*ℤ◌, +ℤ_idl, +ℤ_idr, +ℤ_assoc, -ℤ-+ℤ_cancel, zero-*ℤ, *ℤ-zero, *ℤ_comm, neg_ℤ-+ℤ}
 use Rattle.whole.specs.Count.{eq_z}
 use Rattle.whole.proofs.Ring.{add_left_comm, distrib_right, distrib_left, mul_assoc, neg_mul, one-mul}
 

@@ -1,5 +1,5 @@
 -- `plane::beside_box` meets its contract: over or under the box, and within its width, the side value is a sum of two products of one sign.
-use mathlib.Core.Path.{◌≡◌, sym, ap₂, ◌∙◌}
+use mathlib.Core.Path.{sym, ap₂, ◌∙◌}
 use mathlib.Core.Bool.{◌&&◌}
 use borrow.Author.Rules.{rules}
 use lib.Dec.{T}

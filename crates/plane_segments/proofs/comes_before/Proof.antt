@@ -1,7 +1,7 @@
 -- `plane_segments::comes_before` meets its contract: the order of halfsegments, by whether the dominating points are one and the sides the same.
 use Prim.Native.Nat.{◌*◌}
 use mathlib.Core.Path.{◌≡◌, refl, sym, ap₂, ◌∙◌}
-use mathlib.Core.Bool.{Bool, true, false, not, or-false, beq, false≢true, true≢false, and-eq-true_iff}
+use mathlib.Core.Bool.{Bool, true, false, not, or-false, beq, and-eq-true_iff}
 use borrow.Author.Rules.{rules}
 use borrow.Author.Tests.{not-true, not-false}
 use lib.Dec.{T}

@@ -1,5 +1,5 @@
 -- `sweep_status::place::find` meets its contract: the entry just below the hint passes over the point, and a place is below it, or it does not, and one is from the hint on.
-use Prim.Native.Nat.{ℕ, ◌+◌, ◌-◌, ◌<◌, ◌≤◌}
+use Prim.Native.Nat.{ℕ, ◌+◌, ◌-◌, ◌<◌}
 use native.Mathlib.Omega.{arith}
 use mathlib.Core.Path.{◌≡◌, subst}
 use borrow.Author.Rules.{rules}
