@@ -1,3 +1,2 @@
 // The twelve scenes of document 01, proved against the definitions: lemmas only.
 #![tactic(auto)]
-
