@@ -4,7 +4,7 @@ use Prim.Native.Nat.{ℕ, ◌+◌, ◌-◌, ◌*◌, ◌/◌, ◌%◌, ◌<◌}
 use native.Mathlib.Omega.{arith}
 use mathlib.Core.Path.{◌≡◌, refl, sym, ap, ap₂, ◌∙◌, fun_ext}
 use mathlib.Core.Bool.{Bool, true, false, ◌&&◌, cond}
-use mathlib.Core.List.{List, [], ◌∷◌, map}
+use mathlib.Core.List.{List, [], map}
 use lib.Dec.{T}
 use lib.ListN.{get_or}
 use Rattle.whole.specs.Count.{odd}
@@ -13,17 +13,17 @@ use Rattle.plane_dimensions.specs.declared.Dimension.TheVariants.{Area}
 use Rattle.scene.specs.declared.Shape.{Shape}
 use Rattle.scene.specs.declared.Shape.TheVariants.{Points, Line, Region}
 use Rattle.scene.specs.declared.Scene.{Scene}
-use Rattle.scene.specs.Read.{shape_number, descends, turned, as_given, given_first, given_second}
+use Rattle.scene.specs.Read.{shape_number, descends, turned, given_first, given_second}
 use Rattle.flags.specs.Flags.{has_bit}
 use Rattle.flags.proofs.Bits.{and_bit}
 use Rattle.flags_masks.specs.declared.FlagMasks.{FlagMasks}
 use Rattle.flags_masks.specs.declared.Wanted.{Wanted}
-use Rattle.flags_masks.specs.Wanted.{cell_masks, cell_place, cell_masks_of, masks_for, only}
+use Rattle.flags_masks.specs.Wanted.{cell_masks, masks_for, only}
 use Rattle.flags_masks.proofs.Masks.{masked_f, masked_g}
 use Rattle.flags_masks.proofs.Cells.{cell_wants_f, cell_wants_g}
 use Rattle.flags_vectors.specs.declared.Vectors.{Vectors}
 use Rattle.flags_vectors.specs.Vectors.{scene_vectors, vectors_in}
-use Rattle.cells_matrix.specs.Matrix.{Part, interior, boundary, exterior, index, parts, matrix_by, matrix_of, matrix_given, cell_at, transposed}
+use Rattle.cells_matrix.specs.Matrix.{Part, interior, boundary, exterior, parts, matrix_by, matrix_of, matrix_given, cell_at, transposed}
 use Rattle.cells_matrix.proofs.Theorem.{cell_transposed}
 use Rattle.cells.specs.Explored as E
 use Rattle.cells.specs.Explored.{explored_by, explored_in, matrix_from}

@@ -1,10 +1,9 @@
 -- The answer: of the flags that a pattern wants it is that of all flags; and it is not wrong in points.
 use Prim.Native.Nat.{ℕ}
-use native.Mathlib.Omega.{arith}
 use mathlib.Core.Path.{◌≡◌, refl, sym, ap, subst, ◌∙◌, fun_ext}
 use mathlib.Core.Logic.{◌↔◌, ⊎_elim}
 use mathlib.Core.Bool.{Bool, true, false, ◌||◌, cond}
-use mathlib.Core.List.{List, [], ◌∷◌, map}
+use mathlib.Core.List.{List, map}
 use lib.Dec.{T, eqb, eqb→eq}
 use lib.ListN.{get_or}
 use borrow.Author.Tests.{eqb-true, eq-eqb, not-false}
@@ -19,11 +18,9 @@ use Rattle.scene.specs.declared.Scene.{Scene}
 use Rattle.scene.specs.declared.Refusal.{Refusal}
 use Rattle.scene.specs.declared.CheckedScene.{CheckedScene}
 use Rattle.scene.specs.Conditions.{indices, check_scene}
-use Rattle.check_verdict.specs.declared.Verdict.{Verdict}
 use Rattle.check_verdict.specs.declared.Verdict.TheVariants.{Sound, Refused}
-use Rattle.check_verdict.specs.Refusals.{settle}
 use Rattle.check_verdict.specs.SharedPoints.{CheckedMeans}
-use Rattle.flags.specs.Flags.{has_bit, pack}
+use Rattle.flags.specs.Flags.{has_bit}
 use Rattle.flags.proofs.Bits.{pack_bit}
 use Rattle.flags_masks.specs.declared.Wanted.{Wanted}
 use Rattle.flags_masks.proofs.Cells.{cells_tidy}
@@ -36,7 +33,7 @@ use Rattle.cells.specs.Explored.{explored_by, explored_in, matrix_from, InCell}
 use Rattle.cells.proofs.Taken.{cells_right}
 use Rattle.cells_pattern.specs.declared.RelateAnswer.{RelateAnswer}
 use Rattle.cells_pattern.specs.Pattern.{must_be, either, is_sign, fits, Demands, position, character_for, fits_all}
-use Rattle.cells_pattern.specs.Asked.{pattern_verdict, asks, named_cells, asked_cells, wanted_cells}
+use Rattle.cells_pattern.specs.Asked.{pattern_verdict, asks, named_cells, asked_cells}
 use Rattle.cells_pattern.specs.Related.{check_relate, answered, relate_of, relate_values, NoPatternWrong}
 use Rattle.cells_pattern.proofs.Checked.{after_scene_lem, taken_scene, relate_means}
 use Rattle.cells_pattern.proofs.ReadOff.{asked_kept, always_area}

@@ -1,24 +1,17 @@
 -- The midpoint of a segment of either region lies on a region's segments where the segment is one of them, and nowhere else; so of each segment that the
 -- walk comes to.
-use Prim.Native.Nat.{ℕ, ◌-◌}
-use native.Mathlib.Omega.{arith}
-use mathlib.Core.Path.{sym, subst}
-use mathlib.Core.Logic.{◌⊎◌, inl, inr, ⊎_elim}
+use Prim.Native.Nat.{ℕ}
+use mathlib.Core.Logic.{◌⊎◌, ⊎_elim}
 use mathlib.Core.List.{List}
-use Rattle.whole.specs.Count.{◌∈◌, here}
-use Rattle.whole.proofs.Logic.{map_in}
+use Rattle.whole.specs.Count.{◌∈◌}
 use Rattle.plane.specs.declared.Segment.{Segment}
 use Rattle.plane.proofs.OnSegment.{ordered_read}
-use Rattle.scene.specs.declared.Layout.{Layout}
 use Rattle.scene.specs.declared.Scene.{Scene}
-use Rattle.scene.specs.Conditions.{indices, keep, half, left_test, segments}
-use Rattle.scene_segments.proofs.Indices.{indices_in, keep_in}
-use Rattle.check_verdict.proofs.Laws.{SoundObject, SoundScene, left_in, all_ordered, split, across}
+use Rattle.scene.specs.Conditions.{segments}
+use Rattle.check_verdict.proofs.Laws.{SoundScene, all_ordered, split, across}
 use Rattle.flags.specs.Elements.{Clear}
 use Rattle.flags.proofs.Clear.{clear_of}
 use Rattle.cells_matrix.proofs.Common.{across_swap}
-use Rattle.overlap.proofs.Members.{merge_in}
-use Rattle.overlap.specs.Walked.{segments_from, NextIs}
 
 pub either_clear : {s : List ℕ} {sc : Scene} → SoundScene s sc → (t : Segment) → (t ∈ segments s sc.f) ⊎ (t ∈ segments s sc.g) → Clear (segments s sc.f) t × Clear (segments s sc.g) t
 either_clear {s} {sc} o t = ⊎_elim of_f_lem of_g_lem

@@ -1,17 +1,16 @@
 -- A box covers the points it is made from; boxes that share no point have a line between them.
-use mathlib.Core.Path.{◌≡◌, refl, sym, ap, ap₂, ◌∙◌, subst}
+use mathlib.Core.Path.{◌≡◌, refl, sym, ◌∙◌, subst}
 use mathlib.Core.Logic.{◌⊎◌, inl, inr, ⊎_elim}
-use mathlib.Core.Bool.{Bool, true, false, not, ◌&&◌, ◌||◌, cond}
+use mathlib.Core.Bool.{Bool, true, false, not, ◌||◌, cond}
 use mathlib.Core.List.{List, [], ◌∷◌}
-use lib.Dec.{T, T_not}
-use lib.IntN.{ℤ, pos, neg_ℤ, ◌+ℤ◌, ◌-ℤ◌, ◌*ℤ◌}
+use lib.Dec.{T}
+use lib.IntN.{ℤ, pos, ◌-ℤ◌, ◌*ℤ◌}
 use lib.Signed.{lt_z, le_z}
-use Rattle.whole.specs.Count.{◌∈◌, here, there}
-use Rattle.whole.proofs.Solver.{Exp, var, con, opp, ◌:+◌, ◌:-◌, ◌:*◌, solve}
+use Rattle.whole.specs.Count.{◌∈◌}
+use Rattle.whole.proofs.Solver.{var, con, ◌:+◌, ◌:-◌, ◌:*◌, solve}
 use Rattle.whole.proofs.Sign.{Pos, NonNeg, pos_nonneg, zero_nonneg, nonneg_add_pos, nonneg_add, lt_z_pos, le_z_nonneg, lt_z_le_z}
 use Rattle.whole.proofs.Logic.{in_nil, in_cons, or_cases, decide, is_true}
 use Rattle.plane.specs.declared.Point.{Point}
-use Rattle.plane.specs.Plane.{grid}
 use Rattle.summary.specs.declared.Bounds.{Bounds}
 use Rattle.summary.specs.Summary.{lesser, greater, widen, grow, box_of, beside}
 use Rattle.summary.proofs.Hull.{east, north}

@@ -1,16 +1,15 @@
 -- Points on two sides of an upright or level line: what that says of points, segments and regions whose corners they are.
-use Prim.Native.Nat.{ℕ, ◌+◌, ◌≤◌, ◌<◌}
 use native.Mathlib.Omega.{arith}
-use mathlib.Core.Path.{◌≡◌, refl, sym, ap, ap₂, ◌∙◌, subst}
-use mathlib.Core.Logic.{◌⊎◌, inl, inr, ⊎_elim}
-use mathlib.Core.Bool.{Bool, true, false, not, ◌&&◌, ◌||◌}
+use mathlib.Core.Path.{◌≡◌, refl, sym, subst}
+use mathlib.Core.Logic.{⊎_elim}
+use mathlib.Core.Bool.{false, not, ◌&&◌}
 use mathlib.Core.List.{List, [], ◌∷◌}
 use lib.Dec.{T, T_not}
 use lib.IntN.{ℤ, pos, neg_ℤ, ◌+ℤ◌, ◌-ℤ◌, ◌*ℤ◌}
-use Rattle.whole.specs.Count.{◌∈◌, here, there, some}
-use Rattle.whole.proofs.Solver.{Exp, var, con, opp, ◌:+◌, ◌:-◌, ◌:*◌, solve}
-use Rattle.whole.proofs.Balance.{P, N, sub_balanceℤ, pos_P, pos_N}
-use Rattle.whole.proofs.Sign.{Pos, NonNeg, Neg, Half, at_least_lem, under, half, pos_nonneg, zero_nonneg, neg_pos, neg_of_pos, nonneg_clash, zero_pos, pos_add, pos_add_nonneg, nonneg_add_pos, nonneg_add, one_pos}
+use Rattle.whole.specs.Count.{◌∈◌, here, there}
+use Rattle.whole.proofs.Solver.{var, con, opp, ◌:+◌, ◌:-◌, ◌:*◌, solve}
+use Rattle.whole.proofs.Balance.{sub_balanceℤ, pos_P, pos_N}
+use Rattle.whole.proofs.Sign.{Pos, NonNeg, Half, at_least_lem, under, half, pos_nonneg, zero_nonneg, neg_pos, neg_of_pos, nonneg_clash, pos_add, nonneg_add_pos, nonneg_add, one_pos}
 use Rattle.whole.proofs.Logic.{in_nil, in_cons, and_right, refute, some_find}
 use Rattle.plane.specs.declared.Point.{Point}
 use Rattle.plane.specs.declared.Segment.{Segment}

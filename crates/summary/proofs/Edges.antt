@@ -1,24 +1,23 @@
 -- A region that is not empty has an edge with its interior above and one with its interior below: the highest edge under an inner point, and the highest
 -- of all in that column.
-use mathlib.Core.Path.{◌≡◌, refl, sym, ap, ap₂, ◌∙◌, subst}
-use mathlib.Core.Logic.{◌⊎◌, inl, inr, ⊎_elim}
-use mathlib.Core.Bool.{Bool, true, false, not, ◌&&◌, ◌||◌, false≢true}
+use mathlib.Core.Path.{◌≡◌, sym, ap, ◌∙◌, subst}
+use mathlib.Core.Logic.{⊎_elim}
+use mathlib.Core.Bool.{Bool, true, false, not, ◌&&◌}
 use mathlib.Core.List.{List, [], ◌∷◌}
 use lib.Dec.{T}
-use lib.IntN.{ℤ, pos, neg_ℤ, ◌+ℤ◌, ◌-ℤ◌, ◌*ℤ◌}
+use lib.IntN.{ℤ, pos, ◌+ℤ◌, ◌-ℤ◌, ◌*ℤ◌}
 use lib.Signed.{lt_z, le_z}
-use Rattle.whole.specs.Count.{◌∈◌, here, there, some}
-use Rattle.whole.proofs.Solver.{Exp, var, con, opp, ◌:+◌, ◌:-◌, ◌:*◌, solve}
+use Rattle.whole.specs.Count.{◌∈◌, some}
+use Rattle.whole.proofs.Solver.{var, con, ◌:+◌, ◌:-◌, ◌:*◌, solve}
 use Rattle.whole.proofs.Sign.{Pos, NonNeg, pos_nonneg, pos_add_nonneg, nonneg_mul, nonneg_le_z, pos_lt_z, pos_lt_z0}
 use Rattle.whole.proofs.Logic.{and_make, true_is, is_true, some_make}
 use Rattle.whole.proofs.Parity.{◌⊻◌, parity}
 use Rattle.plane.specs.declared.Point.{Point}
 use Rattle.plane.specs.declared.Segment.{Segment}
-use Rattle.plane.specs.Plane.{HPoint, grid, midpoint, side_at, is_same_segment, counts_below, inside}
+use Rattle.plane.specs.Plane.{HPoint, midpoint, side_at, counts_below, inside}
 use Rattle.plane.proofs.OnSegment.{Ordered, Away, on_or_away}
-use Rattle.plane.proofs.Path.{Even}
 use Rattle.plane.proofs.Topmost.{topmost}
-use Rattle.plane.proofs.Accepted.{Split, Regular}
+use Rattle.plane.proofs.Accepted.{Regular}
 use Rattle.flags.specs.Flags.{Edge, outline}
 use Rattle.cells_matrix.proofs.Common.{away_none, inside_parity, inside_count}
 use Rattle.cells_matrix.proofs.Beside.{Within, region_inner}

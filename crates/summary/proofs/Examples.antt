@@ -5,7 +5,7 @@ use Rattle.plane.specs.declared.Point.{Point}
 use Rattle.plane.specs.declared.Segment.{Segment}
 use Rattle.plane.specs.Plane.{within, is_at, is_end, is_boundary, ends_at}
 use Rattle.scene.specs.Read as Read
-use Rattle.flags.specs.Flags.{Edge, Elements}
+use Rattle.flags.specs.Flags.{Elements}
 use Rattle.scene_written.specs.Bytes.{digit}
 use Rattle.summary.specs.declared.Answer.{Answer}
 use Rattle.summary.specs.declared.Answer.TheVariants.{Told, Look}

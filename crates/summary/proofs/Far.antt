@@ -2,20 +2,18 @@
 use mathlib.Core.Path.{◌≡◌, refl, sym, ap, ap₂, ◌∙◌, subst}
 use mathlib.Core.Bool.{Bool, true, false, not, ◌&&◌, ◌||◌, and-false, and-true}
 use mathlib.Core.List.{List, [], ◌∷◌}
-use lib.Dec.{T}
 use Rattle.whole.specs.Count.{◌∈◌, here, there, some}
-use Rattle.whole.proofs.Logic.{refute, some_find}
+use Rattle.whole.proofs.Logic.{refute}
 use Rattle.plane.specs.declared.Point.{Point}
 use Rattle.plane.specs.declared.Segment.{Segment}
-use Rattle.plane.specs.Plane.{grid, midpoint, is_same_segment, is_on_some, inside}
+use Rattle.plane.specs.Plane.{grid, midpoint, is_same_segment, inside}
 use Rattle.plane.proofs.OnSegment.{Ordered}
 use Rattle.plane.proofs.Equal.{same_segment_read}
-use Rattle.plane.proofs.Accepted.{Split, Regular}
 use Rattle.flags.specs.Flags.{Edge, Elements, outline, has_point, has_segment, on_object, has_end, is_bound, joins, has_some_end, mid_inside, mid_outside, flags_of_f, flags_of_g}
 use Rattle.cells_matrix.proofs.RegionRegion.{Sound, edge_in}
 use Rattle.cells_matrix.proofs.Theorem.{Good}
 use Rattle.summary.specs.Summary.{ends, corners, none, is_empty, shape_of, has_boundary, flags_f, flags_g}
-use Rattle.summary.proofs.Clear.{Clear, clear_swap, behind_beyond, no_point, left_in, right_in, not_on, not_bound, not_has_end, no_join, no_segment_lem, middle_not_on, not_inside, middle_not_inside}
+use Rattle.summary.proofs.Clear.{Clear, behind_beyond, no_point, left_in, right_in, not_on, not_bound, not_has_end, no_join, no_segment_lem, middle_not_on, not_inside, middle_not_inside}
 use Rattle.summary.proofs.Edges.{some_above, some_below}
 
 -- ---- "some" over a list, by what holds of its members

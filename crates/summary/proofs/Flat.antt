@@ -5,24 +5,23 @@ use mathlib.Core.Logic.{◌⊎◌, inl, inr, ⊎_elim}
 use mathlib.Core.Bool.{Bool, true, false, not, ◌&&◌, ◌||◌}
 use mathlib.Core.List.{List, [], ◌∷◌}
 use lib.Dec.{T, T_not, not_T}
-use lib.IntN.{ℤ, pos, neg_ℤ, ◌+ℤ◌, ◌-ℤ◌, ◌*ℤ◌}
-use Rattle.whole.specs.Count.{◌∈◌, here, there, some, count, bit, odd}
-use Rattle.whole.proofs.Solver.{Exp, var, con, opp, ◌:+◌, ◌:-◌, ◌:*◌, solve}
+use lib.IntN.{pos}
+use Rattle.whole.specs.Count.{◌∈◌, here, there, count, bit, odd}
 use Rattle.whole.proofs.Sign.{one_pos}
 use Rattle.whole.proofs.Logic.{in_nil, in_cons, and_left, and_right, and_make, decide, true_is, is_true, refute, same_test, some_find, Sorted, sorted_nil, sorted_cons}
 use Rattle.whole.proofs.Counted.{count_none, count_same}
 use Rattle.plane.specs.declared.Point.{Point}
 use Rattle.plane.specs.declared.Segment.{Segment}
-use Rattle.plane.specs.Plane.{grid, before, side, turn, turn_of, is_same_point, is_same_segment, ordered, on, is_end, is_boundary, ends_at}
+use Rattle.plane.specs.Plane.{grid, before, side, turn, turn_of, is_same_point, is_same_segment, ordered, is_end, is_boundary, ends_at}
 use Rattle.plane.proofs.OnSegment.{Ordered, Along, on_along}
-use Rattle.plane.proofs.Means.{EndOf, end_make, end_read}
+use Rattle.plane.proofs.Means.{end_make, end_read}
 use Rattle.plane.proofs.Equal.{same_point_read, same_point_refl, same_segment_read, same_segment_refl, segment_eq}
 use Rattle.plane.proofs.Order.{ordered_make, ends_differ, before_irreflexive, before_trans, comes_irreflexive, half_of, LeftBefore}
 use Rattle.plane.proofs.AlongSegment.{Apart}
 use Rattle.plane.proofs.Grid.{on_grid, end_grid}
 use Rattle.plane.proofs.Machine.{is_straight}
 use Rattle.plane.proofs.Accepted.{Split, Regular}
-use Rattle.flags.specs.Flags.{is_bound, has_some_end, joins}
+use Rattle.flags.specs.Flags.{is_bound, has_some_end}
 use Rattle.cells_matrix.proofs.Common.{end_along, end_give, another_end}
 use Rattle.summary.specs.Summary.{ends}
 use Rattle.summary.proofs.Clear.{left_in, right_in}

@@ -1,20 +1,19 @@
 -- Where all ends of a list's segments lie on one side of an upright or level line, every point on them does, and so does every point inside the region
 -- that they bound: left, right and under it nothing counts below, and over it the column's parity is even, as its ends are.
 use mathlib.Core.Path.{◌≡◌, refl, sym, ap, ap₂, ◌∙◌, subst}
-use mathlib.Core.Logic.{◌⊎◌, inl, inr, ⊎_elim}
-use mathlib.Core.Bool.{Bool, true, false, not, ◌&&◌, ◌||◌}
+use mathlib.Core.Bool.{Bool, true, false, not, ◌&&◌}
 use mathlib.Core.List.{List, [], ◌∷◌}
-use lib.Dec.{T, T_not}
+use lib.Dec.{T}
 use lib.IntN.{ℤ, pos, neg_ℤ, ◌+ℤ◌, ◌-ℤ◌, ◌*ℤ◌}
 use lib.Signed.{lt_z, le_z}
-use Rattle.whole.specs.Count.{◌∈◌, here, there}
-use Rattle.whole.proofs.Solver.{Exp, var, con, opp, ◌:+◌, ◌:-◌, ◌:*◌, solve}
-use Rattle.whole.proofs.Sign.{Pos, NonNeg, Neg, pos_nonneg, neg_of_pos, nonneg_clash, zero_pos, pos_add, pos_add_nonneg, nonneg_add_pos, nonneg_add, pos_mul, nonneg_mul, cancel_pos, cancel_nonneg, lt_z_pos, le_z_nonneg, nonneg_le_z, lt_z_le_z, lt_z0_pos, pos_lt_z0}
+use Rattle.whole.specs.Count.{◌∈◌}
+use Rattle.whole.proofs.Solver.{var, con, opp, ◌:+◌, ◌:-◌, ◌:*◌, solve}
+use Rattle.whole.proofs.Sign.{Pos, NonNeg, pos_nonneg, neg_of_pos, nonneg_clash, zero_pos, pos_add, pos_add_nonneg, nonneg_add_pos, nonneg_add, pos_mul, nonneg_mul, cancel_pos, lt_z_pos, le_z_nonneg, nonneg_le_z, lt_z_le_z, lt_z0_pos, pos_lt_z0}
 use Rattle.whole.proofs.Logic.{and_left, and_right, and_follows, refute}
 use Rattle.whole.proofs.Parity.{◌⊻◌, parity, parity_same, parity_none}
 use Rattle.plane.specs.declared.Point.{Point}
 use Rattle.plane.specs.declared.Segment.{Segment}
-use Rattle.plane.specs.Plane.{HPoint, grid, midpoint, side_at, counts_below, is_on_some, inside}
+use Rattle.plane.specs.Plane.{HPoint, grid, side_at, counts_below, is_on_some, inside}
 use Rattle.plane.proofs.Homogeneous.{values₁, side_atᵉ, first}
 use Rattle.plane.proofs.OnSegment.{Ordered, Between, Along, width}
 use Rattle.plane.proofs.Path.{Even, even_ends}

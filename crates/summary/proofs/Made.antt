@@ -1,14 +1,13 @@
 -- Every summary made from an accepted object is good.
-use Prim.Native.Nat.{ℕ}
-use mathlib.Core.Path.{◌≡◌, refl, sym, ap, ap₂, ◌∙◌, subst}
-use mathlib.Core.Logic.{◌⊎◌, inl, inr, ⊎_elim}
-use mathlib.Core.Bool.{Bool, true, false, not, ◌&&◌, ◌||◌}
+use mathlib.Core.Path.{◌≡◌, sym, ap, ap₂, ◌∙◌, subst}
+use mathlib.Core.Logic.{◌⊎◌, ⊎_elim}
+use mathlib.Core.Bool.{Bool, true, not, ◌&&◌, ◌||◌}
 use mathlib.Core.List.{List, [], ◌∷◌}
-use lib.Dec.{T, T_not, not_T, leb}
-use lib.IntN.{ℤ, pos, nat_abs, neg_ℤ, ◌+ℤ◌, ◌-ℤ◌, ◌*ℤ◌}
+use lib.Dec.{T, not_T, leb}
+use lib.IntN.{ℤ, pos, nat_abs, ◌-ℤ◌, ◌*ℤ◌}
 use lib.Signed.{le_z}
 use Rattle.whole.specs.Count.{eq_z, ◌∈◌, here, there}
-use Rattle.whole.proofs.Solver.{Exp, var, con, opp, ◌:+◌, ◌:-◌, ◌:*◌, solve}
+use Rattle.whole.proofs.Solver.{var, con, opp, ◌:-◌, ◌:*◌, solve}
 use Rattle.whole.proofs.Sign.{NonNeg, nonneg_both, nonneg_le_z, sub_zero_eq}
 use Rattle.whole.proofs.Balance.{eq_z_read}
 use Rattle.whole.proofs.Logic.{and_left, and_right, and_make, or_cases, or_left, or_right, decide, is_true, Sorted}
@@ -17,13 +16,11 @@ use Rattle.plane.specs.declared.Segment.{Segment}
 use Rattle.plane.specs.Plane.{limit, within, in_range, before, side}
 use Rattle.plane.proofs.Equal.{point_eq}
 use Rattle.plane.proofs.Order.{ends_differ, LeftBefore}
-use Rattle.plane.proofs.Accepted.{Split, Regular}
-use Rattle.flags.specs.Flags.{Edge, Elements, outline, is_bound, has_some_end}
-use Rattle.cells_matrix.proofs.RegionRegion.{Sound}
+use Rattle.plane.proofs.Accepted.{Split}
+use Rattle.flags.specs.Flags.{Elements, outline}
 use Rattle.cells_matrix.proofs.Theorem.{Good}
 use Rattle.summary.specs.declared.Bounds.{Bounds}
-use Rattle.summary.specs.Summary.{ends, corners, lesser, greater, widen, grow, box_of, is_empty, has_boundary, summary_of, shape_of, is_flat, is_point, good_box, good_for, is_good}
-use Rattle.summary.proofs.Clear.{left_in, right_in}
+use Rattle.summary.specs.Summary.{ends, corners, lesser, greater, widen, grow, box_of, has_boundary, summary_of, is_flat, is_point, good_box, is_good}
 use Rattle.summary.proofs.Boxes.{trans, lesser_is, greater_is, Covers, covered}
 use Rattle.summary.proofs.Flat.{OnLine, sorted_one, flat_line, flat_region}
 

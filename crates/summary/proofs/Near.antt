@@ -1,21 +1,21 @@
 -- "look" in words: of two good summaries neither is empty and their boxes share a point, exactly where they are not far.
 use Prim.Native.Nat.{ℕ}
 use native.Mathlib.Omega.{arith}
-use mathlib.Core.Path.{◌≡◌, refl, sym, ap, ap₂, subst, ◌∙◌}
-use mathlib.Core.Logic.{◌↔◌, ◌⊎◌, inl, inr, ⊎_elim}
-use mathlib.Core.Bool.{Bool, true, false, not, ◌&&◌, ◌||◌, cond}
+use mathlib.Core.Path.{◌≡◌, refl, sym, ap₂, subst, ◌∙◌}
+use mathlib.Core.Logic.{◌↔◌, ⊎_elim}
+use mathlib.Core.Bool.{Bool, true, false, ◌&&◌, ◌||◌, cond}
 use lib.Dec.{T}
 use lib.IntN.{ℤ}
 use lib.Signed.{lt_z, le_z}
 use borrow.Author.Tests.{not-false}
-use Rattle.whole.proofs.Logic.{and_left, and_right, is_true, true_is, refute}
-use Rattle.whole.proofs.Balance.{P, N, lt_z_read, le_z_read}
+use Rattle.whole.proofs.Logic.{and_left, and_right, is_true, refute}
+use Rattle.whole.proofs.Balance.{lt_z_read, le_z_read}
 use Rattle.whole.proofs.Sign.{lt_z_le_z, nonneg_le_z}
 use Rattle.plane.specs.Plane.{in_range}
 use Rattle.summary.specs.declared.Bounds.{Bounds}
 use Rattle.summary.specs.declared.Summary.{Summary}
 use Rattle.summary.specs.declared.Answer.TheVariants.{Told, Look}
-use Rattle.summary.specs.Summary.{greater, good_box, good_for, is_good, beside, are_far, Within, Near, far_vectors, told_of}
+use Rattle.summary.specs.Summary.{greater, good_box, good_for, is_good, beside, Near, far_vectors, told_of}
 use Rattle.summary.proofs.Boxes.{greater_is, greater_greatest}
 
 -- ---- along one axis

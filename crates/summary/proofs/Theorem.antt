@@ -1,21 +1,19 @@
 -- Paper 2's claims over the elements of two objects: what two summaries tell is the full answer.
-use Prim.Native.Nat.{ℕ}
 use mathlib.Core.Path.{◌≡◌, refl, sym, ap, ap₂, ◌∙◌, subst}
-use mathlib.Core.Logic.{◌⊎◌, inl, inr, ⊎_elim}
+use mathlib.Core.Logic.{⊎_elim}
 use mathlib.Core.Bool.{Bool, true, false, ◌||◌, cond, or_comm}
 use mathlib.Core.List.{List, [], ◌∷◌}
-use lib.Dec.{T, leb}
+use lib.Dec.{T}
 use Rattle.whole.proofs.Sign.{Pos}
 use Rattle.plane.specs.Plane.{HPoint}
 use Rattle.plane.proofs.OnSegment.{Along}
 use lib.Signed.{lt_z}
-use Rattle.scene.specs.Read.{shape_number, descends}
-use Rattle.whole.specs.Count.{◌∈◌, here, there}
-use Rattle.whole.proofs.Logic.{in_nil, or_cases, true_is}
+use Rattle.scene.specs.Read.{descends}
+use Rattle.whole.specs.Count.{◌∈◌}
+use Rattle.whole.proofs.Logic.{in_nil, or_cases}
 use Rattle.plane.specs.declared.Point.{Point}
 use Rattle.plane.specs.declared.Segment.{Segment}
-use Rattle.flags.specs.Flags.{Edge, Elements, outline, segments_of, flags_of_f, flags_of_g, pack}
-use Rattle.flags_vectors.specs.declared.Vectors.{Vectors}
+use Rattle.flags.specs.Flags.{Elements, segments_of, flags_of_f, flags_of_g, pack}
 use Rattle.cells_matrix.proofs.Theorem as M
 use Rattle.cells_matrix.proofs.Theorem.{Good}
 use Rattle.cells.proofs.AskedTwice.{flags_in_order, given_flags}
@@ -23,7 +21,7 @@ use Rattle.summary.specs.declared.Summary.{Summary}
 use Rattle.summary.specs.Summary.{corners, shape_of, is_empty, summary_of, are_far, beside, box_of, ascending_vectors, swapped, far_vectors}
 use Rattle.summary.proofs.Clear.{Clear, clear_swap, clear_none, left_in, right_in, share_nothing}
 use Rattle.summary.proofs.Boxes.{clear_boxes}
-use Rattle.summary.proofs.Far.{far_F, far_G, flags_F, flags_G}
+use Rattle.summary.proofs.Far.{flags_F, flags_G}
 
 -- an empty object has no corner
 empty_corners : (F : Elements) → T (is_empty F) → corners F ≡ []

@@ -1,5 +1,5 @@
 -- A hit in points: the tests of a good summary's box against a window say that some point lies in both, each float standing for its exact value.
-use Prim.Native.Nat.{ℕ, ◌+◌, ◌*◌, ◌≤◌}
+use Prim.Native.Nat.{ℕ, ◌+◌, ◌≤◌}
 use native.Mathlib.Omega.{arith}
 use mathlib.Core.Path.{◌≡◌, sym, ap₂, subst, ◌∙◌}
 use mathlib.Core.Logic.{◌↔◌}
@@ -7,7 +7,7 @@ use mathlib.Core.Bool.{Bool, false, not, ◌&&◌}
 use mathlib.Core.List.{List}
 use lib.Dec.{T, leb, leb→le, le→leb}
 use lib.ListN.{length}
-use lib.IntN.{ℤ, pos, nat_abs, ◌*ℤ◌, *ℤ_comm}
+use lib.IntN.{ℤ, pos, nat_abs, *ℤ_comm}
 use lib.Signed.{le_z}
 use lib.Ieee.{Float, binary32, le}
 use lib.Ieee.Scale.{finite}

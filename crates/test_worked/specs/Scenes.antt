@@ -1,7 +1,7 @@
 -- Document 01's section "The twelve scenes": scenes a to l as bytes, with the line that each gives, its cells in the four signs of document 02's Paper 8, and the
 -- one statement that the definitions give them. The checker computes it, from the bytes to the whole line.
 use Rattle.std.specs.Prelude.{ℕ, ◌/◌, ◌%◌, ◌≡◌, refl, List, [], ◌∷◌, ◌++◌, map}
-use Prim.Native.Char.{Char, code}
+use Prim.Native.Char.{code}
 use Prim.Native.String.{String}
 use Rattle.whole.specs.Count.{odd}
 use Rattle.plane.specs.Plane.{within, before, is_same_point, is_same_segment, ordered, side, dominating, far_end, comes_before, side_at, is_at, is_not_before, is_not_after, on, is_end, counts_below, counts_below_left, is_on_some, inside, interior_above, is_boundary, ends_at, opposite, cross, end_within, touch}

@@ -1,5 +1,5 @@
 -- `summary_record::writing::digit_y` meets its contract.
-use mathlib.Core.Path.{◌≡◌, ap, ◌∙◌}
+use mathlib.Core.Path.{ap, ◌∙◌}
 use Prim.Native.Nat.{◌/◌, ◌%◌}
 use mir.Facts.{to_z-of_z}
 use borrow.Author.Rules.{rules}
