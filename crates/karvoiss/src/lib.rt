@@ -80,7 +80,7 @@ fn signs(m: [[Dimension; 3]; 3]) -> [[u8; 3]; 3]
     [row_signs(m[0]), row_signs(m[1]), row_signs(m[2])]
 }
 
-// The answer as C gets it. The literal is proved by hand, so it stands in a function of its own.
+// The answer as C gets it.
 fn handed(number: u32, place: usize, cell: [[u8; 3]; 3]) -> KarvoissCells
     ensures { result ≡ record { number = number; place = place; cell = cell } }
 {
