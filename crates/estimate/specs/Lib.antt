@@ -1,2 +1,2 @@
--- The estimate of a side value, and examples of it.
+-- The estimate of a side value.
 pub mod Estimate

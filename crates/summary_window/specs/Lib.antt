@@ -1,2 +1,2 @@
--- The window over summaries, and examples of it.
+-- The window over summaries.
 pub mod Window
