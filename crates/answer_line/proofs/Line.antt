@@ -1,4 +1,7 @@
 -- Laws of the line: which of the two it is, how long it is, and that no line of a program's numbers is longer than 33 bytes.
+use Rattle.std.specs.Prelude.{Err, Ok}
+use Rattle.scene.specs.Read.{CheckedScene}
+use Rattle.cells.specs.Explored.{CellsAnswer}
 use Prim.Native.Nat.{ℕ, ◌+◌, ◌^◌, ◌≤◌, ◌<◌}
 use mathlib.Core.Path.{◌≡◌, ap}
 use mathlib.Core.List.{List}
@@ -7,12 +10,10 @@ use lib.ListN.{length, length-append}
 use borrow.Author.Tests.{ne_eqb}
 use Rattle.plane_dimensions.specs.declared.Dimension.{Dimension}
 use Rattle.scene.specs.declared.Refusal.{Refusal}
-use Rattle.scene.specs.declared.CheckedScene.{CheckedScene}
 use Rattle.scene.specs.Read.{shape_number}
 use Rattle.scene.specs.Conditions.{check_scene}
 use Rattle.check_verdict.proofs.Numbers as N
 use Rattle.cells.specs.declared.Explored.{Explored}
-use Rattle.cells.specs.declared.CellsAnswer.{CellsAnswer}
 use Rattle.cells.specs.Explored.{matrix_from, answered, cells_answer_of, cells_values}
 use Rattle.answer_line.specs.Line.{decimal, cell_bytes, ok_line, no_line, line_of, line_of_scene, Numbered}
 use Rattle.answer_line.proofs.Decimal.{decimal_length}
@@ -20,11 +21,11 @@ use Rattle.answer_line.proofs.Decimal.{decimal_length}
 -- ---- which
 
 pub taken_line : (e : Explored) {f g : ℕ} {m : List (List Dimension)} → f ≡ shape_number e.f → g ≡ shape_number e.g → m ≡ matrix_from e
-    → ok_line f g e.v e.w m ≡ line_of (cells_values (CellsAnswer.Taken e))
+    → ok_line f g e.v e.w m ≡ line_of (cells_values (Ok e))
 unfolding line_of
 taken_line e f g m = λ i. ok_line (f i) (g i) e.v e.w (m i)
 
-pub refused_line : (r : Refusal) → 0 < r.number → no_line r.number r.place ≡ line_of (cells_values (CellsAnswer.Refused r))
+pub refused_line : (r : Refusal) → 0 < r.number → no_line r.number r.place ≡ line_of (cells_values (Err r))
 unfolding line_of
 refused_line r h = rw (ne_eqb r.number 0 (λ e. omega arith))
 
@@ -37,8 +38,8 @@ unfolding cells_answer_of
 numbered s = go (check_scene s) (N.numbered s)
   where
     go : (k : CheckedScene) → N.Numbered k → Numbered (answered s k)
-    go (CheckedScene.Taken sc) h = tt
-    go (CheckedScene.Refused r) h = h
+    go (Ok sc) h = tt
+    go (Err r) h = h
 
 -- ---- how long
 

@@ -1,9 +1,10 @@
 -- The one line that answers a scene, document 01's section "The twelve scenes", as the list of its bytes in ASCII; and what it is to write bytes
 -- into a lent buffer.
+use Rattle.std.specs.Prelude.{Err, Ok}
+use Rattle.cells.specs.Explored.{CellsAnswer}
 use Rattle.std.specs.Prelude.{ℕ, zero, suc, ◌+◌, ◌-◌, ◌*◌, ◌/◌, ◌%◌, ◌≤◌, ◌<◌, ◌≡◌, true, false, cond, List, [], ◌∷◌, ◌++◌, map, eqb, ltb, length, get_or, take, drop}
 use Rattle.plane_dimensions.specs.declared.Dimension.{Dimension}
 use Rattle.plane_dimensions.specs.Dimensions.{sign}
-use Rattle.cells.specs.declared.CellsAnswer.{CellsAnswer}
 use Rattle.cells.specs.Explored.{CellsValues, cells_values, cells_answer_of}
 
 -- ---- a number in decimal
@@ -84,8 +85,8 @@ OnlyFirstBytes = (s : List ℕ) → line_of_scene s ≡ line_of_scene (take 3891
 
 -- no refusal has the number of a scene that is taken
 abbrev pub Numbered : CellsAnswer → Type 0
-Numbered (CellsAnswer.Taken e) = Unit {0}
-Numbered (CellsAnswer.Refused r) = 0 < r.number
+Numbered (Ok e) = Unit {0}
+Numbered (Err r) = 0 < r.number
 
 -- ---- writing into a lent buffer
 

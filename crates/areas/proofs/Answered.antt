@@ -1,4 +1,5 @@
 -- What is answered of two regions that are taken: they stand in the caller's order, and two parts make up each of them.
+use Rattle.std.specs.Prelude.{Ok}
 use Prim.Native.Nat.{ℕ}
 use mathlib.Core.Path.{◌≡◌, refl, sym, ap, ap₂, subst, ◌∙◌}
 use mathlib.Core.Bool.{Bool, false, cond}
@@ -9,7 +10,6 @@ use Rattle.scene.specs.declared.Shape.{Shape}
 use Rattle.scene.specs.declared.Shape.TheVariants.{Points, Line, Region}
 use Rattle.scene.specs.declared.Layout.{Layout}
 use Rattle.scene.specs.declared.Scene.{Scene}
-use Rattle.scene.specs.declared.CheckedScene.{CheckedScene}
 use Rattle.scene.specs.Read.{descends, turned, given_first, given_second, IsScene}
 use Rattle.scene.specs.Conditions.{is_region}
 use Rattle.scene.proofs.Taken.{taken_scene, given_of_both}
@@ -31,7 +31,7 @@ alike Region Points h k = absurd k
 alike Region Line h k = absurd k
 alike Region Region h k = refl
 
-module _ (s : List ℕ) (sc : Scene) (taken : check_regions s ≡ CheckedScene.Taken sc) where
+module _ (s : List ℕ) (sc : Scene) (taken : check_regions s ≡ Ok sc) where
   pub good : TwoRegions s sc
   good = two_regions s sc taken
 
@@ -63,5 +63,5 @@ pub parts_make_whole : (s : List ℕ) {r : Areas} → r ≡ areas_of s → Parts
 parts_make_whole s {r} e sc taken =
     (ap (λ (a : Areas). a.both +ℤ a.f_only) is ∙ whole_f s sc taken, ap (λ (a : Areas). a.both +ℤ a.g_only) is ∙ whole_g s sc taken)
   where
-    is : r ≡ answer s (CheckedScene.Taken sc)
+    is : r ≡ answer s (Ok sc)
     is = e ∙ ap (answer s) taken

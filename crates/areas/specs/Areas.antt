@@ -1,10 +1,11 @@
 -- The areas question, for every byte string: "For two accepted regions give three whole numbers: twice the area in both, in F only, in G only. .. It refuses
 -- with 16 when a type is not 3, after 15." F is the region that the bytes have first.
+use Rattle.std.specs.Prelude.{Err, Ok}
+use Rattle.scene.specs.Read.{CheckedScene}
 use Rattle.std.specs.Prelude.{ℕ, ◌≤◌, ◌^◌, ◌≡◌, List, ℤ, pos, nat_abs, ◌+ℤ◌}
 use Rattle.plane.specs.declared.Segment.{Segment}
 use Rattle.scene.specs.declared.Layout.{Layout}
 use Rattle.scene.specs.declared.Scene.{Scene}
-use Rattle.scene.specs.declared.CheckedScene.{CheckedScene}
 use Rattle.scene.specs.Read.{given_first, given_second}
 use Rattle.flags.specs.Elements.{edges}
 use Rattle.overlap.specs.declared.adjoining.Sides.{Sides}
@@ -20,8 +21,8 @@ area_in s f g p = part_area (edges s f) (edges s g) p
 
 -- number and values of every answer: zeros beside a refusal
 abbrev pub answer : List ℕ → CheckedScene → Areas
-answer s (CheckedScene.Refused r) = record { number = r.number; place = r.place; both = pos 0; f_only = pos 0; g_only = pos 0 }
-answer s (CheckedScene.Taken sc) =
+answer s (Err r) = record { number = r.number; place = r.place; both = pos 0; f_only = pos 0; g_only = pos 0 }
+answer s (Ok sc) =
     let area = area_in s (given_first sc) (given_second sc) in
     record { number = 0; place = 0; both = area in_both; f_only = area in_f_only; g_only = area in_g_only }
 
@@ -31,7 +32,7 @@ areas_of s = answer s (check_regions s)
 -- "The first and second sum to F's shoelace area doubled, taken from F by itself; the first and third likewise to G's."
 abbrev pub PartsMakeWhole : List ℕ → ℤ → ℤ → ℤ → Type 0
 PartsMakeWhole s both fOnly gOnly =
-    (sc : Scene) → check_regions s ≡ CheckedScene.Taken sc
+    (sc : Scene) → check_regions s ≡ Ok sc
     → (both +ℤ fOnly ≡ own_area (edges s (given_first sc))) × (both +ℤ gOnly ≡ own_area (edges s (given_second sc)))
 
 -- ---- the sums on the way

@@ -1,4 +1,6 @@
 -- Asked twice: the answers to two objects' bytes, a then b and b then a, agree.
+use Rattle.std.specs.Prelude.{Err, Ok}
+use Rattle.scene.specs.Read.{CheckedScene}
 use Prim.Native.Nat.{ℕ}
 use mathlib.Core.Path.{◌≡◌, refl, sym, ap, ap₂, subst₂, ◌∙◌}
 use mathlib.Core.Bool.{Bool, true, false, cond}
@@ -9,8 +11,6 @@ use Rattle.plane_dimensions.specs.Dimensions.{Value}
 use Rattle.plane_dimensions.proofs.Values.{only_one}
 use Rattle.scene.specs.declared.Layout.{Layout}
 use Rattle.scene.specs.declared.Scene.{Scene}
-use Rattle.scene.specs.declared.CheckedObject.{CheckedObject}
-use Rattle.scene.specs.declared.CheckedScene.{CheckedScene}
 use Rattle.scene.specs.Read.{shape_number, descends, turned, given_first, given_second, read_alone, IsScene}
 use Rattle.scene.specs.Conditions.{object, check_scene}
 use Rattle.scene.proofs.Taken.{Arranged, taken_alone, taken_scene}
@@ -121,17 +121,17 @@ unfolding cells_answer_of
 number_is s = go (check_scene s)
   where
     go : (k : CheckedScene) → (cells_values (answered s k)).number ≡ checked_number k
-    go (CheckedScene.Taken sc) = refl
-    go (CheckedScene.Refused r) = refl
+    go (Ok sc) = refl
+    go (Err r) = refl
 
-module _ (s : List ℕ) (sc : Scene) (e : check_scene s ≡ CheckedScene.Taken sc) where
-  taken_is : answer_to s ≡ cells_values (answered s (CheckedScene.Taken sc))
+module _ (s : List ℕ) (sc : Scene) (e : check_scene s ≡ Ok sc) where
+  taken_is : answer_to s ≡ cells_values (answered s (Ok sc))
   unfolding cells_answer_of
   taken_is = ap (λ (k : CheckedScene). cells_values (answered s k)) e
 
 -- ---- two objects' bytes, one after the other
 
-module _ (a b : List ℕ) (l m : Layout) (first : read_alone a ≡ CheckedObject.Taken l) (second : read_alone b ≡ CheckedObject.Taken m) where
+module _ (a b : List ℕ) (l m : Layout) (first : read_alone a ≡ Ok l) (second : read_alone b ≡ Ok m) where
   abbrev scene : Scene
   scene = beside a b l m
 
@@ -155,7 +155,7 @@ module _ (a b : List ℕ) (l m : Layout) (first : read_alone a ≡ CheckedObject
 
   -- taken: types, vectors and cells, by the two objects alone
   module _ (none : (answer_to (a ++ b)).number ≡ 0) where
-    taken : check_scene (a ++ b) ≡ CheckedScene.Taken scene
+    taken : check_scene (a ++ b) ≡ Ok scene
     taken = zero_taken (a ++ b) scene is_scene (sym (number_is (a ++ b)) ∙ none)
 
     types_are : ((answer_to (a ++ b)).f ≡ shape_number l.shape) × ((answer_to (a ++ b)).g ≡ shape_number m.shape)

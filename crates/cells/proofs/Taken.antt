@@ -1,4 +1,6 @@
 -- Demand 3 over bytes, with the four values of a cell: what a taken scene gives the theorem, and the theorem's statement for every byte string.
+use Rattle.scene.specs.Read.{CheckedScene}
+use Rattle.cells.specs.Explored.{CellsAnswer}
 use Prim.Native.Nat.{ℕ, zero, suc, ◌<◌}
 use native.Mathlib.Omega.{arith}
 use mathlib.Core.Path.{◌≡◌, refl, sym, ap, ◌∙◌, subst, subst₂}
@@ -18,7 +20,6 @@ use Rattle.scene.specs.declared.Shape.{Shape}
 use Rattle.scene.specs.declared.Shape.TheVariants.{Points, Line, Region}
 use Rattle.scene.specs.declared.Layout.{Layout}
 use Rattle.scene.specs.declared.Scene.{Scene}
-use Rattle.scene.specs.declared.CheckedScene.{CheckedScene}
 use Rattle.scene.specs.Read.{shape_number, descends, turned, given_first, given_second}
 use Rattle.scene.specs.Conditions as C
 use Rattle.scene.specs.Conditions.{half, left_test, has_segments, segments, elements, keep, check_scene}
@@ -36,7 +37,6 @@ use Rattle.flags_masks.specs.Wanted.{masks_for}
 use Rattle.flags.proofs.Elements.{outline_edges}
 use Rattle.flags_masks.proofs.Masks.{every_flag_f, every_flag_g}
 use Rattle.cells.specs.declared.Explored.{Explored}
-use Rattle.cells.specs.declared.CellsAnswer.{CellsAnswer}
 use Rattle.cells_matrix.specs.Matrix.{Part, lies, InBoth, matrix_of, cell_at, transposed}
 use Rattle.cells.specs.Explored as E
 use Rattle.cells.specs.Explored.{explored_by, explored_in, matrix_from, answered, cells_answer_of, cells_values, InCell, NoDimensionWrong, NoCellWrong}

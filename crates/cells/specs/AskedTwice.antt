@@ -1,10 +1,10 @@
 -- Asked twice: the lab puts every pair of shapes to the engine in both orders. Of any two byte strings that are each one object's bytes, what a then b is
 -- answered and what b then a is answered agree: one statement for number, types, vectors and cells (proofs/AskedTwice.antt).
+use Rattle.std.specs.Prelude.{Ok}
 use Rattle.std.specs.Prelude.{ℕ, ◌≡◌, Bool, List, [], ◌∷◌, ◌++◌}
 use Rattle.scene.specs.declared.Shape.{Shape}
 use Rattle.scene.specs.declared.Shape.TheVariants.{Points, Line, Region}
 use Rattle.scene.specs.declared.Layout.{Layout}
-use Rattle.scene.specs.declared.CheckedObject.{CheckedObject}
 use Rattle.scene.specs.Read.{read_alone}
 use Rattle.flags.specs.Flags.{pack, has_bit}
 use Rattle.flags_vectors.specs.declared.Vectors.{Vectors}
@@ -58,5 +58,5 @@ pub record Agree (t u : Shape) (ab ba : CellsValues) : Type 0 where
 
 abbrev pub AskedTwice : Type 0
 AskedTwice =
-    (a b : List ℕ) (l m : Layout) → read_alone a ≡ CheckedObject.Taken l → read_alone b ≡ CheckedObject.Taken m
+    (a b : List ℕ) (l m : Layout) → read_alone a ≡ Ok l → read_alone b ≡ Ok m
     → Agree l.shape m.shape (answer_to (a ++ b)) (answer_to (b ++ a))

@@ -1,18 +1,18 @@
 -- The cells question over a scene's bytes: what is answered, for every byte string, and what the answer means for a scene that is taken.
+use Rattle.std.specs.Prelude.{Err, Ok}
+use Rattle.scene.specs.Read.{CheckedScene}
 use Rattle.std.specs.Prelude.{ℕ, ◌≡◌, ◌↔◌, Bool, List, T, eqb}
 use Rattle.plane.specs.Plane.{FractionPoint}
 use Rattle.plane_dimensions.specs.declared.Dimension.{Dimension}
 use Rattle.plane_dimensions.specs.Dimensions.{Value, not_empty}
 use Rattle.scene.specs.declared.Layout.{Layout}
 use Rattle.scene.specs.declared.Scene.{Scene}
-use Rattle.scene.specs.declared.CheckedScene.{CheckedScene}
 use Rattle.scene.specs.Read.{shape_number, given_first, given_second}
 use Rattle.scene.specs.Conditions.{object, check_scene}
 use Rattle.flags_masks.specs.declared.Wanted.{Wanted}
 use Rattle.flags_vectors.specs.declared.Vectors.{Vectors}
 use Rattle.flags_vectors.specs.Vectors.{vectors_in}
 use Rattle.cells.specs.declared.Explored.{Explored}
-use Rattle.cells.specs.declared.CellsAnswer.{CellsAnswer}
 use Rattle.cells_matrix.specs.Matrix.{Part, InBoth, Meet, matrix_given, no_cells, cell_at}
 
 -- "an object is empty when it has no elements"
@@ -46,8 +46,8 @@ matrix_from e = matrix_given e.f e.g e.v e.w e.f_empty e.g_empty
 -- ---- the answer
 
 abbrev pub answered : List ℕ → CheckedScene → CellsAnswer
-answered s (CheckedScene.Taken sc) = CellsAnswer.Taken (explored_in s sc)
-answered s (CheckedScene.Refused r) = CellsAnswer.Refused r
+answered s (Ok sc) = Ok (explored_in s sc)
+answered s (Err r) = Err r
 
 unfoldable pub cells_answer_of : List ℕ → CellsAnswer
 cells_answer_of s = answered s (check_scene s)
@@ -64,9 +64,9 @@ pub record CellsValues : Type 0 where
   pub cells : List (List Dimension)
 
 abbrev pub cells_values : CellsAnswer → CellsValues
-cells_values (CellsAnswer.Taken e) =
+cells_values (Ok e) =
     record { number = 0; place = 0; f = shape_number e.f; g = shape_number e.g; v = e.v; w = e.w; cells = matrix_from e }
-cells_values (CellsAnswer.Refused r) = record { number = r.number; place = r.place; f = 0; g = 0; v = 0; w = 0; cells = no_cells }
+cells_values (Err r) = record { number = r.number; place = r.place; f = 0; g = 0; v = 0; w = 0; cells = no_cells }
 
 -- ---- what it means
 
@@ -77,10 +77,10 @@ InCell s sc r c = InBoth r (object s (given_first sc)) c (object s (given_second
 
 -- Demand 3 with the four values of 02's Paper 8, of the bytes: for a scene that is taken, each cell is given as the value that its points have
 abbrev pub NoDimensionWrong : List ℕ → List (List Dimension) → Type 0
-NoDimensionWrong s m = (sc : Scene) → check_scene s ≡ CheckedScene.Taken sc → (r c : Part) → Value (cell_at m r c) (InCell s sc r c)
+NoDimensionWrong s m = (sc : Scene) → check_scene s ≡ Ok sc → (r c : Part) → Value (cell_at m r c) (InCell s sc r c)
 
 -- Demand 3 in yes and no, which follows (`yes_or_no`, proofs/Taken.antt): each cell is not empty if and only if some point with fraction coordinates lies in both parts
 abbrev pub NoCellWrong : List ℕ → List (List Dimension) → Type 0
 NoCellWrong s m =
-    (sc : Scene) → check_scene s ≡ CheckedScene.Taken sc → (r c : Part)
+    (sc : Scene) → check_scene s ≡ Ok sc → (r c : Part)
     → T (not_empty (cell_at m r c)) ↔ Meet r (object s (given_first sc)) c (object s (given_second sc))

@@ -1,9 +1,9 @@
 -- Patterns against the matrix of document 01's scene a, and patterns that are turned away, by computation.
+use Rattle.std.specs.Prelude.{Err, Ok}
+use Rattle.check_verdict.specs.Refusals.{Verdict}
 use Rattle.std.specs.Prelude.{ℕ, ◌≡◌, refl, true, false, List, [], ◌∷◌}
 use Rattle.plane_dimensions.specs.declared.Dimension.{Dimension}
 use Rattle.plane_dimensions.specs.declared.Dimension.TheVariants.{Empty, Points, Length, Area}
-use Rattle.check_verdict.specs.declared.Verdict.{Verdict}
-use Rattle.check_verdict.specs.declared.Verdict.TheVariants.{Sound, Refused}
 use Rattle.cells_matrix.specs.Matrix.{transposed}
 use Rattle.cells_pattern.specs.Pattern.{fits_all}
 use Rattle.cells_pattern.specs.Asked.{pattern_verdict}
@@ -76,9 +76,9 @@ inside = refl
 -- ---- what is turned away
 
 abbrev refused : ℕ → ℕ → Verdict
-refused number place = Refused (record { number = number; place = place })
+refused number place = Err (record { number = number; place = place })
 
-nine : pattern_verdict rows ≡ Sound
+nine : pattern_verdict rows ≡ (Ok tt)
 unfolding pattern_verdict
 nine = refl
 

@@ -1,4 +1,8 @@
 -- The answer: of the flags that a pattern wants it is that of all flags; and it is not wrong in points.
+use Rattle.std.specs.Prelude.{Err, Ok}
+use Rattle.scene.specs.Read.{CheckedScene}
+use Rattle.flags_vectors.specs.Vectors.{SceneAnswer}
+use Rattle.cells_pattern.specs.Related.{RelateAnswer}
 use Prim.Native.Nat.{ℕ}
 use mathlib.Core.Path.{◌≡◌, refl, sym, ap, subst, ◌∙◌, fun_ext}
 use mathlib.Core.Logic.{◌↔◌, ⊎_elim}
@@ -16,22 +20,18 @@ use Rattle.plane_dimensions.specs.Dimensions.{Value, sign, not_empty}
 use Rattle.plane_dimensions.proofs.Values.{some_point, only_one}
 use Rattle.scene.specs.declared.Scene.{Scene}
 use Rattle.scene.specs.declared.Refusal.{Refusal}
-use Rattle.scene.specs.declared.CheckedScene.{CheckedScene}
 use Rattle.scene.specs.Conditions.{indices, check_scene}
-use Rattle.check_verdict.specs.declared.Verdict.TheVariants.{Sound, Refused}
 use Rattle.check_verdict.specs.SharedPoints.{CheckedMeans}
 use Rattle.flags.specs.Flags.{has_bit}
 use Rattle.flags.proofs.Bits.{pack_bit}
 use Rattle.flags_masks.specs.declared.Wanted.{Wanted}
 use Rattle.flags_masks.proofs.Cells.{cells_tidy}
 use Rattle.flags_vectors.specs.declared.Vectors.{Vectors}
-use Rattle.flags_vectors.specs.declared.SceneAnswer.{SceneAnswer}
 use Rattle.flags_vectors.specs.Vectors.{vectors_in, answer_of}
 use Rattle.flags_vectors.proofs.Answered.{accepted, was_refused, was_taken}
 use Rattle.cells_matrix.specs.Matrix.{Part, interior, boundary, exterior, parts, cell_at}
 use Rattle.cells.specs.Explored.{explored_by, explored_in, matrix_from, InCell}
 use Rattle.cells.proofs.Taken.{cells_right}
-use Rattle.cells_pattern.specs.declared.RelateAnswer.{RelateAnswer}
 use Rattle.cells_pattern.specs.Pattern.{must_be, either, is_sign, fits, Demands, position, character_for, fits_all}
 use Rattle.cells_pattern.specs.Asked.{pattern_verdict, asks, named_cells, asked_cells}
 use Rattle.cells_pattern.specs.Related.{check_relate, answered, relate_of, relate_values, NoPatternWrong}
@@ -84,7 +84,7 @@ named p exterior exterior = refl
 asked_bit : (p : List ℕ) (r c : Part) → has_bit (named_cells p) (position r c) ≡ asks (character_for p r c)
 asked_bit p r c = pack_bit (map (λ i. asks (get_or p i 0)) (indices 9 0)) (position r c) ∙ named p r c
 
-module _ (s p : List ℕ) (sc : Scene) (taken : check_scene s ≡ CheckedScene.Taken sc) where
+module _ (s p : List ℕ) (sc : Scene) (taken : check_scene s ≡ Ok sc) where
   abbrev whole : List (List Dimension)
   whole = matrix_from (explored_in s sc)
 
@@ -148,7 +148,7 @@ module _ (A : FractionPoint → Type 0) (d : Dimension) (value : Value d A) wher
           go false true e q = let x = sign_of c (is_true _ q) in is_true (eqb c (sign d)) (eq-eqb c (sign d) (x.1 ∙ ap sign (only_one A x.0 d (h.1 x.0 x.1) value)))
           go false false e q = tt
 
-pattern_right : (s p : List ℕ) (sc : Scene) → check_scene s ≡ CheckedScene.Taken sc
+pattern_right : (s p : List ℕ) (sc : Scene) → check_scene s ≡ Ok sc
     → T (fits_all p (matrix_from (explored_in s sc))) ↔ ((r c : Part) → Demands (character_for p r c) (InCell s sc r c))
 pattern_right s p sc taken = (λ t r c. (means r c).0 (fits_at p m t r c), λ d. fits_by p m (λ r c. (means r c).1 (d r c)))
   where
@@ -178,20 +178,20 @@ module _ (s p : List ℕ) where
       (is, subst (λ (x : RelateAnswer). NoPatternWrong s p (relate_values x).holds) (sym is) no_pattern_wrong, relate_means s p)
 
   module _ (cells : ℕ) {a : SceneAnswer} (is : a ≡ answer_of s (Wanted.Cells cells)) where
-    pub scene_refused : (r : Refusal) → a ≡ SceneAnswer.Refused r → Whole (RelateAnswer.Refused r)
+    pub scene_refused : (r : Refusal) → a ≡ Err r → Whole (Err r)
     scene_refused r e =
         let c = was_refused (Wanted.Cells cells) (cells_tidy cells) s is r e in
-        as_related (CheckedScene.Refused r) (after_scene_lem s p ∙ rw c) refl
+        as_related (Err r) (after_scene_lem s p ∙ rw c) refl
 
-    module _ (sc : Scene) (v : Vectors) (e : a ≡ SceneAnswer.Taken sc v) where
-      its : (check_scene s ≡ CheckedScene.Taken sc) × (v ≡ vectors_in s sc (Wanted.Cells cells))
+    module _ (sc : Scene) (v : Vectors) (e : a ≡ Ok sc v) where
+      its : (check_scene s ≡ Ok sc) × (v ≡ vectors_in s sc (Wanted.Cells cells))
       its = was_taken (Wanted.Cells cells) (cells_tidy cells) s is sc v e
 
-      pub pattern_refused : (r : Refusal) → pattern_verdict p ≡ Refused r → Whole (RelateAnswer.Refused r)
-      pattern_refused r q = as_related (CheckedScene.Refused r) (after_scene_lem s p ∙ rw (its.0, q)) refl
+      pub pattern_refused : (r : Refusal) → pattern_verdict p ≡ Err r → Whole (Err r)
+      pattern_refused r q = as_related (Err r) (after_scene_lem s p ∙ rw (its.0, q)) refl
 
-      pub both_taken : pattern_verdict p ≡ Sound → cells ≡ asked_cells p → {holds : Bool} → holds ≡ fits_all p (matrix_from (explored_by sc v)) → Whole (RelateAnswer.Taken holds)
+      pub both_taken : pattern_verdict p ≡ (Ok tt) → cells ≡ asked_cells p → {holds : Bool} → holds ≡ fits_all p (matrix_from (explored_by sc v)) → Whole (Ok holds)
       both_taken q asked h =
-          as_related (CheckedScene.Taken sc) (after_scene_lem s p ∙ rw (its.0, q))
-          (ap RelateAnswer.Taken
+          as_related (Ok sc) (after_scene_lem s p ∙ rw (its.0, q))
+          (ap Ok
           (h ∙ ap (λ (v : Vectors). fits_all p (matrix_from (explored_by sc v))) (its.1 ∙ ap (λ n. vectors_in s sc (Wanted.Cells n)) asked) ∙ same_fit s p sc its.0))

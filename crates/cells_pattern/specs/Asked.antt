@@ -1,10 +1,10 @@
 -- The cells that a pattern asks: those with any character but "*". EE always has an area: where its character does not fit that, the answer is no whatever the
 -- others are, and none is asked. A pattern that is turned away asks none.
+use Rattle.std.specs.Prelude.{Err, Ok}
+use Rattle.check_verdict.specs.Refusals.{Verdict}
 use Rattle.std.specs.Prelude.{ℕ, ◌+◌, Bool, not, cond, List, map, eqb, get_or}
 use Rattle.plane_dimensions.specs.declared.Dimension.TheVariants.{Area}
 use Rattle.scene.specs.Conditions.{indices}
-use Rattle.check_verdict.specs.declared.Verdict.{Verdict}
-use Rattle.check_verdict.specs.declared.Verdict.TheVariants.{Sound, Refused}
 use Rattle.check_verdict.specs.Refusals.{verdict}
 use Rattle.flags.specs.Flags.{pack}
 use Rattle.cells_pattern.specs.Pattern.{either, fits, pattern_conditions}
@@ -27,5 +27,5 @@ unfoldable pub asked_cells : List ℕ → ℕ
 asked_cells p = cond (fits (get_or p 8 0) Area) (named_cells p) 0
 
 abbrev pub wanted_cells : List ℕ → Verdict → ℕ
-wanted_cells p Sound = asked_cells p
-wanted_cells p (Refused r) = 0
+wanted_cells p (Ok tt) = asked_cells p
+wanted_cells p (Err r) = 0

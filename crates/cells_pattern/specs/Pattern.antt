@@ -1,13 +1,13 @@
 -- An OGC relate pattern: document 02's Paper 7, "a scene and an OGC relate pattern of nine characters, row by row: T for a cell that must be yes, F for no, * for
 -- either. The answer is yes exactly when all nine cells fit"; and its Paper 8, "In patterns T means any but F, the digits 0, 1 and 2 may stand".
+use Rattle.std.specs.Prelude.{None, Some}
+use Rattle.scene.specs.Read.{Fault}
 use Rattle.std.specs.Prelude.{ℕ, suc, ◌+◌, ◌*◌, ◌≡◌, Bool, true, ◌||◌, cond, List, [], ◌∷◌, eqb, length, get_or}
 use Rattle.whole.specs.Count.{every}
 use Rattle.plane.specs.Plane.{FractionPoint}
 use Rattle.plane_dimensions.specs.declared.Dimension.{Dimension}
 use Rattle.plane_dimensions.specs.declared.Dimension.TheVariants.{Empty, Points, Length, Area}
 use Rattle.plane_dimensions.specs.Dimensions.{Value, sign, not_empty}
-use Rattle.scene.specs.declared.Fault.{Fault}
-use Rattle.scene.specs.declared.Fault.TheVariants.{At, Nothing}
 use Rattle.scene.specs.Read.{Condition, condition, unless}
 use Rattle.cells_matrix.specs.Matrix.{Part, index, parts}
 
@@ -56,8 +56,8 @@ fits_all p m = every (λ r. fits_row p (3 * index r) (get_or m (index r) [])) pa
 
 -- 23 "at the position of the first character", by Paper 8 the first one "outside the six"
 abbrev pub first_other : List ℕ → ℕ → Fault
-first_other [] at = Nothing
-first_other (c ∷ p) at = cond (is_character c) (first_other p (suc at)) (At at)
+first_other [] at = None
+first_other (c ∷ p) at = cond (is_character c) (first_other p (suc at)) (Some at)
 
 -- 22 "at place 0 if the pattern has not nine characters", then 23
 abbrev pub not_nine : List ℕ → Fault

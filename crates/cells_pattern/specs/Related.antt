@@ -1,11 +1,11 @@
 -- The pattern question over a scene's bytes and a pattern's bytes: what is answered, for every two byte strings, and what the answer means in points.
+use Rattle.std.specs.Prelude.{Err, Ok}
+use Rattle.scene.specs.Read.{CheckedScene}
 use Rattle.std.specs.Prelude.{ℕ, ◌≡◌, ◌↔◌, Bool, false, List, [], ◌∷◌, T}
 use Rattle.scene.specs.declared.Scene.{Scene}
-use Rattle.scene.specs.declared.CheckedScene.{CheckedScene}
 use Rattle.scene.specs.Conditions.{Rule, rule, scene_rules, check_scene_by}
 use Rattle.cells_matrix.specs.Matrix.{Part}
 use Rattle.cells.specs.Explored.{explored_in, matrix_from, InCell}
-use Rattle.cells_pattern.specs.declared.RelateAnswer.{RelateAnswer}
 use Rattle.cells_pattern.specs.Pattern.{Demands, character_for, fits_all, first_other, not_nine}
 
 -- "It refuses, after the scene's own refusals, with 22 .. and 23"
@@ -18,8 +18,8 @@ check_relate s p = check_scene_by (scene_rules [] (pattern_rules p)) s
 -- ---- the answer
 
 abbrev pub answered : List ℕ → List ℕ → CheckedScene → RelateAnswer
-answered s p (CheckedScene.Taken sc) = RelateAnswer.Taken (fits_all p (matrix_from (explored_in s sc)))
-answered s p (CheckedScene.Refused r) = RelateAnswer.Refused r
+answered s p (Ok sc) = Ok (fits_all p (matrix_from (explored_in s sc)))
+answered s p (Err r) = Err r
 
 unfoldable pub relate_of : List ℕ → List ℕ → RelateAnswer
 relate_of s p = answered s p (check_relate s p)
@@ -32,8 +32,8 @@ pub record RelateValues : Type 0 where
   pub holds : Bool
 
 abbrev pub relate_values : RelateAnswer → RelateValues
-relate_values (RelateAnswer.Taken holds) = record { number = 0; place = 0; holds = holds }
-relate_values (RelateAnswer.Refused r) = record { number = r.number; place = r.place; holds = false }
+relate_values (Ok holds) = record { number = 0; place = 0; holds = holds }
+relate_values (Err r) = record { number = r.number; place = r.place; holds = false }
 
 -- ---- what it means
 
@@ -41,5 +41,5 @@ relate_values (RelateAnswer.Refused r) = record { number = r.number; place = r.p
 -- Rows are those of the object given first, columns of the one given second.
 abbrev pub NoPatternWrong : List ℕ → List ℕ → Bool → Type 0
 NoPatternWrong s p holds =
-    (sc : Scene) → check_relate s p ≡ CheckedScene.Taken sc
+    (sc : Scene) → check_relate s p ≡ Ok sc
     → T holds ↔ ((r c : Part) → Demands (character_for p r c) (InCell s sc r c))

@@ -1,5 +1,6 @@
 -- The earliest record at fault by the tests of Faults.antt is that of the definitions, where the conditions that the tests rest on find no fault: 10 of the
 -- elements searched, and for 14 also 11.
+use Rattle.std.specs.Prelude.{None, Some}
 use Prim.Native.Nat.{ℕ, zero, suc, ◌+◌, ◌-◌, ◌<◌, ◌≤◌}
 use native.Mathlib.Nat.{eq-or-lt_of_le}
 use native.Mathlib.Decide.{dec_lt}
@@ -19,7 +20,6 @@ use Rattle.plane.specs.Plane.{before, is_same_point, ordered, dominating, comes_
 use Rattle.plane.proofs.Equal.{same_point_read}
 use Rattle.plane.proofs.Order.{comes_irreflexive, comes_trans}
 use Rattle.scene.specs.declared.Layout.{Layout}
-use Rattle.scene.specs.declared.Fault.TheVariants.{At, Nothing}
 use Rattle.scene.specs.Read.{place, IsObject}
 use Rattle.scene.specs.Conditions.{indices, elements, has_segments, is_region, half, ia, left_test, segments, earliest, out_of_order, partner, is_unpaired, unpaired, is_touching, touching, touching_itself, ends_oddly, odd_end, has_wrong_ia, wrong_ia}
 use Rattle.scene_segments.specs.Walked.{vertical, touches_from, count_below}
@@ -52,7 +52,7 @@ module _ (l : Layout) (wrong tested : ℕ → Bool) where
       no_earlier q w = let k = same.complete i (omega arith) w in T_not (tested k.0) (is_false (tested k.0) (before q k.0 (omega arith))) k.2
 
       go : (a b : Bool) → tested i ≡ a → wrong i ≡ b → (tested i ≡ false → earliest l tested (indices m (suc i)) ≡ earliest l wrong (indices m (suc i)))
-          → cond a (At (place l i)) (earliest l tested (indices m (suc i))) ≡ cond b (At (place l i)) (earliest l wrong (indices m (suc i)))
+          → cond a (Some (place l i)) (earliest l tested (indices m (suc i))) ≡ cond b (Some (place l i)) (earliest l wrong (indices m (suc i)))
       go true true p q later = refl
       go true false p q later = absurd (T_not (wrong i) (is_false (wrong i) q) (same.sound i (omega arith) (is_true (tested i) p)))
       go false true p q later = absurd (no_earlier p (is_true (wrong i) q))
@@ -100,7 +100,7 @@ module _ (s : List ℕ) (l : Layout) where
           and_make (is_region l.shape) (odd_at i) (and_left (is_region l.shape) (is_first_at s l i && odd_at i) t)
           (and_right (is_first_at s l i) (odd_at i) (and_right (is_region l.shape) (is_first_at s l i && odd_at i) t))
 
-module _ (s : List ℕ) (l : Layout) (is : IsObject s l) (order : out_of_order s l ≡ Nothing) where
+module _ (s : List ℕ) (l : Layout) (is : IsObject s l) (order : out_of_order s l ≡ None) where
   -- ---- 11
 
   module _ (has : has_segments l.shape ≡ true) (i : ℕ) (h : i < l.count) where
@@ -227,7 +227,7 @@ module _ (s : List ℕ) (l : Layout) (is : IsObject s l) (order : out_of_order s
       go true e = rw (by true e)
       go false e = rw (by false e)
 
-  module _ (paired : unpaired s l ≡ Nothing) where
+  module _ (paired : unpaired s l ≡ None) where
     -- 14 of the element, by the test and by the definition
     abbrev by_test : ℕ → Bool
     by_test i = not (beq (ia s l i) (interior_by s l (half s l i).segment))

@@ -1,4 +1,5 @@
 -- One pass for 10 over the elements of an object: how far it has come, and one step of it.
+use Rattle.std.specs.Prelude.{None}
 use Prim.Native.Nat.{ℕ, ◌+◌, ◌-◌, ◌<◌, ◌≤◌}
 use native.Mathlib.Decide.{dec_lt}
 use native.Mathlib.Omega.{arith}
@@ -8,7 +9,6 @@ use mathlib.Core.List.{List}
 use lib.ListN.{length}
 use borrow.Author.Tests.{lt-ltb}
 use Rattle.scene.specs.declared.Layout.{Layout}
-use Rattle.scene.specs.declared.Fault.TheVariants.{Nothing}
 use Rattle.scene.specs.Read.{size, place, IsObject}
 use Rattle.scene.specs.Conditions.{earliest, is_in_order, is_misplaced, out_of_order}
 use Rattle.scene_segments.proofs.Elements.{fits}
@@ -26,7 +26,7 @@ pub record Turn (s : List ℕ) (l : Layout) (step at i : ℕ) : Type 0 where
   pub next : at + step ≡ place l i
   pub fits : at + step + step ≤ length s
   pub on : is_in_order s l (i - 1) i ≡ true → Reached s l (at + step) (i + 1)
-  pub off : is_in_order s l (i - 1) i ≡ false → out_of_order s l ≡ Nothing → ⊥
+  pub off : is_in_order s l (i - 1) i ≡ false → out_of_order s l ≡ None → ⊥
 
 module _ (s : List ℕ) (l : Layout) where
   pub begin : Reached s l (l.start + 2) 1
@@ -41,7 +41,7 @@ module _ (s : List ℕ) (l : Layout) where
       go (yes h) = earliest_later l (is_misplaced s l) 0 l.count h refl
       go (no h) = earliest_none l (is_misplaced s l) 0 l.count (omega arith) ∙ sym (earliest_none l (is_misplaced s l) 1 l.count (omega arith))
 
-  pub done : {at i : ℕ} → Reached s l at i → l.count ≤ i → out_of_order s l ≡ Nothing
+  pub done : {at i : ℕ} → Reached s l at i → l.count ≤ i → out_of_order s l ≡ None
   done {at} {i} r h = r.rest ∙ earliest_none l (is_misplaced s l) i l.count h
 
   pub turn : {step at i : ℕ} → IsObject s l → step ≡ size l.shape → Reached s l at i → i < l.count → Turn s l step at i

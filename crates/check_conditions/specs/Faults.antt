@@ -1,9 +1,9 @@
 -- The conditions 10 to 15 by their numbers, as tests of one element: what the functions of this crate promise. Each test rests on the conditions
 -- before it and looks at fewer elements than its definition in scene's Conditions.antt; where they hold, the earliest record at fault is the same
 -- (proofs/Earliest.antt).
+use Rattle.scene.specs.Read.{Fault}
 use Rattle.std.specs.Prelude.{ℕ, ◌+◌, Bool, not, ◌&&◌, cond, List, eqb}
 use Rattle.scene.specs.declared.Layout.{Layout}
-use Rattle.scene.specs.declared.Fault.{Fault}
 use Rattle.scene.specs.Conditions.{elements, has_segments, half, left_test, earliest, is_misplaced}
 use Rattle.scene_segments.specs.Walked.{touches_from}
 use Rattle.check_conditions.specs.Partners.{has_partner}

@@ -2,7 +2,6 @@
 // fault lies is not said; then as a test of one element, by its index, which finds the place.
 ghost use Rattle.std.specs.Prelude.{◌≡◌, ◌<◌, T};
 ghost use Rattle.whole.specs.Decides.{Decides};
-ghost use Rattle.scene.specs.declared.Fault.TheVariants.{Nothing};
 ghost use Rattle.scene.specs.declared.Shape.TheVariants.{Points};
 ghost use Rattle.scene.specs.Read.{size, IsObject};
 ghost use Rattle.scene.specs.Conditions.{has_segments, is_in_order, is_misplaced, out_of_order};
@@ -13,7 +12,7 @@ use scene::{Layout, Shape, bytes, records};
 
 fn points_ascend(s: &[u8], l: Layout) -> bool
     requires { IsObject s.now l × (l.shape ≡ Points) }
-    ensures { Decides (out_of_order s.now l ≡ Nothing) result }
+    ensures { Decides (out_of_order s.now l ≡ None) result }
 {
     let mut at = l.start + 2;
     let mut i: usize = 1;
@@ -32,7 +31,7 @@ fn points_ascend(s: &[u8], l: Layout) -> bool
 // A record takes `step` bytes: a literal at each call, so that the loop is compiled for each type.
 fn halfsegments_ascend(s: &[u8], l: Layout, step: usize) -> bool
     requires { IsObject s.now l × T (has_segments l.shape) × (step ≡ size l.shape) }
-    ensures { Decides (out_of_order s.now l ≡ Nothing) result }
+    ensures { Decides (out_of_order s.now l ≡ None) result }
 {
     let mut at = l.start + 2;
     let mut i: usize = 1;
@@ -50,7 +49,7 @@ fn halfsegments_ascend(s: &[u8], l: Layout, step: usize) -> bool
 
 pub fn is_ordered(s: &[u8], l: Layout) -> bool
     requires { IsObject s.now l }
-    ensures { Decides (out_of_order s.now l ≡ Nothing) result }
+    ensures { Decides (out_of_order s.now l ≡ None) result }
 {
     let k = l.shape;
     match k {

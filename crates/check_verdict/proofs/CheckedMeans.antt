@@ -1,4 +1,6 @@
 -- The verdict on a scene's bytes, and on one object's, in points of the plane: of every byte string, whatever conditions of its own a question has.
+use Rattle.std.specs.Prelude.{Err, None, Ok, Some}
+use Rattle.scene.specs.Read.{CheckedObject, CheckedScene, Fault}
 use Prim.Native.Nat.{ℕ, ◌<◌}
 use native.Mathlib.Omega.{arith}
 use mathlib.Core.Path.{◌≡◌, refl, sym, subst, ◌∙◌}
@@ -7,10 +9,6 @@ use mathlib.Core.List.{List, [], ◌∷◌, ◌++◌, map, append-nil}
 use Rattle.scene.specs.declared.Layout.{Layout}
 use Rattle.scene.specs.declared.Scene.{Scene}
 use Rattle.scene.specs.declared.Refusal.{Refusal}
-use Rattle.scene.specs.declared.Fault.{Fault}
-use Rattle.scene.specs.declared.Fault.TheVariants.{At, Nothing}
-use Rattle.scene.specs.declared.CheckedObject.{CheckedObject}
-use Rattle.scene.specs.declared.CheckedScene.{CheckedScene}
 use Rattle.scene.specs.Read.{judge, given_first, given_second, read_scene, read_alone, IsObject, IsScene}
 use Rattle.scene.specs.Conditions.{segments, out_of_order, unpaired, touching_itself, Rule, rule, conditions, object_rules, or_else, over_both, touching_across, scene_rules, checked_scene, check_scene_by, check_scene, checked_object, check_object}
 use Rattle.scene.proofs.Taken.{taken_alone, taken_scene}
@@ -22,19 +20,19 @@ use Rattle.check_verdict.proofs.SharedPoints.{segments_ordered, no_fault_exactly
 -- ---- what 12 and 15 find
 
 module _ (s : List ℕ) (l : Layout) (is : IsObject s l) where
-  pub none_in : (touching_itself s l ≡ Nothing) ↔ OnlyEndsIn s l
+  pub none_in : (touching_itself s l ≡ None) ↔ OnlyEndsIn s l
   unfolding touching_itself
   none_in = no_fault_exactly s l is (segments s l) (segments_ordered s l is)
 
-  pub fault_in : out_of_order s l ≡ Nothing → unpaired s l ≡ Nothing → (f : Fault) → (touching_itself s l ≡ f) ↔ FaultMeans s l (segments s l) f
+  pub fault_in : out_of_order s l ≡ None → unpaired s l ≡ None → (f : Fault) → (touching_itself s l ≡ f) ↔ FaultMeans s l (segments s l) f
   unfolding touching_itself
   fault_in = fault_exactly s l is (segments s l) (segments_ordered s l is)
 
 module _ (s : List ℕ) (sc : Scene) (is_first_lem : IsObject s (given_first sc)) (is_second : IsObject s (given_second sc)) where
-  pub none_across : (touching_across s sc ≡ Nothing) ↔ OnlyEndsAcross s sc
+  pub none_across : (touching_across s sc ≡ None) ↔ OnlyEndsAcross s sc
   none_across = no_fault_exactly s (given_first sc) is_first_lem (segments s (given_second sc)) (segments_ordered s (given_second sc) is_second)
 
-  pub fault_across : out_of_order s (given_first sc) ≡ Nothing → unpaired s (given_first sc) ≡ Nothing
+  pub fault_across : out_of_order s (given_first sc) ≡ None → unpaired s (given_first sc) ≡ None
       → (f : Fault) → (touching_across s sc ≡ f) ↔ FaultMeans s (given_first sc) (segments s (given_second sc)) f
   fault_across = fault_exactly s (given_first sc) is_first_lem (segments s (given_second sc)) (segments_ordered s (given_second sc) is_second)
 
@@ -57,7 +55,7 @@ module _ {A B : Type 0} (s : List ℕ) (a : A) (refuse : Refusal → B) (taken :
   record Answer (rules : List (Rule A)) : Type 0 where
     means : Means (judge refuse taken (conditions rules s a))
 
-  next : {r : Rule A} {rules : List (Rule A)} → ((p : ℕ) → r.fault s a ≡ At p → Says r.number p) → (r.fault s a ≡ Nothing → Answer rules) → Answer (r ∷ rules)
+  next : {r : Rule A} {rules : List (Rule A)} → ((p : ℕ) → r.fault s a ≡ Some p → Says r.number p) → (r.fault s a ≡ None → Answer rules) → Answer (r ∷ rules)
   next {r} {rules} at otherwise =
       record { means = decided refuse Means Says refused r.number (r.fault s a) (judge refuse taken (conditions rules s a)) at (λ e. (otherwise e).means) }
 
@@ -78,41 +76,41 @@ module _ (s : List ℕ) (sc : Scene) (read : IsScene s sc) where
   abbrev Says : ℕ → ℕ → Type 0
   Says n p = RefusalSays 12 (EarliestInEither s sc) (OnlyEndsInEach s sc) n p × RefusalSays 15 (EarliestAcross s sc) (OnlyEndsAcross s sc) n p
 
-  refused : (n p : ℕ) → Says n p → CheckedMeans s (CheckedScene.Refused (record { number = n; place = p }))
+  refused : (n p : ℕ) → Says n p → CheckedMeans s (Err (record { number = n; place = p }))
   refused n p w h = (sc, read, w.0, w.1)
 
   abbrev SceneAnswer : List (Rule Scene) → Type 0
-  SceneAnswer = Answer s sc CheckedScene.Refused (CheckedScene.Taken sc) (CheckedMeans s) Says refused
+  SceneAnswer = Answer s sc Err (Ok sc) (CheckedMeans s) Says refused
 
-  step : {r : Rule Scene} {rules : List (Rule Scene)} → ((p : ℕ) → r.fault s sc ≡ At p → Says r.number p) → (r.fault s sc ≡ Nothing → SceneAnswer rules) → SceneAnswer (r ∷ rules)
-  step = next s sc CheckedScene.Refused (CheckedScene.Taken sc) (CheckedMeans s) Says refused
+  step : {r : Rule Scene} {rules : List (Rule Scene)} → ((p : ℕ) → r.fault s sc ≡ Some p → Says r.number p) → (r.fault s sc ≡ None → SceneAnswer rules) → SceneAnswer (r ∷ rules)
+  step = next s sc Err (Ok sc) (CheckedMeans s) Says refused
 
   several : (P : ℕ → Type 0) → ((n p : ℕ) → P n → Says n p) → (rules more : List (Rule Scene)) → Numbers P (conditions rules s sc) → SceneAnswer more → SceneAnswer (rules ++ more)
-  several = all s sc CheckedScene.Refused (CheckedScene.Taken sc) (CheckedMeans s) Says refused
+  several = all s sc Err (Ok sc) (CheckedMeans s) Says refused
 
   -- 12
-  none_in_each : or_else (touching_itself s (given_first sc)) (touching_itself s (given_second sc)) ≡ Nothing → OnlyEndsInEach s sc
+  none_in_each : or_else (touching_itself s (given_first sc)) (touching_itself s (given_second sc)) ≡ None → OnlyEndsInEach s sc
   none_in_each e =
       let n = neither (touching_itself s (given_first sc)) (touching_itself s (given_second sc)) e in
       ((none_in s (given_first sc) is_first_lem).0 n.0, (none_in s (given_second sc) is_second).0 n.1)
 
-  module _ (order : or_else (out_of_order s (given_first sc)) (out_of_order s (given_second sc)) ≡ Nothing) (paired : or_else (unpaired s (given_first sc)) (unpaired s (given_second sc)) ≡ Nothing) where
-    in_order : (out_of_order s (given_first sc) ≡ Nothing) × (out_of_order s (given_second sc) ≡ Nothing)
+  module _ (order : or_else (out_of_order s (given_first sc)) (out_of_order s (given_second sc)) ≡ None) (paired : or_else (unpaired s (given_first sc)) (unpaired s (given_second sc)) ≡ None) where
+    in_order : (out_of_order s (given_first sc) ≡ None) × (out_of_order s (given_second sc) ≡ None)
     in_order = neither (out_of_order s (given_first sc)) (out_of_order s (given_second sc)) order
 
-    in_pairs : (unpaired s (given_first sc) ≡ Nothing) × (unpaired s (given_second sc) ≡ Nothing)
+    in_pairs : (unpaired s (given_first sc) ≡ None) × (unpaired s (given_second sc) ≡ None)
     in_pairs = neither (unpaired s (given_first sc)) (unpaired s (given_second sc)) paired
 
-    earliest_in_either : (p : ℕ) → or_else (touching_itself s (given_first sc)) (touching_itself s (given_second sc)) ≡ At p → EarliestInEither s sc p
+    earliest_in_either : (p : ℕ) → or_else (touching_itself s (given_first sc)) (touching_itself s (given_second sc)) ≡ Some p → EarliestInEither s sc p
     earliest_in_either p = go (touching_itself s (given_first sc)) refl
       where
-        go : (f : Fault) → touching_itself s (given_first sc) ≡ f → or_else f (touching_itself s (given_second sc)) ≡ At p → EarliestInEither s sc p
-        go (At q) e x = inl ((fault_in s (given_first sc) is_first_lem in_order.0 in_pairs.0 (At p)).0 (e ∙ x))
-        go Nothing e x = inr ((none_in s (given_first sc) is_first_lem).0 e, (fault_in s (given_second sc) is_second in_order.1 in_pairs.1 (At p)).0 x)
+        go : (f : Fault) → touching_itself s (given_first sc) ≡ f → or_else f (touching_itself s (given_second sc)) ≡ Some p → EarliestInEither s sc p
+        go (Some q) e x = inl ((fault_in s (given_first sc) is_first_lem in_order.0 in_pairs.0 (Some p)).0 (e ∙ x))
+        go None e x = inr ((none_in s (given_first sc) is_first_lem).0 e, (fault_in s (given_second sc) is_second in_order.1 in_pairs.1 (Some p)).0 x)
 
     -- 15
-    earliest_across : (p : ℕ) → touching_across s sc ≡ At p → EarliestAcross s sc p
-    earliest_across p = (fault_across s sc is_first_lem is_second in_order.0 in_pairs.0 (At p)).0
+    earliest_across : (p : ℕ) → touching_across s sc ≡ Some p → EarliestAcross s sc p
+    earliest_across p = (fault_across s sc is_first_lem is_second in_order.0 in_pairs.0 (Some p)).0
 
   module _ (nine rest : List (Rule Scene)) (before : Numbers (λ n. n < 12) (conditions nine s sc)) (after : Numbers (λ n. 15 < n) (conditions rest s sc)) where
     early : (n p : ℕ) → n < 12 → Says n p
@@ -135,28 +133,28 @@ module _ (s : List ℕ) (sc : Scene) (read : IsScene s sc) where
 
 -- ---- one object that was read
 
-module _ (s : List ℕ) (l : Layout) (read : read_alone s ≡ CheckedObject.Taken l) where
+module _ (s : List ℕ) (l : Layout) (read : read_alone s ≡ Ok l) where
   is_object : IsObject s l
   is_object = (taken_alone s l read).read
 
   abbrev ObjectSays : ℕ → ℕ → Type 0
   ObjectSays = RefusalSays 12 (EarliestIn s l) (OnlyEndsIn s l)
 
-  object_refused : (n p : ℕ) → ObjectSays n p → CheckedObjectMeans s (CheckedObject.Refused (record { number = n; place = p }))
+  object_refused : (n p : ℕ) → ObjectSays n p → CheckedObjectMeans s (Err (record { number = n; place = p }))
   object_refused n p w h = (l, read, w)
 
   abbrev ObjectAnswer : List (Rule Layout) → Type 0
-  ObjectAnswer = Answer s l CheckedObject.Refused (CheckedObject.Taken l) (CheckedObjectMeans s) ObjectSays object_refused
+  ObjectAnswer = Answer s l Err (Ok l) (CheckedObjectMeans s) ObjectSays object_refused
 
-  object_step : {r : Rule Layout} {rules : List (Rule Layout)} → ((p : ℕ) → r.fault s l ≡ At p → ObjectSays r.number p)
-      → (r.fault s l ≡ Nothing → ObjectAnswer rules) → ObjectAnswer (r ∷ rules)
-  object_step = next s l CheckedObject.Refused (CheckedObject.Taken l) (CheckedObjectMeans s) ObjectSays object_refused
+  object_step : {r : Rule Layout} {rules : List (Rule Layout)} → ((p : ℕ) → r.fault s l ≡ Some p → ObjectSays r.number p)
+      → (r.fault s l ≡ None → ObjectAnswer rules) → ObjectAnswer (r ∷ rules)
+  object_step = next s l Err (Ok l) (CheckedObjectMeans s) ObjectSays object_refused
 
   object_by_rules : ObjectAnswer object_rules
   object_by_rules =
       object_step (λ p _. earlier 10 p (omega arith)) (λ order.
       object_step (λ p _. earlier 11 p (omega arith)) (λ paired.
-      object_step (λ p e. own p ((fault_in s l is_object order paired (At p)).0 e)) (λ apart.
+      object_step (λ p e. own p ((fault_in s l is_object order paired (Some p)).0 e)) (λ apart.
       let none = (none_in s l is_object).0 apart in
       object_step (λ p _. later 13 p (omega arith) none) (λ _.
       object_step (λ p _. later 14 p (omega arith) none) (λ _. record { means = (read, none) })))))
@@ -171,8 +169,8 @@ module _ (nine rest : List (Rule Scene)) (s : List ℕ)
   checked_means_by = go (read_scene s) refl
     where
       go : (o : CheckedScene) → read_scene s ≡ o → CheckedMeans s (checked_scene (scene_rules nine rest) s o)
-      go (CheckedScene.Refused r) e = λ h. absurd (omega (arith, subst SmallScene e (small_scene s)))
-      go (CheckedScene.Taken sc) e = (by_rules s sc e nine rest (before sc) (after sc)).means
+      go (Err r) e = λ h. absurd (omega (arith, subst SmallScene e (small_scene s)))
+      go (Ok sc) e = (by_rules s sc e nine rest (before sc) (after sc)).means
 
 pub checked_means : (s : List ℕ) → CheckedMeans s (check_scene s)
 unfolding check_scene
@@ -183,8 +181,8 @@ unfolding check_object
 checked_object_means s = go (read_alone s) refl
   where
     go : (o : CheckedObject) → read_alone s ≡ o → CheckedObjectMeans s (checked_object s o)
-    go (CheckedObject.Refused r) e = λ h. absurd (omega (arith, subst SmallObject e (small_alone s)))
-    go (CheckedObject.Taken l) e = (object_by_rules s l e).means
+    go (Err r) e = λ h. absurd (omega (arith, subst SmallObject e (small_alone s)))
+    go (Ok l) e = (object_by_rules s l e).means
 
 -- as a contract says it of its result
 pub with_meaning : (s : List ℕ) {r : CheckedScene} → r ≡ check_scene s → (r ≡ check_scene s) × CheckedMeans s r

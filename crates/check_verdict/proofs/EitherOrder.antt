@@ -1,5 +1,8 @@
 -- Two objects' bytes one after the other, and the other way round: a condition finds a fault in the one scene exactly where it finds one in the other, so both
 -- are taken, or both are refused under one number.
+use Rattle.std.specs.Prelude.{Err, None, Ok, Some}
+use Rattle.scene.specs.Read.{CheckedScene, Fault}
+use Rattle.check_verdict.specs.Refusals.{Verdict}
 use Prim.Native.Nat.{ℕ}
 use native.Mathlib.Omega.{arith}
 use mathlib.Core.Path.{◌≡◌, refl, sym, ap, ap₂, subst, subst₂, ◌∙◌}
@@ -12,10 +15,6 @@ use Rattle.plane.specs.declared.Segment.{Segment}
 use Rattle.plane.specs.Plane.{is_end, fractions, SharePoint}
 use Rattle.scene.specs.declared.Layout.{Layout}
 use Rattle.scene.specs.declared.Scene.{Scene}
-use Rattle.scene.specs.declared.Fault.{Fault}
-use Rattle.scene.specs.declared.Fault.TheVariants.{At, Nothing}
-use Rattle.scene.specs.declared.CheckedObject.{CheckedObject}
-use Rattle.scene.specs.declared.CheckedScene.{CheckedScene}
 use Rattle.scene.specs.Read.{decide, given_first, given_second, read_alone, IsScene}
 use Rattle.scene.specs.Conditions.{segments, Rule, rule, conditions, or_else, over_both, object_rules, touching_across, check_scene}
 use Rattle.scene.proofs.Taken.{Arranged, taken_alone, taken_scene}
@@ -23,8 +22,6 @@ use Rattle.scene.proofs.Indices.{not_nothing}
 use Rattle.scene.proofs.Moved.{moved, moved_fault}
 use Rattle.scene.proofs.Standing.{Moves, moved_faults, segments_stay}
 use Rattle.scene.proofs.SideBySide.{first_stands, second_stands, beside, beside_read, beside_given}
-use Rattle.check_verdict.specs.declared.Verdict.{Verdict}
-use Rattle.check_verdict.specs.declared.Verdict.TheVariants.{Sound, Refused}
 use Rattle.check_verdict.specs.Refusals.{verdict, settle, geometry_rules, geometry_verdict}
 use Rattle.check_verdict.specs.SharedPoints.{OnlyEndsShared, OnlyEndsAcross}
 use Rattle.check_verdict.proofs.Verdicts.{check_read}
@@ -35,12 +32,12 @@ use Rattle.check_verdict.proofs.CheckedMeans.{none_across}
 
 -- a fault in both, or in neither
 pub record Alike (f g : Fault) : Type 0 where
-  pub there : f ≡ Nothing → g ≡ Nothing
-  pub back : g ≡ Nothing → f ≡ Nothing
+  pub there : f ≡ None → g ≡ None
+  pub back : g ≡ None → f ≡ None
 
 abbrev number_of : Verdict → ℕ
-number_of Sound = 0
-number_of (Refused r) = r.number
+number_of (Ok tt) = 0
+number_of (Err r) = r.number
 
 module _ (s t : List ℕ) (a b : Scene) where
   abbrev AllAlike : List (Rule Scene) → Type 0
@@ -52,20 +49,20 @@ module _ (s t : List ℕ) (a b : Scene) where
   same_number (r ∷ rules) h = go (r.fault s a) (r.fault t b) h.0 (same_number rules h.1)
     where
       go : (f g : Fault) → Alike f g → number_of (verdict (conditions rules s a)) ≡ number_of (verdict (conditions rules t b))
-          → number_of (decide Refused r.number f (verdict (conditions rules s a))) ≡ number_of (decide Refused r.number g (verdict (conditions rules t b)))
-      go (At p) (At q) k e = refl
-      go (At p) Nothing k e = absurd (not_nothing (k.back refl))
-      go Nothing (At q) k e = absurd (not_nothing (k.there refl))
-      go Nothing Nothing k e = e
+          → number_of (decide Err r.number f (verdict (conditions rules s a))) ≡ number_of (decide Err r.number g (verdict (conditions rules t b)))
+      go (Some p) (Some q) k e = refl
+      go (Some p) None k e = absurd (not_nothing (k.back refl))
+      go None (Some q) k e = absurd (not_nothing (k.there refl))
+      go None None k e = e
 
 -- ---- a b, and b a
 
 -- 10 to 14, of each object
 either_order : (i j k n : ℕ) (f g : Fault) → Alike (or_else (moved_fault i f) (moved_fault j g)) (or_else (moved_fault k g) (moved_fault n f))
-either_order i j k n (At p) (At q) = record { there = λ e. absurd (not_nothing e); back = λ e. absurd (not_nothing e) }
-either_order i j k n (At p) Nothing = record { there = λ e. absurd (not_nothing e); back = λ e. absurd (not_nothing e) }
-either_order i j k n Nothing (At q) = record { there = λ e. absurd (not_nothing e); back = λ e. absurd (not_nothing e) }
-either_order i j k n Nothing Nothing = record { there = λ e. refl; back = λ e. refl }
+either_order i j k n (Some p) (Some q) = record { there = λ e. absurd (not_nothing e); back = λ e. absurd (not_nothing e) }
+either_order i j k n (Some p) None = record { there = λ e. absurd (not_nothing e); back = λ e. absurd (not_nothing e) }
+either_order i j k n None (Some q) = record { there = λ e. absurd (not_nothing e); back = λ e. absurd (not_nothing e) }
+either_order i j k n None None = record { there = λ e. refl; back = λ e. refl }
 
 -- 15, of both
 share_swap : {t u : Segment} → SharePoint t u → SharePoint u t
@@ -80,7 +77,7 @@ ends_swap : {these others : List Segment} → OnlyEndsShared these others → On
 ends_swap f u t m k n p = f t u k m (λ e. n (sym e)) (share_swap p)
 
 -- one order: what is found in the bytes of each object alone is found in the scene
-module _ (a b : List ℕ) (l m : Layout) (first : read_alone a ≡ CheckedObject.Taken l) (second : read_alone b ≡ CheckedObject.Taken m) where
+module _ (a b : List ℕ) (l m : Layout) (first : read_alone a ≡ Ok l) (second : read_alone b ≡ Ok m) where
   abbrev scene : Scene
   scene = beside a b l m
 
@@ -97,10 +94,10 @@ module _ (a b : List ℕ) (l m : Layout) (first : read_alone a ≡ CheckedObject
   segments_second = ap (segments (a ++ b)) given.second ∙ segments_stay (second_stands a b m (taken_alone b m second).read)
 
   -- 15 finds none exactly where no two segments share more than common ends
-  pub across_none : (touching_across (a ++ b) scene ≡ Nothing) ↔ OnlyEndsShared (segments a l) (segments b m)
-  across_none = subst₂ (λ (x y : List Segment). (touching_across (a ++ b) scene ≡ Nothing) ↔ OnlyEndsShared x y) segments_first segments_second exactly
+  pub across_none : (touching_across (a ++ b) scene ≡ None) ↔ OnlyEndsShared (segments a l) (segments b m)
+  across_none = subst₂ (λ (x y : List Segment). (touching_across (a ++ b) scene ≡ None) ↔ OnlyEndsShared x y) segments_first segments_second exactly
     where
-      exactly : (touching_across (a ++ b) scene ≡ Nothing) ↔ OnlyEndsAcross (a ++ b) scene
+      exactly : (touching_across (a ++ b) scene ≡ None) ↔ OnlyEndsAcross (a ++ b) scene
       exactly = let t = taken_scene (a ++ b) scene read in none_across (a ++ b) scene t.first_read t.second_taken.read
 
   -- a rule over both objects, by what it finds in each
@@ -115,7 +112,7 @@ module _ (a b : List ℕ) (l m : Layout) (first : read_alone a ≡ CheckedObject
     found x y = ap₂ or_else (ap (r.fault (a ++ b)) given.first ∙ x) (ap (r.fault (a ++ b)) given.second ∙ y)
 
 -- both orders
-module _ (a b : List ℕ) (l m : Layout) (first : read_alone a ≡ CheckedObject.Taken l) (second : read_alone b ≡ CheckedObject.Taken m) where
+module _ (a b : List ℕ) (l m : Layout) (first : read_alone a ≡ Ok l) (second : read_alone b ≡ Ok m) where
   abbrev ab : Scene
   ab = beside a b l m
 
@@ -147,30 +144,30 @@ module _ (a b : List ℕ) (l m : Layout) (first : read_alone a ≡ CheckedObject
 -- ---- the check
 
 abbrev pub checked_number : CheckedScene → ℕ
-checked_number (CheckedScene.Taken sc) = 0
-checked_number (CheckedScene.Refused r) = r.number
+checked_number (Ok sc) = 0
+checked_number (Err r) = r.number
 
 module _ (s : List ℕ) (sc : Scene) (is : IsScene s sc) where
-  pub checked : check_scene s ≡ settle CheckedScene.Refused (geometry_verdict s sc) (CheckedScene.Taken sc)
+  pub checked : check_scene s ≡ settle Err (geometry_verdict s sc) (Ok sc)
   unfolding check_scene
   checked = check_read [] [] s sc is
 
   number_is : checked_number (check_scene s) ≡ number_of (geometry_verdict s sc)
   number_is = ap checked_number checked ∙ go (geometry_verdict s sc)
     where
-      go : (v : Verdict) → checked_number (settle CheckedScene.Refused v (CheckedScene.Taken sc)) ≡ number_of v
-      go Sound = refl
-      go (Refused r) = refl
+      go : (v : Verdict) → checked_number (settle Err v (Ok sc)) ≡ number_of v
+      go (Ok tt) = refl
+      go (Err r) = refl
 
   -- number 0 is that of no refusal
-  pub zero_taken : checked_number (check_scene s) ≡ 0 → check_scene s ≡ CheckedScene.Taken sc
+  pub zero_taken : checked_number (check_scene s) ≡ 0 → check_scene s ≡ Ok sc
   zero_taken e = checked ∙ go (geometry_verdict s sc) refl (sym number_is ∙ e)
     where
-      go : (v : Verdict) → geometry_verdict s sc ≡ v → number_of v ≡ 0 → settle CheckedScene.Refused v (CheckedScene.Taken sc) ≡ CheckedScene.Taken sc
-      go Sound q z = refl
-      go (Refused r) q z = absurd (omega (arith, z, subst Numbered (checked ∙ ap (λ (v : Verdict). settle CheckedScene.Refused v (CheckedScene.Taken sc)) q) (numbered s)))
+      go : (v : Verdict) → geometry_verdict s sc ≡ v → number_of v ≡ 0 → settle Err v (Ok sc) ≡ Ok sc
+      go (Ok tt) q z = refl
+      go (Err r) q z = absurd (omega (arith, z, subst Numbered (checked ∙ ap (λ (v : Verdict). settle Err v (Ok sc)) q) (numbered s)))
 
-pub same_number_twice : (a b : List ℕ) (l m : Layout) → read_alone a ≡ CheckedObject.Taken l → read_alone b ≡ CheckedObject.Taken m
+pub same_number_twice : (a b : List ℕ) (l m : Layout) → read_alone a ≡ Ok l → read_alone b ≡ Ok m
     → checked_number (check_scene (a ++ b)) ≡ checked_number (check_scene (b ++ a))
 same_number_twice a b l m first second =
     number_is (a ++ b) (beside a b l m) (read a b l m first second)

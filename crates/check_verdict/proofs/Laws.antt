@@ -1,13 +1,12 @@
 -- What a taken scene or object gives, in the form that the plane's lemmas take: elements in range and in strict order, partners, segments that are
 -- split, even ends and right ia for regions, and no touch across the two objects.
+use Rattle.std.specs.Prelude.{None, Ok}
 use Prim.Native.Nat.{ℕ, ◌≤◌}
 use mathlib.Core.Path.{◌≡◌}
 use mathlib.Core.List.{List, [], ◌∷◌, ◌++◌, map}
 use Rattle.plane.proofs.Accepted.{Across, across_from_touch}
 use Rattle.scene.specs.declared.Layout.{Layout}
 use Rattle.scene.specs.declared.Scene.{Scene}
-use Rattle.scene.specs.declared.Fault.TheVariants.{Nothing}
-use Rattle.scene.specs.declared.CheckedScene.{CheckedScene}
 use Rattle.scene.specs.Read.{shape_number, given_first, given_second, IsObject}
 use Rattle.scene.specs.Conditions.{segments, Rule, rule, object_rules, over_both, touching_across, scene_rules, check_scene_by}
 use Rattle.scene.proofs.Taken.{TakenScene, both_of_given}
@@ -21,7 +20,7 @@ pub record SoundScene (s : List ℕ) (sc : Scene) : Type 0 where
   pub taken : TakenScene s sc
   pub f_sound : SoundObject s sc.f
   pub g_sound : SoundObject s sc.g
-  pub apart : touching_across s sc ≡ Nothing
+  pub apart : touching_across s sc ≡ None
 
 -- F's type is not above G's
 pub ascending : {s : List ℕ} {sc : Scene} → SoundScene s sc → shape_number sc.f.shape ≤ shape_number sc.g.shape
@@ -38,7 +37,7 @@ no_fault_after s a [] more n = n
 no_fault_after s a (r ∷ rules) more n = no_fault_after s a rules more n.1
 
 -- whatever conditions of its own a question has
-pub sound_scene : (nine later : List (Rule Scene)) (s : List ℕ) (sc : Scene) → check_scene_by (scene_rules nine later) s ≡ CheckedScene.Taken sc → SoundScene s sc
+pub sound_scene : (nine later : List (Rule Scene)) (s : List ℕ) (sc : Scene) → check_scene_by (scene_rules nine later) s ≡ Ok sc → SoundScene s sc
 sound_scene nine later s sc e = record { taken = c.0; f_sound = both.0; g_sound = both.1; apart = n.1.1.1.1.1.0 }
   where
     c : TakenScene s sc × NoFault s sc (scene_rules nine later)

@@ -1,5 +1,7 @@
 -- Answers by the conditions that lead to them: what is so of a refusal with each condition's number, and of what follows them, is so of the answer. And so
 -- reading refuses with the numbers 1 to 7 alone, and no refusal has number 0.
+use Rattle.std.specs.Prelude.{Err, None, Ok, Some}
+use Rattle.scene.specs.Read.{CheckedObject, CheckedScene, Fault, Record}
 use Prim.Native.Nat.{ℕ, zero, suc, ◌+◌, ◌≤◌, ◌<◌}
 use native.Mathlib.Omega.{arith}
 use mathlib.Core.Path.{◌≡◌, refl}
@@ -9,12 +11,6 @@ use Rattle.scene.specs.declared.Kind.{Kind}
 use Rattle.scene.specs.declared.Layout.{Layout}
 use Rattle.scene.specs.declared.Scene.{Scene}
 use Rattle.scene.specs.declared.Refusal.{Refusal}
-use Rattle.scene.specs.declared.Fault.{Fault}
-use Rattle.scene.specs.declared.Fault.TheVariants.{At, Nothing}
-use Rattle.scene.specs.declared.Record.{Record}
-use Rattle.scene.specs.declared.Record.TheVariants.{Good, Bad}
-use Rattle.scene.specs.declared.CheckedObject.{CheckedObject}
-use Rattle.scene.specs.declared.CheckedScene.{CheckedScene}
 use Rattle.scene.specs.Read.{Condition, decide, judge, byte, kind_at, shape_of, starts_object, stands_in, is_end, record_conditions, record_at, end_place, after, most, one_more, next, elements_from, begun, read_object, ends_with, arranged, scene_with_second, scene_with_first, read_scene, alone, read_alone}
 use Rattle.scene.specs.Conditions.{Rule, conditions, scene_rules, checked_scene, check_scene_by, check_scene}
 
@@ -22,9 +18,9 @@ use Rattle.scene.specs.Conditions.{Rule, conditions, scene_rules, checked_scene,
 
 module _ {B : Type 0} (refuse : Refusal → B) (Means : B → Type 0) (Says : ℕ → ℕ → Type 0)
     (refused : (n p : ℕ) → Says n p → Means (refuse (record { number = n; place = p }))) where
-  pub decided : (n : ℕ) (f : Fault) (rest : B) → ((p : ℕ) → f ≡ At p → Says n p) → (f ≡ Nothing → Means rest) → Means (decide refuse n f rest)
-  decided n (At p) rest at otherwise = refused n p (at p refl)
-  decided n Nothing rest at otherwise = otherwise refl
+  pub decided : (n : ℕ) (f : Fault) (rest : B) → ((p : ℕ) → f ≡ Some p → Says n p) → (f ≡ None → Means rest) → Means (decide refuse n f rest)
+  decided n (Some p) rest at otherwise = refused n p (at p refl)
+  decided n None rest at otherwise = otherwise refl
 
 -- whose numbers are so
 abbrev pub Numbers : (ℕ → Type 0) → List Condition → Type 0
@@ -44,35 +40,35 @@ abbrev Small : ℕ → Type 0
 Small n = (0 < n) × (n ≤ 7)
 
 abbrev SmallRecord : Record → Type 0
-SmallRecord (Good k) = Unit {0}
-SmallRecord (Bad r) = Small r.number
+SmallRecord (Ok k) = Unit {0}
+SmallRecord (Err r) = Small r.number
 
 abbrev pub SmallObject : CheckedObject → Type 0
-SmallObject (CheckedObject.Taken l) = Unit {0}
-SmallObject (CheckedObject.Refused r) = Small r.number
+SmallObject (Ok l) = Unit {0}
+SmallObject (Err r) = Small r.number
 
 abbrev pub SmallScene : CheckedScene → Type 0
-SmallScene (CheckedScene.Taken sc) = Unit {0}
-SmallScene (CheckedScene.Refused r) = Small r.number
+SmallScene (Ok sc) = Unit {0}
+SmallScene (Err r) = Small r.number
 
 module _ (s : List ℕ) where
   small_record : (at : ℕ) (allowed : Kind → Bool) (full : Bool) → SmallRecord (record_at s at allowed full)
   unfolding record_at
   small_record at allowed full =
-      judged Small Bad SmallRecord (λ r h. h) (Good (kind_at s at)) tt (record_conditions s at allowed full (kind_at s at))
+      judged Small Err SmallRecord (λ r h. h) (Ok (kind_at s at)) tt (record_conditions s at allowed full (kind_at s at))
       (omega arith, (omega arith, (omega arith, (omega arith, (omega arith, (omega arith, (omega arith, tt)))))))
 
   small_next : (r : Record) (l : Layout) (rest : CheckedObject) → SmallRecord r → SmallObject rest → SmallObject (next r l rest)
-  small_next (Bad r) l rest h q = h
-  small_next (Good k) l rest h q = go (is_end k)
+  small_next (Err r) l rest h q = h
+  small_next (Ok k) l rest h q = go (is_end k)
     where
-      go : (b : Bool) → SmallObject (cond b (CheckedObject.Taken l) rest)
+      go : (b : Bool) → SmallObject (cond b (Ok l) rest)
       go true = tt
       go false = q
 
   small_elements : (left : ℕ) (l : Layout) → SmallObject (elements_from s left l)
   unfolding elements_from
-  small_elements zero l = small_next (record_at s (end_place l) (stands_in l.shape) true) l (CheckedObject.Taken l) (small_record (end_place l) (stands_in l.shape) true) tt
+  small_elements zero l = small_next (record_at s (end_place l) (stands_in l.shape) true) l (Ok l) (small_record (end_place l) (stands_in l.shape) true) tt
   small_elements (suc left) l =
       small_next (record_at s (end_place l) (stands_in l.shape) false) l (elements_from s left (one_more l)) (small_record (end_place l) (stands_in l.shape) false)
       (small_elements left (one_more l))
@@ -82,35 +78,35 @@ module _ (s : List ℕ) where
   small_object at = go (record_at s at starts_object false) (small_record at starts_object false)
     where
       go : (r : Record) → SmallRecord r → SmallObject (begun r (elements_from s most (record { shape = shape_of (byte s (at + 1)); start = at; count = 0 })))
-      go (Bad r) h = h
-      go (Good k) h = small_elements most (record { shape = shape_of (byte s (at + 1)); start = at; count = 0 })
+      go (Err r) h = h
+      go (Ok k) h = small_elements most (record { shape = shape_of (byte s (at + 1)); start = at; count = 0 })
 
   pub small_alone : SmallObject (read_alone s)
   unfolding read_alone
   small_alone = go (read_object s 0) (small_object 0)
     where
       go : (o : CheckedObject) → SmallObject o → SmallObject (alone s o)
-      go (CheckedObject.Refused r) h = h
-      go (CheckedObject.Taken l) h = judged Small CheckedObject.Refused SmallObject (λ r h. h) (CheckedObject.Taken l) tt (ends_with s l ∷ []) (omega arith, tt)
+      go (Err r) h = h
+      go (Ok l) h = judged Small Err SmallObject (λ r h. h) (Ok l) tt (ends_with s l ∷ []) (omega arith, tt)
 
   pub small_scene : SmallScene (read_scene s)
   unfolding read_scene
   small_scene = with_first (read_object s 0) (small_object 0)
     where
       with_second : (a : Layout) (o : CheckedObject) → SmallObject o → SmallScene (scene_with_second s a o)
-      with_second a (CheckedObject.Refused r) h = h
-      with_second a (CheckedObject.Taken b) h =
-          judged Small CheckedScene.Refused SmallScene (λ r h. h) (CheckedScene.Taken (arranged a b)) tt (ends_with s b ∷ []) (omega arith, tt)
+      with_second a (Err r) h = h
+      with_second a (Ok b) h =
+          judged Small Err SmallScene (λ r h. h) (Ok (arranged a b)) tt (ends_with s b ∷ []) (omega arith, tt)
 
       with_first : (o : CheckedObject) → SmallObject o → SmallScene (scene_with_first s o)
-      with_first (CheckedObject.Refused r) h = h
-      with_first (CheckedObject.Taken a) h = with_second a (read_object s (after a)) (small_object (after a))
+      with_first (Err r) h = h
+      with_first (Ok a) h = with_second a (read_object s (after a)) (small_object (after a))
 
 -- ---- no refusal has number 0
 
 abbrev pub Numbered : CheckedScene → Type 0
-Numbered (CheckedScene.Taken sc) = Unit {0}
-Numbered (CheckedScene.Refused r) = 0 < r.number
+Numbered (Ok sc) = Unit {0}
+Numbered (Err r) = 0 < r.number
 
 module _ (rules : List (Rule Scene)) (s : List ℕ) (above : (sc : Scene) → Numbers (λ n. 0 < n) (conditions rules s sc)) where
   pub numbered_by : Numbered (check_scene_by rules s)
@@ -118,8 +114,8 @@ module _ (rules : List (Rule Scene)) (s : List ℕ) (above : (sc : Scene) → Nu
   numbered_by = go (read_scene s) (small_scene s)
     where
       go : (o : CheckedScene) → SmallScene o → Numbered (checked_scene rules s o)
-      go (CheckedScene.Refused r) h = h.0
-      go (CheckedScene.Taken sc) h = judged (λ n. 0 < n) CheckedScene.Refused Numbered (λ r h. h) (CheckedScene.Taken sc) tt (conditions rules s sc) (above sc)
+      go (Err r) h = h.0
+      go (Ok sc) h = judged (λ n. 0 < n) Err Numbered (λ r h. h) (Ok sc) tt (conditions rules s sc) (above sc)
 
 pub numbered : (s : List ℕ) → Numbered (check_scene s)
 unfolding check_scene

@@ -1,5 +1,7 @@
 -- 12 and 15 in points of the plane: the earliest record at fault by the test on whole numbers is the earliest whose segment shares with an unequal one
 -- a point that is not an end of both, and where the test finds none, no two unequal segments do.
+use Rattle.std.specs.Prelude.{None, Some}
+use Rattle.scene.specs.Read.{Fault}
 use Prim.Native.Nat.{ℕ, zero, suc, ◌+◌, ◌<◌, ◌≤◌}
 use native.Mathlib.Nat.{eq-or-lt_of_le}
 use native.Mathlib.Omega.{arith}
@@ -17,8 +19,6 @@ use Rattle.plane.proofs.OnSegment.{ordered_read}
 use Rattle.plane.proofs.Touch.{touch_sound, touch_complete}
 use Rattle.plane.proofs.Accepted.{AllOrdered}
 use Rattle.scene.specs.declared.Layout.{Layout}
-use Rattle.scene.specs.declared.Fault.{Fault}
-use Rattle.scene.specs.declared.Fault.TheVariants.{At, Nothing}
 use Rattle.scene.specs.Read.{place, IsObject}
 use Rattle.scene.specs.Conditions.{indices, elements, has_segments, half, left_test, segments, earliest, out_of_order, unpaired, is_touching, touching}
 use Rattle.scene_segments.proofs.Elements.{half_good}
@@ -38,12 +38,12 @@ record First (l : Layout) (wrong : ℕ → Bool) (from to p : ℕ) : Type 0 wher
   none_earlier : (j : ℕ) → from ≤ j → j < index → wrong j ≡ false
   its_place : place l index ≡ p
 
-first : (l : Layout) (wrong : ℕ → Bool) (p m i : ℕ) → earliest l wrong (indices m i) ≡ At p → First l wrong i (i + m) p
+first : (l : Layout) (wrong : ℕ → Bool) (p m i : ℕ) → earliest l wrong (indices m i) ≡ Some p → First l wrong i (i + m) p
 first l wrong p zero i e = absurd (not_nothing (sym e))
 first l wrong p (suc m) i e = go (wrong i) refl e (first l wrong p m (suc i))
   where
-    go : (b : Bool) → wrong i ≡ b → cond b (At (place l i)) (earliest l wrong (indices m (suc i))) ≡ At p
-        → (earliest l wrong (indices m (suc i)) ≡ At p → First l wrong (suc i) (suc i + m) p) → First l wrong i (i + suc m) p
+    go : (b : Bool) → wrong i ≡ b → cond b (Some (place l i)) (earliest l wrong (indices m (suc i))) ≡ Some p
+        → (earliest l wrong (indices m (suc i)) ≡ Some p → First l wrong (suc i) (suc i + m) p) → First l wrong i (i + suc m) p
     go true q x later = record { index = i; within = omega arith; at_fault = is_true (wrong i) q; none_earlier = λ j h k. absurd (omega arith); its_place = cc }
     go false q x later =
         let w = later x in
@@ -98,7 +98,7 @@ module _ (s : List ℕ) (l : Layout) (is : IsObject s l) where
           some_make (touch t) w.among (touch_complete t w.other (ordered_read t o) (ordered_read w.other (in_order w.other w.among)) w.unequal w.point)
 
     -- no fault
-    only_ends : touching s l others ≡ Nothing → OnlyEndsShared (segments s l) others
+    only_ends : touching s l others ≡ None → OnlyEndsShared (segments s l) others
     unfolding touching
     only_ends e t u m k n w =
         subst T (none_of touches (some_left touches ∙ refute _ none) m)
@@ -109,7 +109,7 @@ module _ (s : List ℕ) (l : Layout) (is : IsObject s l) where
             let w = some_find (is_touching s l others) (elements l) t in
             subst T (none_wrong l (is_touching s l others) e w.0 (in_element l w.0 w.1)) w.2
 
-    no_touch : OnlyEndsShared (segments s l) others → touching s l others ≡ Nothing
+    no_touch : OnlyEndsShared (segments s l) others → touching s l others ≡ None
     unfolding touching
     no_touch apart = no_fault l (is_touching s l others) (λ i h. refute _ (λ t. none i h t))
       where
@@ -120,11 +120,11 @@ module _ (s : List ℕ) (l : Layout) (is : IsObject s l) where
             apart w.0 u.other w.1 u.among u.unequal u.point
 
     -- `touching` finds no fault exactly if the segments and the others share only common ends
-    pub no_fault_exactly : (touching s l others ≡ Nothing) ↔ OnlyEndsShared (segments s l) others
+    pub no_fault_exactly : (touching s l others ≡ None) ↔ OnlyEndsShared (segments s l) others
     no_fault_exactly = (only_ends, no_touch)
 
     -- where 10 and 11 find no fault, the left halfsegment of a record at fault is one, and comes no later
-    module _ (order : out_of_order s l ≡ Nothing) (paired : unpaired s l ≡ Nothing) where
+    module _ (order : out_of_order s l ≡ None) (paired : unpaired s l ≡ None) where
       record LeftFault (i : ℕ) : Type 0 where
         index : ℕ
         no_later : index ≤ i
@@ -154,7 +154,7 @@ module _ (s : List ℕ) (l : Layout) (is : IsObject s l) where
                 touching_one = touching_by p.index p.there (p.other_side ∙ ap not e) p.same_segment;
               }
 
-      earliest_at : (p : ℕ) → touching s l others ≡ At p → EarliestAtFault s l others p
+      earliest_at : (p : ℕ) → touching s l others ≡ Some p → EarliestAtFault s l others p
       unfolding touching
       earliest_at p e = record { index = i; at_fault = fault; none_earlier = none; its_place = w.its_place }
         where
@@ -183,24 +183,24 @@ module _ (s : List ℕ) (l : Layout) (is : IsObject s l) where
               subst T (w.none_earlier k.index (omega arith) (omega (arith, k.no_later))) k.touching_one
 
       fault_means : (f : Fault) → touching s l others ≡ f → FaultMeans s l others f
-      fault_means Nothing e = only_ends e
-      fault_means (At p) e = earliest_at p e
+      fault_means None e = only_ends e
+      fault_means (Some p) e = earliest_at p e
 
-      not_nothing_at : (i : ℕ) → AtFault s l others i → touching s l others ≡ Nothing → ⊥
+      not_nothing_at : (i : ℕ) → AtFault s l others i → touching s l others ≡ None → ⊥
       unfolding touching
       not_nothing_at i f e =
           let k = left_fault i f in
           subst T (none_wrong l (is_touching s l others) e k.index k.within) k.touching_one
 
       fault_is : (f : Fault) → FaultMeans s l others f → touching s l others ≡ f
-      fault_is Nothing m = no_touch m
-      fault_is (At p) m = go (touching s l others) refl
+      fault_is None m = no_touch m
+      fault_is (Some p) m = go (touching s l others) refl
         where
-          go : (f : Fault) → touching s l others ≡ f → touching s l others ≡ At p
-          go Nothing e = absurd (not_nothing_at m.index m.at_fault e)
-          go (At q) e =
+          go : (f : Fault) → touching s l others ≡ f → touching s l others ≡ Some p
+          go None e = absurd (not_nothing_at m.index m.at_fault e)
+          go (Some q) e =
               let w = earliest_at q e in
-              e ∙ ap At (sym w.its_place ∙ ap (place l) (same w) ∙ m.its_place)
+              e ∙ ap Some (sym w.its_place ∙ ap (place l) (same w) ∙ m.its_place)
             where
               same : (w : EarliestAtFault s l others q) → w.index ≡ m.index
               same w =

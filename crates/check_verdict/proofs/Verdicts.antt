@@ -1,5 +1,8 @@
 -- Verdicts: the conditions of a list one after the other by their numbers, and how the check of a question is put together from the verdicts of its
 -- parts, whatever conditions of its own it has.
+use Rattle.std.specs.Prelude.{Err, None, Ok, Some}
+use Rattle.scene.specs.Read.{Fault}
+use Rattle.check_verdict.specs.Refusals.{Verdict}
 use Prim.Native.Nat.{ℕ, ◌+◌, ◌<◌, ◌≤◌}
 use mathlib.Core.Path.{◌≡◌, refl, sym, ap, ap₂, ◌∙◌}
 use mathlib.Core.Bool.{Bool, true, false}
@@ -7,16 +10,10 @@ use mathlib.Core.List.{List, [], ◌∷◌, ◌++◌, map}
 use Rattle.scene.specs.declared.Layout.{Layout}
 use Rattle.scene.specs.declared.Scene.{Scene}
 use Rattle.scene.specs.declared.Refusal.{Refusal}
-use Rattle.scene.specs.declared.Fault.{Fault}
-use Rattle.scene.specs.declared.Fault.TheVariants.{At, Nothing}
-use Rattle.scene.specs.declared.CheckedObject.{CheckedObject}
-use Rattle.scene.specs.declared.CheckedScene.{CheckedScene}
 use Rattle.scene.specs.Read.{Condition, condition, decide, judge, given_first, given_second, read_scene, read_alone, IsObject, IsScene}
 use Rattle.scene.specs.Conditions.{out_of_order, unpaired, touching_itself, odd_end, wrong_ia, or_else, touching_across, Rule, conditions, scene_rules, checked_scene, check_scene_by, checked_object, check_object, object_rules}
 use native.Mathlib.Omega.{arith}
 use Rattle.sweep_laws.specs.Swept.{object_of, InOrder, Passes}
-use Rattle.check_verdict.specs.declared.Verdict.{Verdict}
-use Rattle.check_verdict.specs.declared.Verdict.TheVariants.{Sound, Refused}
 use Rattle.check_conditions.specs.Faults.{fault_under}
 use Rattle.check_verdict.specs.Refusals.{scene_fault_under, verdict, settle, object_verdict, geometry_rules, geometry_verdict}
 use Rattle.scene.proofs.Taken.{both_of_given, given_of_both}
@@ -32,22 +29,22 @@ module _ (fault : ℕ → Fault) where
   numbered i n = map (λ (m : ℕ). condition m (fault m)) (between i n)
 
   module _ (i n : ℕ) where
-    pub refuses : i < n → (p : ℕ) → fault i ≡ At p → verdict (numbered i n) ≡ Refused (record { number = i; place = p })
+    pub refuses : i < n → (p : ℕ) → fault i ≡ Some p → verdict (numbered i n) ≡ Err (record { number = i; place = p })
     refuses h p e = rw (between_next i n h, e)
 
-    pub passes : i < n → fault i ≡ Nothing → verdict (numbered i n) ≡ verdict (numbered (i + 1) n)
+    pub passes : i < n → fault i ≡ None → verdict (numbered i n) ≡ verdict (numbered (i + 1) n)
     passes h e = rw (between_next i n h, e)
 
-    pub sound : n ≤ i → verdict (numbered i n) ≡ Sound
+    pub sound : n ≤ i → verdict (numbered i n) ≡ (Ok tt)
     sound h = rw (between_none i n h)
 
 -- equal faults refuse alike, and where there is none what follows decides
-decide_alike : (n : ℕ) (f g : Fault) (a b : Verdict) → f ≡ g → (f ≡ Nothing → a ≡ b) → decide Refused n f a ≡ decide Refused n g b
-decide_alike n f g a b e then = go f refl ∙ ap (λ (h : Fault). decide Refused n h b) e
+decide_alike : (n : ℕ) (f g : Fault) (a b : Verdict) → f ≡ g → (f ≡ None → a ≡ b) → decide Err n f a ≡ decide Err n g b
+decide_alike n f g a b e then = go f refl ∙ ap (λ (h : Fault). decide Err n h b) e
   where
-    go : (h : Fault) → f ≡ h → decide Refused n h a ≡ decide Refused n h b
-    go (At p) q = refl
-    go Nothing q = then q
+    go : (h : Fault) → f ≡ h → decide Err n h a ≡ decide Err n h b
+    go (Some p) q = refl
+    go None q = then q
 
 -- each test rests on the conditions before it
 pub object_numbered : (s : List ℕ) (l : Layout) → IsObject s l → object_verdict s l ≡ verdict (numbered (fault_under s l l) 10 15)
@@ -74,7 +71,7 @@ geometry_numbered s sc is_first_lem is_second =
 
 -- ---- 10 to 15 refuse no scene in which they find no fault
 
-pub passes_sound : (s : List ℕ) (sc : Scene) → InOrder s sc → Passes s sc → geometry_verdict s sc ≡ Sound
+pub passes_sound : (s : List ℕ) (sc : Scene) → InOrder s sc → Passes s sc → geometry_verdict s sc ≡ (Ok tt)
 unfolding geometry_verdict
 passes_sound s sc order p =
     let o = given out_of_order order in
@@ -84,18 +81,18 @@ passes_sound s sc order p =
     let d = given wrong_ia p.right_ia in
     rw (o.0, o.1, a.0, a.1, b.0, b.1, c.0, c.1, d.0, d.1, p.across)
   where
-    given : (f : List ℕ → Layout → Fault) → ((first : Bool) → f s (object_of s sc first) ≡ Nothing) → (f s (given_first sc) ≡ Nothing) × (f s (given_second sc) ≡ Nothing)
-    given f q = given_of_both (λ (l : Layout). f s l ≡ Nothing) sc (q true) (q false)
+    given : (f : List ℕ → Layout → Fault) → ((first : Bool) → f s (object_of s sc first) ≡ None) → (f s (given_first sc) ≡ None) × (f s (given_second sc) ≡ None)
+    given f q = given_of_both (λ (l : Layout). f s l ≡ None) sc (q true) (q false)
 
 -- and in one that they do not refuse they find none
-refuses_not : {r : Refusal} → Refused r ≡ Sound → ⊥
+refuses_not : {r : Refusal} → Err r ≡ (Ok tt) → ⊥
 refuses_not e = let z : ◌≡◌ {A = ℕ} 0 1 = cc in omega arith
 
-sound_first : (n : ℕ) (f : Fault) (rest : Verdict) → decide Refused n f rest ≡ Sound → (f ≡ Nothing) × (rest ≡ Sound)
-sound_first n (At p) rest e = absurd (refuses_not e)
-sound_first n Nothing rest e = (refl, e)
+sound_first : (n : ℕ) (f : Fault) (rest : Verdict) → decide Err n f rest ≡ (Ok tt) → (f ≡ None) × (rest ≡ (Ok tt))
+sound_first n (Some p) rest e = absurd (refuses_not e)
+sound_first n None rest e = (refl, e)
 
-pub sound_passes : (s : List ℕ) (sc : Scene) → geometry_verdict s sc ≡ Sound → InOrder s sc × Passes s sc
+pub sound_passes : (s : List ℕ) (sc : Scene) → geometry_verdict s sc ≡ (Ok tt) → InOrder s sc × Passes s sc
 unfolding geometry_verdict
 sound_passes s sc e =
     let a = sound_first 10 (either out_of_order) _ e in
@@ -109,20 +106,20 @@ sound_passes s sc e =
         apart = of_both_lem touching_itself c.0;
         even = of_both_lem odd_end d.0;
         right_ia = of_both_lem wrong_ia i.0;
-        across = (sound_first 15 (touching_across s sc) Sound i.1).0;
+        across = (sound_first 15 (touching_across s sc) (Ok tt) i.1).0;
       },
     )
   where
     either : (List ℕ → Layout → Fault) → Fault
     either f = or_else (f s (given_first sc)) (f s (given_second sc))
 
-    of_both_lem : (f : List ℕ → Layout → Fault) → either f ≡ Nothing → (first : Bool) → f s (object_of s sc first) ≡ Nothing
+    of_both_lem : (f : List ℕ → Layout → Fault) → either f ≡ None → (first : Bool) → f s (object_of s sc first) ≡ None
     of_both_lem f q first =
         let n = neither (f s (given_first sc)) (f s (given_second sc)) q in
-        let w = both_of_given (λ (l : Layout). f s l ≡ Nothing) sc n.0 n.1 in
+        let w = both_of_given (λ (l : Layout). f s l ≡ None) sc n.0 n.1 in
         go first w.0 w.1
       where
-        go : (first : Bool) → f s sc.f ≡ Nothing → f s sc.g ≡ Nothing → f s (object_of s sc first) ≡ Nothing
+        go : (first : Bool) → f s sc.f ≡ None → f s sc.g ≡ None → f s (object_of s sc first) ≡ None
         go true x y = x
         go false x y = y
 
@@ -134,9 +131,9 @@ module _ {A : Type 0} (refuse : Refusal → A) (taken : A) where
   judge_append (c ∷ cs) ds = go c.fault (judge_append cs ds)
     where
       go : (f : Fault) → judge refuse taken (cs ++ ds) ≡ settle refuse (verdict cs) (judge refuse taken ds)
-          → decide refuse c.number f (judge refuse taken (cs ++ ds)) ≡ settle refuse (decide Refused c.number f (verdict cs)) (judge refuse taken ds)
-      go (At p) e = refl
-      go Nothing e = e
+          → decide refuse c.number f (judge refuse taken (cs ++ ds)) ≡ settle refuse (decide Err c.number f (verdict cs)) (judge refuse taken ds)
+      go (Some p) e = refl
+      go None e = e
 
   module _ {B : Type 0} (s : List ℕ) (b : B) where
     conditions_append : (rules more : List (Rule B)) → conditions (rules ++ more) s b ≡ conditions rules s b ++ conditions more s b
@@ -149,26 +146,26 @@ module _ {A : Type 0} (refuse : Refusal → A) (taken : A) where
 
 -- ---- the check of a question: 1 to 7, its nine, 10 to 15, and its later ones
 
-pub check_refused : (rules : List (Rule Scene)) (s : List ℕ) (r : Refusal) → read_scene s ≡ CheckedScene.Refused r → check_scene_by rules s ≡ CheckedScene.Refused r
+pub check_refused : (rules : List (Rule Scene)) (s : List ℕ) (r : Refusal) → read_scene s ≡ Err r → check_scene_by rules s ≡ Err r
 unfolding check_scene_by
 check_refused rules s r e = rw e
 
 pub check_read : (nine later : List (Rule Scene)) (s : List ℕ) (sc : Scene) → IsScene s sc
     → check_scene_by (scene_rules nine later) s
-    ≡ settle CheckedScene.Refused (verdict (conditions nine s sc))
-    (settle CheckedScene.Refused (geometry_verdict s sc) (judge CheckedScene.Refused (CheckedScene.Taken sc) (conditions later s sc)))
+    ≡ settle Err (verdict (conditions nine s sc))
+    (settle Err (geometry_verdict s sc) (judge Err (Ok sc) (conditions later s sc)))
 unfolding check_scene_by geometry_verdict
 check_read nine later s sc e =
     ap (checked_scene (scene_rules nine later) s) e
-    ∙ judge_rules CheckedScene.Refused (CheckedScene.Taken sc) s sc nine (geometry_rules ++ later)
-    ∙ ap (settle CheckedScene.Refused (verdict (conditions nine s sc))) (judge_rules CheckedScene.Refused (CheckedScene.Taken sc) s sc geometry_rules later)
+    ∙ judge_rules Err (Ok sc) s sc nine (geometry_rules ++ later)
+    ∙ ap (settle Err (verdict (conditions nine s sc))) (judge_rules Err (Ok sc) s sc geometry_rules later)
 
 -- and of one object
-pub object_refused : (s : List ℕ) (r : Refusal) → read_alone s ≡ CheckedObject.Refused r → check_object s ≡ CheckedObject.Refused r
+pub object_refused : (s : List ℕ) (r : Refusal) → read_alone s ≡ Err r → check_object s ≡ Err r
 unfolding check_object
 object_refused s r e = rw e
 
-pub object_read : (s : List ℕ) (l : Layout) → read_alone s ≡ CheckedObject.Taken l
-    → check_object s ≡ settle CheckedObject.Refused (object_verdict s l) (CheckedObject.Taken l)
+pub object_read : (s : List ℕ) (l : Layout) → read_alone s ≡ Ok l
+    → check_object s ≡ settle Err (object_verdict s l) (Ok l)
 unfolding check_object object_verdict
-object_read s l e = ap (checked_object s) e ∙ judge_append CheckedObject.Refused (CheckedObject.Taken l) (conditions object_rules s l) []
+object_read s l e = ap (checked_object s) e ∙ judge_append Err (Ok l) (conditions object_rules s l) []

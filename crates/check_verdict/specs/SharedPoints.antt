@@ -1,15 +1,13 @@
 -- The conditions 12 and 15 in points of the plane: what the verdict on bytes says of the points that segments share. `SharePoint` is the document's
 -- sentence, of any point with fraction coordinates; the numbers and places are those of its table and of the paragraph below the table.
+use Rattle.std.specs.Prelude.{Err, None, Ok, Some}
+use Rattle.scene.specs.Read.{CheckedObject, CheckedScene, Fault}
 use Rattle.std.specs.Prelude.{ℕ, ◌<◌, ◌≡◌, ◌⊎◌, List, T}
 use Rattle.whole.specs.Count.{◌∈◌}
 use Rattle.plane.specs.declared.Segment.{Segment}
 use Rattle.plane.specs.Plane.{SharePoint}
 use Rattle.scene.specs.declared.Layout.{Layout}
 use Rattle.scene.specs.declared.Scene.{Scene}
-use Rattle.scene.specs.declared.Fault.{Fault}
-use Rattle.scene.specs.declared.Fault.TheVariants.{At, Nothing}
-use Rattle.scene.specs.declared.CheckedObject.{CheckedObject}
-use Rattle.scene.specs.declared.CheckedScene.{CheckedScene}
 use Rattle.scene.specs.Read.{place, given_first, given_second, read_alone, IsScene}
 use Rattle.scene.specs.Conditions.{has_segments, half, segments}
 
@@ -44,8 +42,8 @@ module _ (s : List ℕ) (l : Layout) (others : List Segment) where
 
   -- "the earliest place at fault, if any"
   abbrev pub FaultMeans : Fault → Type 0
-  FaultMeans Nothing = OnlyEndsShared (segments s l) others
-  FaultMeans (At p) = EarliestAtFault p
+  FaultMeans None = OnlyEndsShared (segments s l) others
+  FaultMeans (Some p) = EarliestAtFault p
 
 -- ---- 12: "two segments of one object share a point that is not an end of both"
 
@@ -83,8 +81,8 @@ pub record RefusalSays (condition : ℕ) (Earliest : ℕ → Type 0) (None : Typ
 
 -- Of a scene's bytes. "Numbers 1 to 7 are found record by record", and under any other number both objects were read.
 abbrev pub CheckedMeans : List ℕ → CheckedScene → Type 0
-CheckedMeans s (CheckedScene.Taken sc) = IsScene s sc × OnlyEndsInEach s sc × OnlyEndsAcross s sc
-CheckedMeans s (CheckedScene.Refused r) =
+CheckedMeans s (Ok sc) = IsScene s sc × OnlyEndsInEach s sc × OnlyEndsAcross s sc
+CheckedMeans s (Err r) =
     7 < r.number
     → (sc : Scene) × IsScene s sc
     × RefusalSays 12 (EarliestInEither s sc) (OnlyEndsInEach s sc) r.number r.place
@@ -92,7 +90,7 @@ CheckedMeans s (CheckedScene.Refused r) =
 
 -- Of one object's bytes: "A call on one object takes 1 to 7 and 10 to 14 over its bytes alone"
 abbrev pub CheckedObjectMeans : List ℕ → CheckedObject → Type 0
-CheckedObjectMeans s (CheckedObject.Taken l) = (read_alone s ≡ CheckedObject.Taken l) × OnlyEndsIn s l
-CheckedObjectMeans s (CheckedObject.Refused r) =
+CheckedObjectMeans s (Ok l) = (read_alone s ≡ Ok l) × OnlyEndsIn s l
+CheckedObjectMeans s (Err r) =
     7 < r.number
-    → (l : Layout) × (read_alone s ≡ CheckedObject.Taken l) × RefusalSays 12 (EarliestIn s l) (OnlyEndsIn s l) r.number r.place
+    → (l : Layout) × (read_alone s ≡ Ok l) × RefusalSays 12 (EarliestIn s l) (OnlyEndsIn s l) r.number r.place

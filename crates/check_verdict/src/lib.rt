@@ -74,7 +74,7 @@ fn plain_verdict(s: &[u8], scene: Scene) -> Verdict
 // Is a scene sound, by its order and by the sweep, which is fast? If so, each element is noted.
 fn is_swept(s: &[u8], scene: Scene, notes: &mut [u8]) -> bool
     requires { IsScene s.now scene × (2048 ≤ length notes.old) }
-    ensures { (length notes.new ≡ length notes.old) × Decides (geometry_verdict s.now scene ≡ Verdict.Sound) result × (T result → Noted s.now scene notes.new) }
+    ensures { (length notes.new ≡ length notes.old) × Decides (geometry_verdict s.now scene ≡ (Ok tt)) result × (T result → Noted s.now scene notes.new) }
 {
     let f = scene.f;
     let g = scene.g;
@@ -90,7 +90,7 @@ fn is_swept(s: &[u8], scene: Scene, notes: &mut [u8]) -> bool
 // The first refusal under 10 to 15 of a scene: none, by the sweep, which leaves its notes; else condition by condition, which says where the fault lies.
 pub fn noted_verdict(s: &[u8], scene: Scene, notes: &mut [u8]) -> Verdict
     requires { IsScene s.now scene × (2048 ≤ length notes.old) }
-    ensures { (length notes.new ≡ length notes.old) × (result ≡ geometry_verdict s.now scene) × (result ≡ Verdict.Sound → Noted s.now scene notes.new) }
+    ensures { (length notes.new ≡ length notes.old) × (result ≡ geometry_verdict s.now scene) × (result ≡ (Ok tt) → Noted s.now scene notes.new) }
 {
     if is_swept(s, scene, notes) {
         return Verdict::Sound;

@@ -3,7 +3,6 @@
 #![tactic(auto)]
 
 ghost use Rattle.std.specs.Prelude.{◌≡◌, ◌<◌, ◌≤◌, length};
-ghost use Rattle.scene.specs.declared.CheckedScene.{CheckedScene as Checked};
 ghost use Rattle.scene.specs.Read.{IsObject};
 ghost use Rattle.scene.specs.Conditions.{ia, check_scene};
 ghost use Rattle.flags_classes.specs.Classed.{classes_of_f, classes_of_g};
@@ -105,7 +104,7 @@ pub fn named(marks: u16) -> Classes
 
 // The classes of both objects of a scene that is taken.
 pub fn classes_of(s: &[u8], scene: Scene, notes: &[u8]) -> ClassesOfBoth
-    requires { (check_scene s.now ≡ Checked.Taken scene) × (2048 ≤ length notes.now) }
+    requires { (check_scene s.now ≡ Ok scene) × (2048 ≤ length notes.now) }
     ensures { (result.f ≡ classes_of_f s.now scene notes.now) × (result.g ≡ classes_of_g s.now scene notes.now) }
 {
     let f = scene.f;

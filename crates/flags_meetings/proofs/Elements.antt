@@ -1,4 +1,5 @@
 -- The elements of an object that has been read and is in order: their keys rise.
+use Rattle.std.specs.Prelude.{None}
 use Prim.Native.Nat.{ℕ, ◌<◌, ◌≤◌}
 use native.Mathlib.Nat.{le_of_eq, eq-or-lt_of_le}
 use native.Mathlib.Omega.{arith}
@@ -13,7 +14,6 @@ use Rattle.plane.proofs.Order.{before_irreflexive, before_trans}
 use Rattle.scene.specs.declared.Shape.{Shape}
 use Rattle.scene.specs.declared.Shape.TheVariants.{Points, Line, Region}
 use Rattle.scene.specs.declared.Layout.{Layout}
-use Rattle.scene.specs.declared.Fault.TheVariants.{Nothing}
 use Rattle.scene.specs.Read.{point_at, place, IsObject}
 use Rattle.scene.specs.Conditions.{has_segments, half, out_of_order}
 use Rattle.scene_segments.proofs.Indices.{halves_rise, points_rise}
@@ -23,7 +23,7 @@ use Rattle.scene_keys.proofs.Keys.{key_below, key_less}
 use Rattle.scene_keys.proofs.Elements.{point_in_range}
 use Rattle.flags_meetings.proofs.Runs.{InOrder}
 
-module _ (s : List ℕ) (l : Layout) (is : IsObject s l) (order : out_of_order s l ≡ Nothing) where
+module _ (s : List ℕ) (l : Layout) (is : IsObject s l) (order : out_of_order s l ≡ None) where
   -- 10: no point comes before that of an earlier element
   no_fall : (i j : ℕ) → i < j → j < l.count → T (before (element_point s l j) (element_point s l i)) → ⊥
   no_fall i j h k = go l.shape refl

@@ -1,5 +1,6 @@
 -- What the walk keeps from point to point: the elements that are passed have lower keys than those that are left, so a run of F and one of G are all
 -- elements that have a point, and their lengths are its degrees.
+use Rattle.std.specs.Prelude.{None}
 use Prim.Native.Nat.{ℕ, ◌+◌, ◌-◌, ◌<◌, ◌≤◌, min}
 use native.Mathlib.Nat.{eq-or-lt_of_le}
 use native.Mathlib.Omega.{arith}
@@ -17,7 +18,6 @@ use Rattle.plane.specs.declared.Point.{Point}
 use Rattle.plane.specs.Plane.{in_range, is_same_point}
 use Rattle.scene.specs.declared.Layout.{Layout}
 use Rattle.scene.specs.declared.Scene.{Scene}
-use Rattle.scene.specs.declared.Fault.TheVariants.{Nothing}
 use Rattle.scene.specs.Read.{IsObject}
 use Rattle.scene.specs.Conditions.{indices, elements, out_of_order}
 use Rattle.scene_segments.proofs.Indices.{in_element}
@@ -59,7 +59,7 @@ module _ (s : List ℕ) (l : Layout) (is : IsObject s l) where
       count_same (λ m. is_same_point (element_point s l m) v) (λ m. eqb (keys s l m) (key v)) (elements l)
       (λ m w. same_key (element_point s l m) v (point_in_range s l is m (in_element l m w)) h)
 
-  module _ (order : out_of_order s l ≡ Nothing) where
+  module _ (order : out_of_order s l ≡ None) where
     rising : InOrder l.count (keys s l)
     rising = in_order s l is order
 
@@ -154,7 +154,7 @@ module _ (s : List ℕ) (sc : Scene) (notes : List ℕ) where
     all = ap₂ (λ i j. bit_or (left_of_f i) (left_of_g j)) a b ∙ ap₂ (λ l m. bit_or (gather value_of_f l) (gather value_of_g m)) (sym (all_between sc.f.count)) (sym (all_between sc.g.count));
   }
 
-  module _ (is_f : IsObject s sc.f) (is_g : IsObject s sc.g) (order-f : out_of_order s sc.f ≡ Nothing) (order-g : out_of_order s sc.g ≡ Nothing)
+  module _ (is_f : IsObject s sc.f) (is_g : IsObject s sc.g) (order-f : out_of_order s sc.f ≡ None) (order-g : out_of_order s sc.g ≡ None)
       {i j k : ℕ} {sofar : ℕ} (w : Walking i j k sofar) where
     -- at the end
     pub walked : top ≤ k → named sofar ≡ meetings s sc notes

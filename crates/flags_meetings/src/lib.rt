@@ -3,7 +3,6 @@
 
 ghost use Rattle.std.specs.Prelude.{◌≡◌, ◌<◌, ◌≤◌, min, length};
 ghost use Rattle.plane.specs.Plane.{is_boundary};
-ghost use Rattle.scene.specs.declared.Fault.TheVariants.{Nothing};
 ghost use Rattle.scene.specs.Read.{size, IsObject};
 ghost use Rattle.scene.specs.Conditions.{out_of_order};
 ghost use Rattle.flags_meetings.specs.Met.{meetings};
@@ -54,7 +53,7 @@ pub struct Cursor {
     pub key: u64,
 }
 
-// At the first element.
+// Some the first element.
 fn first(s: &[u8], l: Layout) -> Cursor
     requires { IsObject s.now l }
     ensures { Reached s.now l result × (result.index ≡ 0) }
@@ -165,7 +164,7 @@ pub fn named(marks: u16) -> Meetings
 }
 
 pub fn meetings_of(s: &[u8], scene: Scene, notes: &[u8]) -> Meetings
-    requires { IsObject s.now scene.f × IsObject s.now scene.g × (out_of_order s.now scene.f ≡ Nothing) × (out_of_order s.now scene.g ≡ Nothing) × (2048 ≤ length notes.now) }
+    requires { IsObject s.now scene.f × IsObject s.now scene.g × (out_of_order s.now scene.f ≡ None) × (out_of_order s.now scene.g ≡ None) × (2048 ≤ length notes.now) }
     ensures { result ≡ meetings s.now scene notes.now }
 {
     let f = scene.f;

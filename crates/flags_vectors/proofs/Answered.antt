@@ -1,4 +1,7 @@
 -- The answer of the vectors question by the verdicts that lead to it; and what a scene that is taken gives the walks.
+use Rattle.std.specs.Prelude.{Err, Ok}
+use Rattle.scene.specs.Read.{CheckedScene}
+use Rattle.flags_vectors.specs.Vectors.{SceneAnswer}
 use Prim.Native.Nat.{ℕ}
 use native.Mathlib.Omega.{arith}
 use mathlib.Core.Path.{◌≡◌, refl, sym, ap, ◌∙◌}
@@ -9,15 +12,12 @@ use Rattle.whole.proofs.Logic.{is_true, or_left, or_right}
 use Rattle.scene.specs.declared.Shape.{Shape}
 use Rattle.scene.specs.declared.Scene.{Scene}
 use Rattle.scene.specs.declared.Refusal.{Refusal}
-use Rattle.scene.specs.declared.CheckedScene.{CheckedScene}
 use Rattle.scene.specs.Read.{read_scene, IsScene}
 use Rattle.scene.specs.Conditions.{rule, scene_rules, check_scene_by, check_scene}
-use Rattle.check_verdict.specs.declared.Verdict.TheVariants.{Sound, Refused}
 use Rattle.check_verdict.specs.Refusals.{geometry_verdict}
 use Rattle.check_verdict.proofs.Laws.{SoundScene, sound_scene}
 use Rattle.check_verdict.proofs.Verdicts.{check_refused, check_read}
 use Rattle.flags_vectors.specs.declared.Vectors.{Vectors}
-use Rattle.flags_vectors.specs.declared.SceneAnswer.{SceneAnswer}
 use Rattle.sweep_laws.specs.Noted.{Noted}
 use Rattle.flags.specs.Flags.{pack}
 use Rattle.flags_meetings.specs.declared.Meetings.{Meetings}
@@ -36,7 +36,7 @@ use Rattle.flags_vectors.specs.Vectors.{scene_vectors, vectors_in, stray_in, str
 
 -- ---- a scene that is taken
 
-pub accepted : (s : List ℕ) (sc : Scene) → check_scene s ≡ CheckedScene.Taken sc → SoundScene s sc
+pub accepted : (s : List ℕ) (sc : Scene) → check_scene s ≡ Ok sc → SoundScene s sc
 unfolding check_scene
 accepted s sc e = sound_scene [] [] s sc e
 
@@ -67,28 +67,28 @@ module _ {s : List ℕ} {sc : Scene} {notes : List ℕ} (o : SoundScene s sc) (n
 
 -- ---- the answer
 
-pub unread : (s : List ℕ) (wanted : Wanted) (r : Refusal) → read_scene s ≡ CheckedScene.Refused r → SceneAnswer.Refused r ≡ answer_of s wanted
+pub unread : (s : List ℕ) (wanted : Wanted) (r : Refusal) → read_scene s ≡ Err r → Err r ≡ answer_of s wanted
 unfolding answer_of
 unread s wanted r e = rw (check_refused (vectors_rules wanted) s r e)
 
 module _ (s : List ℕ) (sc : Scene) (is : IsScene s sc) where
-  pub sound : geometry_verdict s sc ≡ Sound → check_scene s ≡ CheckedScene.Taken sc
+  pub sound : geometry_verdict s sc ≡ (Ok tt) → check_scene s ≡ Ok sc
   unfolding check_scene
   sound g = rw (check_read [] [] s sc is, g)
 
   module _ (wanted : Wanted) where
-    pub stray : stray_in sc (masks_for wanted sc) ≡ true → SceneAnswer.Refused (record { number = 9; place = 0 }) ≡ answer_of s wanted
+    pub stray : stray_in sc (masks_for wanted sc) ≡ true → Err (record { number = 9; place = 0 }) ≡ answer_of s wanted
     unfolding answer_of
     stray e = rw (check_read (rule 9 (stray_wanted wanted) ∷ []) [] s sc is, e)
 
     module _ (tidy : stray_in sc (masks_for wanted sc) ≡ false) where
-      pub at_fault : (r : Refusal) → geometry_verdict s sc ≡ Refused r → SceneAnswer.Refused r ≡ answer_of s wanted
+      pub at_fault : (r : Refusal) → geometry_verdict s sc ≡ Err r → Err r ≡ answer_of s wanted
       unfolding answer_of
       at_fault r g = rw (check_read (rule 9 (stray_wanted wanted) ∷ []) [] s sc is, tidy, g)
 
-      pub taken : geometry_verdict s sc ≡ Sound → {v : Vectors} → v ≡ vectors_in s sc wanted → SceneAnswer.Taken sc v ≡ answer_of s wanted
+      pub taken : geometry_verdict s sc ≡ (Ok tt) → {v : Vectors} → v ≡ vectors_in s sc wanted → Ok sc v ≡ answer_of s wanted
       unfolding answer_of
-      taken g e = ap (SceneAnswer.Taken sc) e ∙ rw (check_read (rule 9 (stray_wanted wanted) ∷ []) [] s sc is, tidy, g)
+      taken g e = ap (Ok sc) e ∙ rw (check_read (rule 9 (stray_wanted wanted) ∷ []) [] s sc is, tidy, g)
 
 -- ---- where 9 finds nothing, whatever the scene
 
@@ -103,27 +103,27 @@ module _ (wanted : Wanted) (tidy : (sc : Scene) → stray_in sc (masks_for wante
   never_nine = go (read_scene s) refl
     where
       go : (k : CheckedScene) → read_scene s ≡ k → check_vectors s wanted ≡ check_scene_by (scene_rules [] []) s
-      go (CheckedScene.Refused r) e = check_refused (vectors_rules wanted) s r e ∙ sym (check_refused (scene_rules [] []) s r e)
-      go (CheckedScene.Taken sc) e = rw (check_read (rule 9 (stray_wanted wanted) ∷ []) [] s sc e, check_read [] [] s sc e, tidy sc)
+      go (Err r) e = check_refused (vectors_rules wanted) s r e ∙ sym (check_refused (scene_rules [] []) s r e)
+      go (Ok sc) e = rw (check_read (rule 9 (stray_wanted wanted) ∷ []) [] s sc e, check_read [] [] s sc e, tidy sc)
 
   module _ {a : SceneAnswer} (is : a ≡ answer_of s wanted) where
     by_check : a ≡ answered s wanted (check_scene s)
     unfolding answer_of
     by_check = is ∙ ap (answered s wanted) never_nine
 
-    pub was_refused : (r : Refusal) → a ≡ SceneAnswer.Refused r → check_scene s ≡ CheckedScene.Refused r
+    pub was_refused : (r : Refusal) → a ≡ Err r → check_scene s ≡ Err r
     was_refused r e = go (check_scene s) (sym by_check ∙ e)
       where
-        go : (k : CheckedScene) → answered s wanted k ≡ SceneAnswer.Refused r → k ≡ CheckedScene.Refused r
-        go (CheckedScene.Refused q) h = let x : q ≡ r = cc in ap CheckedScene.Refused x
-        go (CheckedScene.Taken sc) h = absurd (let x : ◌≡◌ {A = ℕ} 0 1 = cc in omega arith)
+        go : (k : CheckedScene) → answered s wanted k ≡ Err r → k ≡ Err r
+        go (Err q) h = let x : q ≡ r = cc in ap Err x
+        go (Ok sc) h = absurd (let x : ◌≡◌ {A = ℕ} 0 1 = cc in omega arith)
 
-    pub was_taken : (sc : Scene) (v : Vectors) → a ≡ SceneAnswer.Taken sc v → (check_scene s ≡ CheckedScene.Taken sc) × (v ≡ vectors_in s sc wanted)
+    pub was_taken : (sc : Scene) (v : Vectors) → a ≡ Ok sc v → (check_scene s ≡ Ok sc) × (v ≡ vectors_in s sc wanted)
     was_taken sc v e = go (check_scene s) (sym by_check ∙ e)
       where
-        go : (k : CheckedScene) → answered s wanted k ≡ SceneAnswer.Taken sc v → (k ≡ CheckedScene.Taken sc) × (v ≡ vectors_in s sc wanted)
-        go (CheckedScene.Refused q) h = absurd (let x : ◌≡◌ {A = ℕ} 0 1 = cc in omega arith)
-        go (CheckedScene.Taken k) h =
+        go : (k : CheckedScene) → answered s wanted k ≡ Ok sc v → (k ≡ Ok sc) × (v ≡ vectors_in s sc wanted)
+        go (Err q) h = absurd (let x : ◌≡◌ {A = ℕ} 0 1 = cc in omega arith)
+        go (Ok k) h =
             let x : k ≡ sc = cc in
             let y : vectors_in s k wanted ≡ v = cc in
-            (ap CheckedScene.Taken x, sym y ∙ ap (λ (k : Scene). vectors_in s k wanted) x)
+            (ap Ok x, sym y ∙ ap (λ (k : Scene). vectors_in s k wanted) x)

@@ -1,17 +1,18 @@
 -- Demand 2 over bytes: no flag of the vectors question's answer is wrong, and what its verdict says of the points that segments share; and that the flags of
 -- two masks are a part of those with all flags wanted.
+use Rattle.std.specs.Prelude.{Err, Ok}
+use Rattle.scene.specs.Read.{CheckedScene}
+use Rattle.check_verdict.specs.Refusals.{Verdict}
+use Rattle.flags_vectors.specs.Vectors.{VectorsAnswer}
 use Prim.Native.Nat.{ℕ}
 use native.Mathlib.Omega.{arith}
 use mathlib.Core.Path.{◌≡◌, refl, sym, subst, ◌∙◌}
 use mathlib.Core.Bool.{Bool, true, false, cond}
 use mathlib.Core.List.{List, [], ◌∷◌}
 use Rattle.scene.specs.declared.Scene.{Scene}
-use Rattle.scene.specs.declared.CheckedScene.{CheckedScene}
 use Rattle.scene.specs.Read.{turned, read_scene}
 use Rattle.scene.specs.Conditions.{rule, conditions, scene_rules, check_scene_by, check_scene}
-use Rattle.scene.proofs.Taken.{never_taken}
-use Rattle.check_verdict.specs.declared.Verdict.{Verdict}
-use Rattle.check_verdict.specs.declared.Verdict.TheVariants.{Sound, Refused}
+use Rattle.scene.proofs.Outcomes.{never_taken}
 use Rattle.check_verdict.specs.Refusals.{verdict, settle, geometry_verdict}
 use Rattle.check_verdict.proofs.Verdicts.{check_refused, check_read}
 use Rattle.check_verdict.specs.SharedPoints.{CheckedMeans}
@@ -23,7 +24,6 @@ use Rattle.flags_masks.specs.declared.FlagMasks.{FlagMasks}
 use Rattle.flags_masks.specs.declared.Wanted.{Wanted}
 use Rattle.flags_masks.specs.Wanted.{masks_for, only, vector_of_f, vector_of_g}
 use Rattle.flags_masks.proofs.Masks.{vector_F, vector_G, masked_f, masked_g}
-use Rattle.flags_vectors.specs.declared.VectorsAnswer.{VectorsAnswer}
 use Rattle.flags_vectors.specs.Vectors.{vectors_in, stray_wanted, vectors_rules, these, check_vectors, answered, answer_of, vectors_alone, vectors_of, vectors_values, FlagsRight, sentences_of_first, sentences_of_second, NoFlagWrong, MaskedFromAll}
 use Rattle.flags_vectors.proofs.Answered.{all_tidy, never_nine}
 
@@ -71,19 +71,19 @@ module _ (s : List ℕ) (wantF wantG : ℕ) where
 -- ---- one call for all
 
 -- a scene that is taken under masks is taken: 9 is asked of the masks alone
-without_nine : (s : List ℕ) (wanted : Wanted) (sc : Scene) → check_vectors s wanted ≡ CheckedScene.Taken sc → check_scene s ≡ CheckedScene.Taken sc
+without_nine : (s : List ℕ) (wanted : Wanted) (sc : Scene) → check_vectors s wanted ≡ Ok sc → check_scene s ≡ Ok sc
 unfolding check_scene
 without_nine s wanted sc e = by_reading (read_scene s) refl
   where
     settled : (nine geometry : Verdict) (k : Scene)
-        → settle CheckedScene.Refused nine (settle CheckedScene.Refused geometry (CheckedScene.Taken k)) ≡ CheckedScene.Taken sc
-        → settle CheckedScene.Refused geometry (CheckedScene.Taken k) ≡ CheckedScene.Taken sc
-    settled Sound geometry k h = h
-    settled (Refused r) geometry k h = absurd (never_taken h)
+        → settle Err nine (settle Err geometry (Ok k)) ≡ Ok sc
+        → settle Err geometry (Ok k) ≡ Ok sc
+    settled (Ok tt) geometry k h = h
+    settled (Err r) geometry k h = absurd (never_taken h)
 
-    by_reading : (k : CheckedScene) → read_scene s ≡ k → check_scene_by (scene_rules [] []) s ≡ CheckedScene.Taken sc
-    by_reading (CheckedScene.Refused r) q = absurd (never_taken (sym (check_refused (vectors_rules wanted) s r q) ∙ e))
-    by_reading (CheckedScene.Taken k) q =
+    by_reading : (k : CheckedScene) → read_scene s ≡ k → check_scene_by (scene_rules [] []) s ≡ Ok sc
+    by_reading (Err r) q = absurd (never_taken (sym (check_refused (vectors_rules wanted) s r q) ∙ e))
+    by_reading (Ok k) q =
         check_read [] [] s k q
         ∙ settled (verdict (conditions (rule 9 (stray_wanted wanted) ∷ []) s k)) (geometry_verdict s k) k (sym (check_read (rule 9 (stray_wanted wanted) ∷ []) [] s k q) ∙ e)
 

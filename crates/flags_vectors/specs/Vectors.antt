@@ -1,13 +1,11 @@
 -- The vectors question: "scene and two 16-bit wanted masks; two 16-bit vectors"; and what a flag of the answer means for a scene that is taken.
+use Rattle.std.specs.Prelude.{Err, Ok}
+use Rattle.scene.specs.Read.{CheckedScene, Fault}
 use Rattle.std.specs.Prelude.{ℕ, ◌≡◌, ◌↔◌, Bool, not, cond, List, [], ◌∷◌, T}
 use Rattle.scene.specs.declared.Scene.{Scene}
-use Rattle.scene.specs.declared.CheckedScene.{CheckedScene}
-use Rattle.scene.specs.declared.Fault.{Fault}
 use Rattle.scene.specs.Read.{shape_number, unless, turned, as_given}
 use Rattle.scene.specs.Conditions.{Rule, rule, scene_rules, check_scene_by}
 use Rattle.flags_vectors.specs.declared.Vectors.{Vectors}
-use Rattle.flags_vectors.specs.declared.VectorsAnswer.{VectorsAnswer}
-use Rattle.flags_vectors.specs.declared.SceneAnswer.{SceneAnswer}
 use Rattle.flags.specs.Flags.{has_bit}
 use Rattle.flags.specs.Elements.{elements_of}
 use Rattle.flags.specs.Sentences.{sentences_of_f, sentences_of_g, sentence}
@@ -46,15 +44,15 @@ check_vectors s wanted = check_scene_by (vectors_rules wanted) s
 
 -- the answer with the scene that was read, and the vectors alone
 abbrev pub answered : List ℕ → Wanted → CheckedScene → SceneAnswer
-answered s wanted (CheckedScene.Refused r) = SceneAnswer.Refused r
-answered s wanted (CheckedScene.Taken sc) = SceneAnswer.Taken sc (vectors_in s sc wanted)
+answered s wanted (Err r) = Err r
+answered s wanted (Ok sc) = Ok sc (vectors_in s sc wanted)
 
 unfoldable pub answer_of : List ℕ → Wanted → SceneAnswer
 answer_of s wanted = answered s wanted (check_vectors s wanted)
 
 abbrev pub vectors_alone : SceneAnswer → VectorsAnswer
-vectors_alone (SceneAnswer.Refused r) = VectorsAnswer.Refused r
-vectors_alone (SceneAnswer.Taken sc v) = VectorsAnswer.Taken v
+vectors_alone (Err r) = Err r
+vectors_alone (Ok sc v) = Ok v
 
 -- "two 16-bit wanted masks"
 abbrev pub these : ℕ → ℕ → Wanted
@@ -72,8 +70,8 @@ pub record VectorsValues : Type 0 where
   pub g : ℕ
 
 abbrev pub vectors_values : VectorsAnswer → VectorsValues
-vectors_values (VectorsAnswer.Taken v) = record { number = 0; place = 0; f = v.f; g = v.g }
-vectors_values (VectorsAnswer.Refused r) = record { number = r.number; place = r.place; f = 0; g = 0 }
+vectors_values (Ok v) = record { number = 0; place = 0; f = v.f; g = v.g }
+vectors_values (Err r) = record { number = r.number; place = r.place; f = 0; g = 0 }
 
 -- ---- demand 2
 
@@ -94,7 +92,7 @@ module _ (s : List ℕ) (sc : Scene) where
 -- does, over all pairs of elements", and "A flag not wanted is 0": it is wanted exactly if its own mask has its bit
 abbrev pub NoFlagWrong : List ℕ → ℕ → ℕ → ℕ → ℕ → Type 0
 NoFlagWrong s wantF wantG v w =
-    (sc : Scene) → check_vectors s (these wantF wantG) ≡ CheckedScene.Taken sc
+    (sc : Scene) → check_vectors s (these wantF wantG) ≡ Ok sc
     → FlagsRight wantF (sentences_of_first s sc) v × FlagsRight wantG (sentences_of_second s sc) w
 
 -- ---- one call for all
@@ -102,7 +100,7 @@ NoFlagWrong s wantF wantG v w =
 -- What two masks get is what is got with all flags wanted, masked: so the flags of one call say what any other call would. 9 alone depends on the masks.
 abbrev pub MaskedFromAll : List ℕ → FlagMasks → Type 0
 MaskedFromAll s masks =
-    (sc : Scene) → check_vectors s (Wanted.These masks) ≡ CheckedScene.Taken sc
-    → (check_vectors s Wanted.All ≡ CheckedScene.Taken sc)
+    (sc : Scene) → check_vectors s (Wanted.These masks) ≡ Ok sc
+    → (check_vectors s Wanted.All ≡ Ok sc)
     × ((vectors_in s sc (Wanted.These masks)).f ≡ only masks.f (vectors_in s sc Wanted.All).f)
     × ((vectors_in s sc (Wanted.These masks)).g ≡ only masks.g (vectors_in s sc Wanted.All).g)

@@ -1,6 +1,5 @@
 // The vectors question.
 ghost use Rattle.std.specs.Prelude.{◌≡◌, ◌≤◌, T, length};
-ghost use Rattle.scene.specs.declared.CheckedScene.{CheckedScene as Checked};
 ghost use Rattle.scene.specs.Conditions.{check_scene};
 ghost use Rattle.sweep_laws.specs.Noted.{Noted};
 ghost use Rattle.check_verdict.specs.SharedPoints.{CheckedMeans};
@@ -22,7 +21,7 @@ use scene::{CheckedScene, Refusal, Scene, Shape, order};
 
 // How the elements of a scene meet at points, where a wanted flag is read off that.
 fn wanted_meetings(s: &[u8], scene: Scene, masks: FlagMasks, notes: &[u8]) -> Meetings
-    requires { (check_scene s.now ≡ Checked.Taken scene) × (2048 ≤ length notes.now) }
+    requires { (check_scene s.now ≡ Ok scene) × (2048 ≤ length notes.now) }
     ensures { T (reads_meetings scene.f.shape scene.g.shape masks.f masks.g) → result ≡ meetings s.now scene notes.now }
 {
     let f = scene.f;
@@ -38,7 +37,7 @@ fn wanted_meetings(s: &[u8], scene: Scene, masks: FlagMasks, notes: &[u8]) -> Me
 
 // The classes of its segments, where a wanted flag is read off those.
 fn wanted_classes(s: &[u8], scene: Scene, masks: FlagMasks, notes: &[u8]) -> ClassesOfBoth
-    requires { (check_scene s.now ≡ Checked.Taken scene) × (2048 ≤ length notes.now) }
+    requires { (check_scene s.now ≡ Ok scene) × (2048 ≤ length notes.now) }
     ensures { T (reads_classes scene.f.shape scene.g.shape masks.f masks.g)
         → (result.f ≡ classes_of_f s.now scene notes.now) × (result.g ≡ classes_of_g s.now scene notes.now) }
 {
@@ -77,7 +76,7 @@ fn wanted_of_g(f: Shape, g: Shape, m: Meetings, c: Classes, mask: u16) -> u16
 
 // The wanted flags of both objects of a scene that is taken, from what the sweep noted.
 fn swept_vectors(s: &[u8], scene: Scene, masks: FlagMasks, notes: &[u8]) -> Vectors
-    requires { (check_scene s.now ≡ Checked.Taken scene) × (2048 ≤ length notes.now) × Noted s.now scene notes.now }
+    requires { (check_scene s.now ≡ Ok scene) × (2048 ≤ length notes.now) × Noted s.now scene notes.now }
     ensures { result ≡ scene_vectors s.now scene masks }
 {
     let f = scene.f;

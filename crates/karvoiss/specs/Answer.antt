@@ -1,17 +1,17 @@
 -- What C gets for each answer: number 0 means taken; a refusal has its number and place, no flag, nine F, no pattern that holds, no area, and a record of zeros. And what the signs of the cells mean.
+use Rattle.std.specs.Prelude.{Ok}
+use Rattle.flags_vectors.specs.Vectors.{VectorsAnswer}
+use Rattle.cells.specs.Explored.{CellsAnswer}
+use Rattle.cells_pattern.specs.Related.{RelateAnswer}
 use Rattle.std.specs.Prelude.{ℕ, ◌≡◌, List, [], map, get_or, ℤ}
 use Rattle.plane.specs.declared.Point.{Point}
 use Rattle.plane_dimensions.specs.declared.Dimension.{Dimension}
 use Rattle.plane_dimensions.specs.Dimensions.{sign, Value}
 use Rattle.scene.specs.declared.Scene.{Scene}
-use Rattle.scene.specs.declared.CheckedScene.{CheckedScene}
 use Rattle.scene.specs.Conditions.{check_scene}
-use Rattle.flags_vectors.specs.declared.VectorsAnswer.{VectorsAnswer}
 use Rattle.flags_vectors.specs.Vectors.{vectors_values}
-use Rattle.cells.specs.declared.CellsAnswer.{CellsAnswer}
 use Rattle.cells.specs.Explored.{cells_values, InCell}
 use Rattle.cells_matrix.specs.Matrix.{Part, index, parts}
-use Rattle.cells_pattern.specs.declared.RelateAnswer.{RelateAnswer}
 use Rattle.cells_pattern.specs.Related.{relate_values}
 use Rattle.karvoiss.specs.declared.KarvoissVectors.{KarvoissVectors}
 use Rattle.overlap.specs.declared.Overlap.{Overlap}
@@ -92,4 +92,4 @@ sign_of_cell m r c = get_or (get_or m (index r) []) (index c) 0
 -- for a scene that is taken, each byte is the sign of the value that the points of its cell have
 abbrev pub NoSignWrong : List ℕ → List (List ℕ) → Type 0
 NoSignWrong s m =
-    (sc : Scene) → check_scene s ≡ CheckedScene.Taken sc → (r c : Part) → (d : Dimension) × (sign_of_cell m r c ≡ sign d) × Value d (InCell s sc r c)
+    (sc : Scene) → check_scene s ≡ Ok sc → (r c : Part) → (d : Dimension) × (sign_of_cell m r c ≡ sign d) × Value d (InCell s sc r c)

@@ -1,4 +1,7 @@
 -- The check of two regions: the verdicts that lead to it, with 16 last; the check before the list, with 17 after it; and what a scene gives that passes all.
+use Rattle.std.specs.Prelude.{Err, None, Ok, Some}
+use Rattle.scene.specs.Read.{CheckedScene, Fault}
+use Rattle.check_verdict.specs.Refusals.{Verdict}
 use Prim.Native.Nat.{ℕ, ◌<◌, ◌≤◌}
 use native.Mathlib.Omega.{arith}
 use mathlib.Core.Path.{◌≡◌, refl, sym, ap, subst, ◌∙◌}
@@ -10,15 +13,11 @@ use borrow.Author.Tests.{le-leb, lt-leb}
 use Rattle.scene.specs.declared.Layout.{Layout}
 use Rattle.scene.specs.declared.Scene.{Scene}
 use Rattle.scene.specs.declared.Refusal.{Refusal}
-use Rattle.scene.specs.declared.Fault.{Fault}
-use Rattle.scene.specs.declared.Fault.TheVariants.{At, Nothing}
-use Rattle.scene.specs.declared.CheckedScene.{CheckedScene}
 use Rattle.scene.specs.Read.{unless, decide, judge, given_first, given_second, read_scene, IsScene}
 use Rattle.scene.specs.Conditions.{is_region, or_else, conditions, scene_rules, check_scene_by}
-use Rattle.scene.proofs.Taken.{never_taken, same_scene, both_of_given}
+use Rattle.scene.proofs.Taken.{both_of_given}
+use Rattle.scene.proofs.Outcomes.{never_taken, same_taken}
 use Rattle.scene.proofs.Given.{NoFault, checked_scene_lem}
-use Rattle.check_verdict.specs.declared.Verdict.{Verdict}
-use Rattle.check_verdict.specs.declared.Verdict.TheVariants.{Sound, Refused}
 use Rattle.check_verdict.specs.Refusals.{settle, geometry_verdict}
 use Rattle.check_verdict.specs.SharedPoints.{CheckedMeans}
 use Rattle.check_verdict.proofs.Verdicts.{check_refused, check_read}
@@ -31,41 +30,41 @@ use Rattle.overlap.specs.Rules.{list_of, not_regions, shorter, region_rules, jud
 -- ---- 16 comes last
 
 module _ (s : List ℕ) (sc : Scene) where
-  pub sixteen : (p : ℕ) → not_regions s sc ≡ At p → CheckedScene.Refused (record { number = 16; place = p }) ≡ judged s sc
+  pub sixteen : (p : ℕ) → not_regions s sc ≡ Some p → Err (record { number = 16; place = p }) ≡ judged s sc
   sixteen p q = rw q
 
-  pub passed : not_regions s sc ≡ Nothing → CheckedScene.Taken sc ≡ judged s sc
+  pub passed : not_regions s sc ≡ None → Ok sc ≡ judged s sc
   passed q = rw q
 
   -- it takes the scene itself
-  judged_same : (o : Scene) → judged s sc ≡ CheckedScene.Taken o → sc ≡ o
+  judged_same : (o : Scene) → judged s sc ≡ Ok o → sc ≡ o
   judged_same o = go (not_regions s sc)
     where
-      go : (a : Fault) → decide CheckedScene.Refused 16 a (CheckedScene.Taken sc) ≡ CheckedScene.Taken o → sc ≡ o
-      go (At p) e = absurd (never_taken e)
-      go Nothing e = same_scene e
+      go : (a : Fault) → decide Err 16 a (Ok sc) ≡ Ok o → sc ≡ o
+      go (Some p) e = absurd (never_taken e)
+      go None e = same_taken e
 
   -- so its notes are those of the scene that is taken
   pub noted_judged : {checked : CheckedScene} {notes : List ℕ} → checked ≡ judged s sc → Noted s sc notes → NotedWhere s checked notes
   noted_judged {checked} {notes} e n o q = subst (λ (sc : Scene). Noted s sc notes) (judged_same o (sym e ∙ q)) n
 
 -- a refusal leaves no notes to speak of
-pub not_noted : {s : List ℕ} {r : Refusal} {notes : List ℕ} → NotedWhere s (CheckedScene.Refused r) notes
+pub not_noted : {s : List ℕ} {r : Refusal} {notes : List ℕ} → NotedWhere s (Err r) notes
 not_noted sc q = absurd (never_taken q)
 
 -- ---- the check of two regions, by the verdicts that led to it
 
 module _ (s : List ℕ) where
-  pub unread : (r : Refusal) → read_scene s ≡ CheckedScene.Refused r → CheckedScene.Refused r ≡ check_regions s
+  pub unread : (r : Refusal) → read_scene s ≡ Err r → Err r ≡ check_regions s
   unfolding check_regions
   unread r e = sym (check_refused (scene_rules [] region_rules) s r e)
 
   module _ (sc : Scene) (is : IsScene s sc) where
-    pub at_fault : (r : Refusal) → geometry_verdict s sc ≡ Refused r → CheckedScene.Refused r ≡ check_regions s
+    pub at_fault : (r : Refusal) → geometry_verdict s sc ≡ Err r → Err r ≡ check_regions s
     unfolding check_regions
     at_fault r g = rw (check_read [] region_rules s sc is, g)
 
-    pub sound_regions : geometry_verdict s sc ≡ Sound → judged s sc ≡ check_regions s
+    pub sound_regions : geometry_verdict s sc ≡ (Ok tt) → judged s sc ≡ check_regions s
     unfolding check_regions
     sound_regions g = rw (check_read [] region_rules s sc is, g)
 
@@ -73,62 +72,62 @@ module _ (s : List ℕ) where
 
 module _ (s : List ℕ) (room : ℕ) where
   abbrev with_room : CheckedScene → CheckedScene
-  with_room (CheckedScene.Refused r) = CheckedScene.Refused r
-  with_room (CheckedScene.Taken sc) = decide CheckedScene.Refused 17 (shorter room s sc) (CheckedScene.Taken sc)
+  with_room (Err r) = Err r
+  with_room (Ok sc) = decide Err 17 (shorter room s sc) (Ok sc)
 
   list_after : check_list s room ≡ with_room (check_regions s)
   unfolding check_list check_regions
   list_after = go (read_scene s) refl
     where
       judged_after : (sc : Scene) (a : Fault)
-          → decide CheckedScene.Refused 16 a (decide CheckedScene.Refused 17 (shorter room s sc) (CheckedScene.Taken sc)) ≡ with_room (decide CheckedScene.Refused 16 a (CheckedScene.Taken sc))
-      judged_after sc (At p) = refl
-      judged_after sc Nothing = refl
+          → decide Err 16 a (decide Err 17 (shorter room s sc) (Ok sc)) ≡ with_room (decide Err 16 a (Ok sc))
+      judged_after sc (Some p) = refl
+      judged_after sc None = refl
 
       by_verdict : (sc : Scene) (v : Verdict)
-          → settle CheckedScene.Refused v (judge CheckedScene.Refused (CheckedScene.Taken sc) (conditions (list_rules room) s sc)) ≡ with_room (settle CheckedScene.Refused v (judged s sc))
-      by_verdict sc (Refused r) = refl
-      by_verdict sc Sound = judged_after sc (not_regions s sc)
+          → settle Err v (judge Err (Ok sc) (conditions (list_rules room) s sc)) ≡ with_room (settle Err v (judged s sc))
+      by_verdict sc (Err r) = refl
+      by_verdict sc (Ok tt) = judged_after sc (not_regions s sc)
 
       go : (o : CheckedScene) → read_scene s ≡ o → check_scene_by (scene_rules [] (list_rules room)) s ≡ with_room (check_scene_by (scene_rules [] region_rules) s)
-      go (CheckedScene.Refused r) e = rw (check_refused (scene_rules [] (list_rules room)) s r e, check_refused (scene_rules [] region_rules) s r e)
-      go (CheckedScene.Taken sc) e = rw (check_read [] (list_rules room) s sc e, check_read [] region_rules s sc e) (by_verdict sc (geometry_verdict s sc))
+      go (Err r) e = rw (check_refused (scene_rules [] (list_rules room)) s r e, check_refused (scene_rules [] region_rules) s r e)
+      go (Ok sc) e = rw (check_read [] (list_rules room) s sc e, check_read [] region_rules s sc e) (by_verdict sc (geometry_verdict s sc))
 
-  pub no_regions : (r : Refusal) → check_regions s ≡ CheckedScene.Refused r → CheckedScene.Refused r ≡ check_list s room
+  pub no_regions : (r : Refusal) → check_regions s ≡ Err r → Err r ≡ check_list s room
   no_regions r e = sym (list_after ∙ ap with_room e)
 
-  module _ (sc : Scene) (regions : check_regions s ≡ CheckedScene.Taken sc) where
-    pub seventeen : room < length (list_of s sc) → CheckedScene.Refused (record { number = 17; place = 0 }) ≡ check_list s room
+  module _ (sc : Scene) (regions : check_regions s ≡ Ok sc) where
+    pub seventeen : room < length (list_of s sc) → Err (record { number = 17; place = 0 }) ≡ check_list s room
     seventeen h = sym (list_after ∙ ap with_room regions ∙ rw (lt-leb (length (list_of s sc)) room h))
 
-    pub roomy : length (list_of s sc) ≤ room → CheckedScene.Taken sc ≡ check_list s room
+    pub roomy : length (list_of s sc) ≤ room → Ok sc ≡ check_list s room
     roomy h = sym (list_after ∙ ap with_room regions ∙ rw (le-leb (length (list_of s sc)) room h))
 
 -- ---- what 16 and 17 say where they have no fault
 
-not_nothing : {p : ℕ} → At p ≡ Nothing → ⊥
+not_nothing : {p : ℕ} → Some p ≡ None → ⊥
 not_nothing e = let z : ◌≡◌ {A = ℕ} 0 1 = cc in omega arith
 
-pub both_regions : (s : List ℕ) (sc : Scene) → not_regions s sc ≡ Nothing → T (is_region sc.f.shape) × T (is_region sc.g.shape)
+pub both_regions : (s : List ℕ) (sc : Scene) → not_regions s sc ≡ None → T (is_region sc.f.shape) × T (is_region sc.g.shape)
 both_regions s sc e =
     let w = go (is_region (given_first sc).shape) (is_region (given_second sc).shape) e in
     both_of_given (λ (l : Layout). T (is_region l.shape)) sc w.0 w.1
   where
-    go : (a b : Bool) → or_else (unless a (given_first sc).start) (unless b (given_second sc).start) ≡ Nothing → T a × T b
+    go : (a b : Bool) → or_else (unless a (given_first sc).start) (unless b (given_second sc).start) ≡ None → T a × T b
     go true true e = (tt, tt)
     go true false e = absurd (not_nothing e)
     go false b e = absurd (not_nothing e)
 
-enough : (n room : ℕ) → unless (leb n room) 0 ≡ Nothing → n ≤ room
+enough : (n room : ℕ) → unless (leb n room) 0 ≡ None → n ≤ room
 enough n room e = leb→le n room (go (leb n room) e)
   where
-    go : (b : Bool) → unless b 0 ≡ Nothing → T b
+    go : (b : Bool) → unless b 0 ≡ None → T b
     go true e = tt
     go false e = absurd (not_nothing e)
 
 -- ---- a scene of two regions that is taken
 
-pub two_regions : (s : List ℕ) (sc : Scene) → check_regions s ≡ CheckedScene.Taken sc → TwoRegions s sc
+pub two_regions : (s : List ℕ) (sc : Scene) → check_regions s ≡ Ok sc → TwoRegions s sc
 unfolding check_regions
 two_regions s sc e = (sound_scene [] region_rules s sc e, regions.0, regions.1)
   where
@@ -143,16 +142,16 @@ pub record Listable (s : List ℕ) (room : ℕ) (sc : Scene) : Type 0 where
   pub taken : TwoRegions s sc
   pub fits : length (list_of s sc) ≤ room
 
-pub listable : (s : List ℕ) (room : ℕ) (sc : Scene) → check_list s room ≡ CheckedScene.Taken sc → Listable s room sc
+pub listable : (s : List ℕ) (room : ℕ) (sc : Scene) → check_list s room ≡ Ok sc → Listable s room sc
 listable s room sc e = go (check_regions s) refl (sym (list_after s room) ∙ e)
   where
-    by_room : (o : Scene) (a : Fault) → shorter room s o ≡ a → decide CheckedScene.Refused 17 a (CheckedScene.Taken o) ≡ CheckedScene.Taken sc → (o ≡ sc) × (shorter room s o ≡ Nothing)
-    by_room o (At p) q h = absurd (never_taken h)
-    by_room o Nothing q h = (same_scene h, q)
+    by_room : (o : Scene) (a : Fault) → shorter room s o ≡ a → decide Err 17 a (Ok o) ≡ Ok sc → (o ≡ sc) × (shorter room s o ≡ None)
+    by_room o (Some p) q h = absurd (never_taken h)
+    by_room o None q h = (same_taken h, q)
 
-    go : (o : CheckedScene) → check_regions s ≡ o → with_room s room o ≡ CheckedScene.Taken sc → Listable s room sc
-    go (CheckedScene.Refused r) q h = absurd (never_taken h)
-    go (CheckedScene.Taken o) q h =
+    go : (o : CheckedScene) → check_regions s ≡ o → with_room s room o ≡ Ok sc → Listable s room sc
+    go (Err r) q h = absurd (never_taken h)
+    go (Ok o) q h =
         let w = by_room o (shorter room s o) refl h in
         subst (Listable s room) w.0 (record { taken = two_regions s o q; fits = enough (length (list_of s o)) room w.1 })
 

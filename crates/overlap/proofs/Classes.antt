@@ -1,5 +1,6 @@
 -- The class flags of the vectors question and the overlap list say the same: a flag (m/n) of F or of G is set exactly if the list has the byte 3m + n at
 -- a segment of F alone, of G alone, or of both.
+use Rattle.std.specs.Prelude.{Ok}
 use Prim.Native.Nat.{ℕ, ◌+◌, ◌*◌}
 use native.Mathlib.Omega.{arith}
 use mathlib.Core.Path.{◌≡◌, refl, sym, ap, ap₂, subst, ◌∙◌}
@@ -17,7 +18,6 @@ use Rattle.scene.specs.declared.Shape.{Shape}
 use Rattle.scene.specs.declared.Shape.TheVariants.{Points, Line, Region}
 use Rattle.scene.specs.declared.Layout.{Layout}
 use Rattle.scene.specs.declared.Scene.{Scene}
-use Rattle.scene.specs.declared.CheckedScene.{CheckedScene}
 use Rattle.scene.specs.Conditions.{elements, keep, is_region, left_test, segments}
 use Rattle.check_verdict.proofs.Laws.{SoundObject, ia_is}
 use Rattle.scene_segments.proofs.Indices.{in_element}
@@ -305,7 +305,7 @@ as_region s l r = go l.shape r
     go Region r = refl
 
 -- The flags (0/1) to (1/1) of F, and (0/1) to (2/1) of G, of the scene's vectors, are those that the overlap list has
-pub class_flags_of_list : (s : List ℕ) (room : ℕ) (sc : Scene) → check_list s room ≡ CheckedScene.Taken sc
+pub class_flags_of_list : (s : List ℕ) (room : ℕ) (sc : Scene) → check_list s room ≡ Ok sc
     → (take 7 (flags_of_f (elements_of s sc.f) (elements_of s sc.g)) ≡ classes_of_f (edges s sc.f) (edges s sc.g))
     × (flags_of_g (elements_of s sc.f) (elements_of s sc.g) ≡ classes_of_g (edges s sc.f) (edges s sc.g))
 class_flags_of_list s room sc e =

@@ -1,9 +1,9 @@
 -- What a question about two regions turns away after all others, 16, and the overlap list question after that, 17; and what the check of a scene promises
 -- of the sweep's notes.
+use Rattle.std.specs.Prelude.{Err, Ok}
+use Rattle.scene.specs.Read.{CheckedScene, Fault}
 use Rattle.std.specs.Prelude.{ℕ, ◌≡◌, List, [], ◌∷◌, length, leb}
 use Rattle.scene.specs.declared.Scene.{Scene}
-use Rattle.scene.specs.declared.Fault.{Fault}
-use Rattle.scene.specs.declared.CheckedScene.{CheckedScene}
 use Rattle.scene.specs.Read.{unless, judge, given_first, given_second}
 use Rattle.scene.specs.Conditions.{is_region, Rule, rule, or_else, conditions, scene_rules, check_scene_by}
 use Rattle.flags.specs.Elements.{edges}
@@ -23,7 +23,7 @@ region_rules = rule 16 not_regions ∷ []
 
 -- of a scene that passes all others
 abbrev pub judged : List ℕ → Scene → CheckedScene
-judged s sc = judge CheckedScene.Refused (CheckedScene.Taken sc) (conditions region_rules s sc)
+judged s sc = judge Err (Ok sc) (conditions region_rules s sc)
 
 -- two regions: the scene's own refusals, then 16
 unfoldable pub check_regions : List ℕ → CheckedScene
@@ -42,4 +42,4 @@ check_list s room = check_scene_by (scene_rules [] (list_rules room)) s
 -- the notes are left where the scene is taken
 module _ (s : List ℕ) where
   abbrev pub NotedWhere : CheckedScene → List ℕ → Type 0
-  NotedWhere checked notes = (sc : Scene) → checked ≡ CheckedScene.Taken sc → Noted s sc notes
+  NotedWhere checked notes = (sc : Scene) → checked ≡ Ok sc → Noted s sc notes

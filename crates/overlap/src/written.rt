@@ -1,6 +1,5 @@
 // The list of two regions in a lent buffer: the byte of each different segment.
 ghost use Rattle.std.specs.Prelude.{◌≡◌, ◌++◌, ◌≤◌, length, drop};
-ghost use Rattle.scene.specs.declared.CheckedScene.{CheckedScene as Checked};
 ghost use Rattle.sweep_laws.specs.Noted.{Noted};
 ghost use Rattle.overlap.specs.Rules.{list_of, check_list};
 
@@ -10,7 +9,7 @@ use scene::Scene;
 
 // Writes the list from the start of a buffer with room for it, and says how long it is.
 pub fn write(s: &[u8], scene: Scene, notes: &[u8], list: &mut [u8]) -> usize
-    requires { (check_list s.now (length list.old) ≡ Checked.Taken scene) × (2048 ≤ length notes.now) × Noted s.now scene notes.now }
+    requires { (check_list s.now (length list.old) ≡ Ok scene) × (2048 ≤ length notes.now) × Noted s.now scene notes.now }
     ensures { (result ≡ length (list_of s.now scene)) × (list.new ≡ list_of s.now scene ++ drop (length (list_of s.now scene)) list.old) }
 {
     let mut n: usize = 0;

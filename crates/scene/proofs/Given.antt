@@ -1,4 +1,6 @@
 -- What a taken scene or object gives its callers: each condition of its list has no fault, and each element is whole, in range and ordered.
+use Rattle.std.specs.Prelude.{Err, None, Ok, Some}
+use Rattle.scene.specs.Read.{CheckedObject, CheckedScene, Fault}
 use Prim.Native.Nat.{ℕ, ◌+◌, ◌<◌, ◌≤◌}
 use native.Mathlib.Omega.{arith}
 use mathlib.Core.Path.{◌≡◌, refl, ap, subst, ◌∙◌}
@@ -13,15 +15,12 @@ use Rattle.scene.specs.declared.Kind.TheVariants.{Element}
 use Rattle.scene.specs.declared.Layout.{Layout}
 use Rattle.scene.specs.declared.Scene.{Scene}
 use Rattle.scene.specs.declared.Refusal.{Refusal}
-use Rattle.scene.specs.declared.Fault.{Fault}
-use Rattle.scene.specs.declared.Fault.TheVariants.{At, Nothing}
-use Rattle.scene.specs.declared.CheckedObject.{CheckedObject}
-use Rattle.scene.specs.declared.CheckedScene.{CheckedScene}
 use Rattle.scene.specs.Read.{place, body_length, coordinates_good, stands_in, point_at, segment_at, decide, judge, given_first, given_second, read_scene, read_alone}
 use Rattle.scene.specs.Conditions.{Rule, conditions, or_else, over_both, has_segments, is_region, checked_scene, check_scene_by, checked_object, check_object, object_rules}
 use Rattle.scene.proofs.Passed.{Passed}
 use Rattle.scene.proofs.Indices.{not_nothing}
-use Rattle.scene.proofs.Taken.{TakenObject, TakenAlone, TakenScene, taken_alone, taken_scene, not_taken, never_taken, same_layout, same_scene}
+use Rattle.scene.proofs.Taken.{TakenObject, TakenAlone, TakenScene, taken_alone, taken_scene}
+use Rattle.scene.proofs.Outcomes.{never_taken, same_taken}
 
 -- ---- conditions
 
@@ -29,7 +28,7 @@ use Rattle.scene.proofs.Taken.{TakenObject, TakenAlone, TakenScene, taken_alone,
 module _ {A : Type 0} (s : List ℕ) (a : A) where
   abbrev pub NoFault : List (Rule A) → Type 0
   NoFault [] = Unit {0}
-  NoFault (r ∷ rules) = (r.fault s a ≡ Nothing) × NoFault rules
+  NoFault (r ∷ rules) = (r.fault s a ≡ None) × NoFault rules
 
   -- a list that does not refuse
   module _ {B : Type 0} (refuse : Refusal → B) (taken : B) (never : (r : Refusal) → refuse r ≡ taken → ⊥) where
@@ -39,8 +38,8 @@ module _ {A : Type 0} (s : List ℕ) (a : A) where
       where
         go : (f : Fault) → r.fault s a ≡ f → decide refuse r.number f (judge refuse b (conditions rules s a)) ≡ taken
             → (judge refuse b (conditions rules s a) ≡ taken → (b ≡ taken) × NoFault rules) → (b ≡ taken) × NoFault (r ∷ rules)
-        go (At p) q x later = absurd (never (record { number = r.number; place = p }) x)
-        go Nothing q x later = ((later x).0, (q, (later x).1))
+        go (Some p) q x later = absurd (never (record { number = r.number; place = p }) x)
+        go None q x later = ((later x).0, (q, (later x).1))
 
   -- a list with no fault
   faultless : {B : Type 0} (refuse : Refusal → B) (b : B) (rules : List (Rule A)) → NoFault rules → judge refuse b (conditions rules s a) ≡ b
@@ -48,9 +47,9 @@ module _ {A : Type 0} (s : List ℕ) (a : A) where
   faultless refuse b (r ∷ rules) n = rw n.0 (faultless refuse b rules n.1)
 
 -- over a scene: a list over both objects has no fault where it has none in either
-pub neither : (a b : Fault) → or_else a b ≡ Nothing → (a ≡ Nothing) × (b ≡ Nothing)
-neither (At p) b e = absurd (not_nothing e)
-neither Nothing b e = (refl, e)
+pub neither : (a b : Fault) → or_else a b ≡ None → (a ≡ None) × (b ≡ None)
+neither (Some p) b e = absurd (not_nothing e)
+neither None b e = (refl, e)
 
 module _ (s : List ℕ) (sc : Scene) where
   pub in_neither : (rules : List (Rule Layout)) → NoFault s sc (map over_both rules) → NoFault s (given_first sc) rules × NoFault s (given_second sc) rules
@@ -64,29 +63,29 @@ module _ (s : List ℕ) (sc : Scene) where
   over_both_lem [] a b = tt
   over_both_lem (r ∷ rules) a b = (ap (λ (x : Fault). or_else x (r.fault s (given_second sc))) a.0 ∙ b.0, over_both_lem rules a.1 b.1)
 
-pub checked_scene_lem : (rules : List (Rule Scene)) (s : List ℕ) (sc : Scene) → check_scene_by rules s ≡ CheckedScene.Taken sc → TakenScene s sc × NoFault s sc rules
+pub checked_scene_lem : (rules : List (Rule Scene)) (s : List ℕ) (sc : Scene) → check_scene_by rules s ≡ Ok sc → TakenScene s sc × NoFault s sc rules
 unfolding check_scene_by
 checked_scene_lem rules s sc e = go (read_scene s) refl e
   where
-    go : (o : CheckedScene) → read_scene s ≡ o → checked_scene rules s o ≡ CheckedScene.Taken sc → TakenScene s sc × NoFault s sc rules
-    go (CheckedScene.Refused r) q x = absurd (never_taken x)
-    go (CheckedScene.Taken o) q x =
-        let n = no_fault s o CheckedScene.Refused (CheckedScene.Taken sc) (λ r. never_taken) rules (CheckedScene.Taken o) x in
-        subst (λ (o : Scene). TakenScene s o × NoFault s o rules) (same_scene n.0) (taken_scene s o q, n.1)
+    go : (o : CheckedScene) → read_scene s ≡ o → checked_scene rules s o ≡ Ok sc → TakenScene s sc × NoFault s sc rules
+    go (Err r) q x = absurd (never_taken x)
+    go (Ok o) q x =
+        let n = no_fault s o Err (Ok sc) (λ r. never_taken) rules (Ok o) x in
+        subst (λ (o : Scene). TakenScene s o × NoFault s o rules) (same_taken n.0) (taken_scene s o q, n.1)
 
-pub checked_object_lem : (s : List ℕ) (l : Layout) → check_object s ≡ CheckedObject.Taken l → TakenAlone s 0 l × NoFault s l object_rules
+pub checked_object_lem : (s : List ℕ) (l : Layout) → check_object s ≡ Ok l → TakenAlone s 0 l × NoFault s l object_rules
 unfolding check_object
 checked_object_lem s l e = go (read_alone s) refl e
   where
-    go : (o : CheckedObject) → read_alone s ≡ o → checked_object s o ≡ CheckedObject.Taken l → TakenAlone s 0 l × NoFault s l object_rules
-    go (CheckedObject.Refused r) q x = absurd (not_taken x)
-    go (CheckedObject.Taken o) q x =
-        let n = no_fault s o CheckedObject.Refused (CheckedObject.Taken l) (λ r. not_taken) object_rules (CheckedObject.Taken o) x in
-        subst (λ (o : Layout). TakenAlone s 0 o × NoFault s o object_rules) (same_layout n.0) (taken_alone s o q, n.1)
+    go : (o : CheckedObject) → read_alone s ≡ o → checked_object s o ≡ Ok l → TakenAlone s 0 l × NoFault s l object_rules
+    go (Err r) q x = absurd (never_taken x)
+    go (Ok o) q x =
+        let n = no_fault s o Err (Ok l) (λ r. never_taken) object_rules (Ok o) x in
+        subst (λ (o : Layout). TakenAlone s 0 o × NoFault s o object_rules) (same_taken n.0) (taken_alone s o q, n.1)
 
-pub object_checked : (s : List ℕ) (l : Layout) → read_alone s ≡ CheckedObject.Taken l → NoFault s l object_rules → check_object s ≡ CheckedObject.Taken l
+pub object_checked : (s : List ℕ) (l : Layout) → read_alone s ≡ Ok l → NoFault s l object_rules → check_object s ≡ Ok l
 unfolding check_object
-object_checked s l e n = ap (checked_object s) e ∙ faultless s l CheckedObject.Refused (CheckedObject.Taken l) object_rules n
+object_checked s l e n = ap (checked_object s) e ∙ faultless s l Err (Ok l) object_rules n
 
 -- ---- elements: what the functions that read them and those of the plane ask
 

@@ -1,4 +1,5 @@
 -- The elements of an object by their indices: which there are, which are kept, functions that agree on them, and the earliest at fault.
+use Rattle.std.specs.Prelude.{None, Some}
 use Prim.Native.Nat.{ℕ, zero, suc, ◌+◌, ◌<◌, ◌≤◌}
 use native.Mathlib.Nat.{eq-or-lt_of_le}
 use native.Mathlib.Omega.{arith}
@@ -9,7 +10,6 @@ use mathlib.Core.List.{List, [], ◌∷◌, map}
 use Rattle.whole.specs.Count.{◌∈◌, here, there}
 use Rattle.whole.proofs.Logic.{in_nil, in_cons, Sorted, sorted_nil, sorted_cons}
 use Rattle.scene.specs.declared.Layout.{Layout}
-use Rattle.scene.specs.declared.Fault.TheVariants.{At, Nothing}
 use Rattle.scene.specs.Read.{place}
 use Rattle.scene.specs.Conditions.{indices, elements, keep, earliest}
 
@@ -72,24 +72,24 @@ kept_same f g p q is h e = ap (map f) (keep_same p q is h) ∙ map_same f g (kee
 
 -- ---- the earliest at fault
 
-pub not_nothing : {p : ℕ} → At p ≡ Nothing → ⊥
+pub not_nothing : {p : ℕ} → Some p ≡ None → ⊥
 not_nothing e = let z : ◌≡◌ {A = ℕ} 0 1 = cc in omega arith
 
 -- no element is at fault
-pub none_wrong : (l : Layout) (wrong : ℕ → Bool) → earliest l wrong (elements l) ≡ Nothing → (i : ℕ) → i < l.count → wrong i ≡ false
+pub none_wrong : (l : Layout) (wrong : ℕ → Bool) → earliest l wrong (elements l) ≡ None → (i : ℕ) → i < l.count → wrong i ≡ false
 none_wrong l wrong e i h = go (elements l) e (element_in l i h)
   where
-    go : (is : List ℕ) → earliest l wrong is ≡ Nothing → i ∈ is → wrong i ≡ false
+    go : (is : List ℕ) → earliest l wrong is ≡ None → i ∈ is → wrong i ≡ false
     go [] e m = absurd (in_nil m)
     go (j ∷ is) e m = at (wrong j) refl e (go is)
       where
-        at : (b : Bool) → wrong j ≡ b → cond b (At (place l j)) (earliest l wrong is) ≡ Nothing → (earliest l wrong is ≡ Nothing → i ∈ is → wrong i ≡ false) → wrong i ≡ false
+        at : (b : Bool) → wrong j ≡ b → cond b (Some (place l j)) (earliest l wrong is) ≡ None → (earliest l wrong is ≡ None → i ∈ is → wrong i ≡ false) → wrong i ≡ false
         at true q e later = absurd (not_nothing e)
         at false q e later = ⊎_elim (λ x. ap wrong x ∙ q) (later e) (in_cons m)
 
-pub no_fault : (l : Layout) (wrong : ℕ → Bool) → ((i : ℕ) → i < l.count → wrong i ≡ false) → earliest l wrong (elements l) ≡ Nothing
+pub no_fault : (l : Layout) (wrong : ℕ → Bool) → ((i : ℕ) → i < l.count → wrong i ≡ false) → earliest l wrong (elements l) ≡ None
 no_fault l wrong h = go (elements l) (λ i m. h i (in_element l i m))
   where
-    go : (is : List ℕ) → ((i : ℕ) → i ∈ is → wrong i ≡ false) → earliest l wrong is ≡ Nothing
+    go : (is : List ℕ) → ((i : ℕ) → i ∈ is → wrong i ≡ false) → earliest l wrong is ≡ None
     go [] h = refl
-    go (i ∷ is) h = ap (λ b. cond b (At (place l i)) (earliest l wrong is)) (h i here) ∙ go is (λ k m. h k (there m))
+    go (i ∷ is) h = ap (λ b. cond b (Some (place l i)) (earliest l wrong is)) (h i here) ∙ go is (λ k m. h k (there m))

@@ -1,4 +1,6 @@
 -- Bytes that stand elsewhere: where t from offset d on reads as s does, a record, and with it an object, is read in t as in s, each place raised by d.
+use Rattle.std.specs.Prelude.{Err, None, Ok, Some}
+use Rattle.scene.specs.Read.{CheckedObject, Fault, Record}
 use Prim.Native.Nat.{ℕ, zero, suc, ◌+◌, ◌<◌, ◌≤◌}
 use native.Mathlib.Nat.{add-zero, mul-le-mul_right}
 use native.Mathlib.Omega.{arith}
@@ -15,11 +17,6 @@ use Rattle.scene.specs.declared.Kind.{Kind}
 use Rattle.scene.specs.declared.Kind.TheVariants.{Start, Element, End, Unknown}
 use Rattle.scene.specs.declared.Layout.{Layout}
 use Rattle.scene.specs.declared.Refusal.{Refusal}
-use Rattle.scene.specs.declared.Fault.{Fault}
-use Rattle.scene.specs.declared.Fault.TheVariants.{At, Nothing}
-use Rattle.scene.specs.declared.Record.{Record}
-use Rattle.scene.specs.declared.Record.TheVariants.{Good, Bad}
-use Rattle.scene.specs.declared.CheckedObject.{CheckedObject}
 use Rattle.scene.specs.Read.{byte, coordinate, point_from, segment_at, kind_of, kind_at, shape_number, shape_of, body_length, has_room, stands_in, starts_object, is_end, unless, condition, judge, fields_good, coordinates_good, ends_good, record_at, size, place, end_place, after, most, begun, read_object}
 use Rattle.scene.specs.Inner.{fields_at}
 use Rattle.scene.proofs.Passed.{refusal, not_allowed, no_room, whole_body, same_shape}
@@ -35,35 +32,35 @@ module _ (d : ℕ) where
   moved l = placed (l.start + d) l
 
   abbrev pub moved_fault : Fault → Fault
-  moved_fault (At p) = At (p + d)
-  moved_fault Nothing = Nothing
+  moved_fault (Some p) = Some (p + d)
+  moved_fault None = None
 
   abbrev pub moved_refusal : Refusal → Refusal
   moved_refusal r = refusal r.number (r.place + d)
 
   abbrev pub moved_record : Record → Record
-  moved_record (Good k) = Good k
-  moved_record (Bad r) = Bad (moved_refusal r)
+  moved_record (Ok k) = Ok k
+  moved_record (Err r) = Err (moved_refusal r)
 
   abbrev pub moved_object : CheckedObject → CheckedObject
-  moved_object (CheckedObject.Taken l) = CheckedObject.Taken (moved l)
-  moved_object (CheckedObject.Refused r) = CheckedObject.Refused (moved_refusal r)
+  moved_object (Ok l) = Ok (moved l)
+  moved_object (Err r) = Err (moved_refusal r)
 
   moved_begun : (r : Record) (o : CheckedObject) → begun (moved_record r) (moved_object o) ≡ moved_object (begun r o)
-  moved_begun (Good k) o = refl
-  moved_begun (Bad r) o = refl
+  moved_begun (Ok k) o = refl
+  moved_begun (Err r) o = refl
 
 -- by 0: nothing moves
 pub unmoved : (l : Layout) → moved 0 l ≡ l
 unmoved l = ap (λ (p : ℕ). placed p l) (add-zero l.start)
 
 pub unmoved_fault : (f : Fault) → moved_fault 0 f ≡ f
-unmoved_fault (At p) = ap At (add-zero p)
-unmoved_fault Nothing = refl
+unmoved_fault (Some p) = ap Some (add-zero p)
+unmoved_fault None = refl
 
 pub unmoved_object : (o : CheckedObject) → moved_object 0 o ≡ o
-unmoved_object (CheckedObject.Taken l) = ap CheckedObject.Taken (unmoved l)
-unmoved_object (CheckedObject.Refused r) = ap (λ (p : ℕ). CheckedObject.Refused (refusal r.number p)) (add-zero r.place)
+unmoved_object (Ok l) = ap Ok (unmoved l)
+unmoved_object (Err r) = ap (λ (p : ℕ). Err (refusal r.number p)) (add-zero r.place)
 
 -- ---- bytes that agree
 
@@ -97,7 +94,7 @@ module _ {d n : ℕ} {s t : List ℕ} (g : Agree d n s t) where
 -- the three tests on a record's fields, at p
 abbrev field_tests : Kind → ℕ → Bool → Bool → Bool → Record
 field_tests k p fields coordinates ends =
-    judge Bad (Good k) (condition 3 (unless fields p) ∷ condition 4 (unless coordinates p) ∷ condition 5 (unless ends p) ∷ [])
+    judge Err (Ok k) (condition 3 (unless fields p) ∷ condition 4 (unless coordinates p) ∷ condition 5 (unless ends p) ∷ [])
 
 moved_tests : (d : ℕ) (k : Kind) (p : ℕ) (fields coordinates ends : Bool) → field_tests k (p + d) fields coordinates ends ≡ moved_record d (field_tests k p fields coordinates ends)
 moved_tests d k p false coordinates ends = refl
@@ -166,14 +163,14 @@ module _ {d n : ℕ} {s t : List ℕ} (g : Agree d n s t) (at to : ℕ) (e : to 
             ∙ ap (moved_record d) (sym (whole_body s at allowed full j in_s refl a r (omega (arith, g.long_s))))
         rooms a false r =
             no_room t to allowed full j in_t kind a r
-            ∙ ap (λ (p : ℕ). Bad (refusal 6 p)) e
+            ∙ ap (λ (p : ℕ). Err (refusal 6 p)) e
             ∙ ap (moved_record d) (sym (no_room s at allowed full j in_s refl a r))
 
         kinds : (x : Bool) → allowed j ≡ x → record_at t to allowed full ≡ moved_record d (record_at s at allowed full)
         kinds true a = rooms a (has_room full j) refl
         kinds false a =
             not_allowed t to allowed full j in_t kind a
-            ∙ ap (λ (p : ℕ). Bad (refusal 2 p)) e
+            ∙ ap (λ (p : ℕ). Err (refusal 2 p)) e
             ∙ ap (moved_record d) (sym (not_allowed s at allowed full j in_s refl a))
 
   moved_type : at + 2 ≤ n → record_at t to starts_object false ≡ moved_record d (record_at s at starts_object false)
@@ -229,10 +226,10 @@ module _ {d n : ℕ} {s t : List ℕ} (g : Agree d n s t) (at to : ℕ) (e : to 
         record_there : record_of t k to c ≡ moved_record d (record_of s k at c)
         record_there = moved_record_lem g (end_place (layout k at c)) (end_place (layout k to c)) (omega arith) (stands_in k) (eqb c most) in_reach reach
 
-        good : (j : Kind) → record_of s k at c ≡ Good j → (x : Bool) → is_end j ≡ x → rest t k to c ≡ moved_object d (rest s k at c)
+        good : (j : Kind) → record_of s k at c ≡ Ok j → (x : Bool) → is_end j ≡ x → rest t k to c ≡ moved_object d (rest s k at c)
         good j q true x =
             ends_here t k to c few j (record_there ∙ ap (moved_record d) q) x
-            ∙ ap (λ (p : ℕ). CheckedObject.Taken (layout k p c)) e
+            ∙ ap (λ (p : ℕ). Ok (layout k p c)) e
             ∙ ap (moved_object d) (sym (ends_here s k at c few j q x))
         good j q false x =
             let here : GoesOn s k at c = goes_on s k at c few j q x in
@@ -241,10 +238,10 @@ module _ {d n : ℕ} {s t : List ℕ} (g : Agree d n s t) (at to : ℕ) (e : to 
             ∙ ap (moved_object d) (sym here.on)
 
         go : (r : Record) → record_of s k at c ≡ r → rest t k to c ≡ moved_object d (rest s k at c)
-        go (Bad r) q =
+        go (Err r) q =
             stops t k to c few (moved_refusal d r) (record_there ∙ ap (moved_record d) q)
             ∙ ap (moved_object d) (sym (stops s k at c few r q))
-        go (Good j) q = good j q (is_end j) refl
+        go (Ok j) q = good j q (is_end j) refl
 
     moved_rest : (m c : ℕ) → c + m ≡ o.last → rest t k to c ≡ moved_object d (rest s k at c)
     moved_rest zero c q = moved_one c (omega arith) (λ h. absurd (omega arith))

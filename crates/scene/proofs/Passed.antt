@@ -1,4 +1,7 @@
 -- What a record's answer says: which test failed, or that all passed.
+use Rattle.scene.proofs.Outcomes.{never_taken, same_taken}
+use Rattle.std.specs.Prelude.{Err, Ok}
+use Rattle.scene.specs.Read.{Record}
 use Prim.Native.Nat.{ℕ, ◌+◌, ◌<◌, ◌≤◌}
 use native.Mathlib.Omega.{arith}
 use mathlib.Core.Path.{◌≡◌, refl, subst, ◌∙◌}
@@ -11,8 +14,6 @@ use Rattle.scene.specs.declared.Shape.{Shape}
 use Rattle.scene.specs.declared.Shape.TheVariants.{Points, Line, Region}
 use Rattle.scene.specs.declared.Kind.{Kind}
 use Rattle.scene.specs.declared.Refusal.{Refusal}
-use Rattle.scene.specs.declared.Record.{Record}
-use Rattle.scene.specs.declared.Record.TheVariants.{Good, Bad}
 use Rattle.scene.specs.Read.{kind_at, shape_number, body_length, unless, decide, judge, has_room, fields_good, coordinates_good, ends_good, field_conditions, record_conditions, record_at}
 
 abbrev pub refusal : ℕ → ℕ → Refusal
@@ -31,26 +32,26 @@ same_shape Region Region q = refl
 
 -- ---- from the tests to the answer
 module _ (s : List ℕ) (at : ℕ) (allowed : Kind → Bool) (full : Bool) where
-  pub no_byte : length s ≤ at → record_at s at allowed full ≡ Bad (refusal 1 (length s))
+  pub no_byte : length s ≤ at → record_at s at allowed full ≡ Err (refusal 1 (length s))
   unfolding record_at
   no_byte h = rw (le-ltb at (length s) h)
 
   module _ (k : Kind) (begins : at < length s) (kind : kind_at s at ≡ k) where
-    rest : record_at s at allowed full ≡ judge Bad (Good k) (record_conditions s at allowed full k)
+    rest : record_at s at allowed full ≡ judge Err (Ok k) (record_conditions s at allowed full k)
     unfolding record_at
     rest = rw kind
 
-    pub not_allowed : allowed k ≡ false → record_at s at allowed full ≡ Bad (refusal 2 at)
+    pub not_allowed : allowed k ≡ false → record_at s at allowed full ≡ Err (refusal 2 at)
     not_allowed a = rest ∙ rw (lt-ltb at (length s) begins, a)
 
-    pub no_room : allowed k ≡ true → has_room full k ≡ false → record_at s at allowed full ≡ Bad (refusal 6 at)
+    pub no_room : allowed k ≡ true → has_room full k ≡ false → record_at s at allowed full ≡ Err (refusal 6 at)
     no_room a r = rest ∙ rw (lt-ltb at (length s) begins, a, r)
 
     module _ (a : allowed k ≡ true) (r : has_room full k ≡ true) where
-      pub cut_body : length s < at + 1 + body_length k → record_at s at allowed full ≡ Bad (refusal 1 at)
+      pub cut_body : length s < at + 1 + body_length k → record_at s at allowed full ≡ Err (refusal 1 at)
       cut_body h = rest ∙ rw (lt-ltb at (length s) begins, a, r, lt-leb (at + 1 + body_length k) (length s) h)
 
-      pub whole_body : at + 1 + body_length k ≤ length s → record_at s at allowed full ≡ judge Bad (Good k) (field_conditions s at k)
+      pub whole_body : at + 1 + body_length k ≤ length s → record_at s at allowed full ≡ judge Err (Ok k) (field_conditions s at k)
       whole_body h = rest ∙ rw (lt-ltb at (length s) begins, a, r, le-leb (at + 1 + body_length k) (length s) h)
 
 -- ---- from the answer to the tests
@@ -63,15 +64,12 @@ pub record Passed (s : List ℕ) (at : ℕ) (allowed : Kind → Bool) (full : Bo
   pub coordinates : T (coordinates_good s at k)
   pub ends : T (ends_good s at k)
 
-not_good : {r : Refusal} {k : Kind} → Bad r ≡ Good k → ⊥
-not_good e = let z : ◌≡◌ {A = ℕ} 0 1 = cc in omega arith
-
-passed_one : (n p : ℕ) (b : Bool) (r : Record) (k : Kind) → decide Bad n (unless b p) r ≡ Good k → T b × (r ≡ Good k)
+passed_one : (n p : ℕ) (b : Bool) (r : Record) (k : Kind) → decide Err n (unless b p) r ≡ Ok k → T b × (r ≡ Ok k)
 passed_one n p true r k e = (tt, e)
-passed_one n p false r k e = absurd (not_good e)
+passed_one n p false r k e = absurd (never_taken e)
 
 module _ (s : List ℕ) (at : ℕ) (allowed : Kind → Bool) (full : Bool) where
-  passed_all : (k k' : Kind) → judge Bad (Good k) (record_conditions s at allowed full k) ≡ Good k' → kind_at s at ≡ k → Passed s at allowed full k'
+  passed_all : (k k' : Kind) → judge Err (Ok k) (record_conditions s at allowed full k) ≡ Ok k' → kind_at s at ≡ k → Passed s at allowed full k'
   passed_all k k' e q =
       let e₁ = passed_one 1 (length s) (ltb at (length s)) _ k' e in
       let e₂ = passed_one 2 at (allowed k) _ k' e₁.1 in
@@ -80,7 +78,7 @@ module _ (s : List ℕ) (at : ℕ) (allowed : Kind → Bool) (full : Bool) where
       let e₃ = passed_one 3 at (fields_good s at k) _ k' e₀.1 in
       let e₄ = passed_one 4 at (coordinates_good s at k) _ k' e₃.1 in
       let e₅ = passed_one 5 at (ends_good s at k) _ k' e₄.1 in
-      subst (Passed s at allowed full) (same e₅.1)
+      subst (Passed s at allowed full) (same_taken e₅.1)
       (record {
         kind = q;
         allows = e₂.0;
@@ -90,10 +88,7 @@ module _ (s : List ℕ) (at : ℕ) (allowed : Kind → Bool) (full : Bool) where
         coordinates = e₄.0;
         ends = e₅.0;
       })
-    where
-      same : Good k ≡ Good k' → k ≡ k'
-      same p = cc
 
-  pub passed : (k : Kind) → record_at s at allowed full ≡ Good k → Passed s at allowed full k
+  pub passed : (k : Kind) → record_at s at allowed full ≡ Ok k → Passed s at allowed full k
   unfolding record_at
   passed k e = passed_all (kind_at s at) k e refl

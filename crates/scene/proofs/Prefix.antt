@@ -1,4 +1,6 @@
 -- Only the first bytes matter: no taken scene is longer than 38,918 bytes, and what a scene's bytes are answered turns on their first 38,919.
+use Rattle.std.specs.Prelude.{Err, Ok}
+use Rattle.scene.specs.Read.{CheckedObject}
 use Prim.Native.Nat.{ℕ, ◌+◌, ◌<◌, ◌≤◌, min}
 use native.Mathlib.Nat.{add-zero, lt_irrefl}
 use native.Mathlib.Decide.{dec_le}
@@ -13,8 +15,6 @@ use Rattle.scene.specs.declared.Shape.TheVariants.{Points, Line, Region}
 use Rattle.scene.specs.declared.Layout.{Layout}
 use Rattle.scene.specs.declared.Scene.{Scene}
 use Rattle.scene.specs.declared.Refusal.{Refusal}
-use Rattle.scene.specs.declared.CheckedObject.{CheckedObject}
-use Rattle.scene.specs.declared.CheckedScene.{CheckedScene}
 use Rattle.scene.specs.Read.{byte, shape_of, end_place, after, most, read_object, read_scene}
 use Rattle.scene.specs.Conditions.{Rule, checked_scene, check_scene_by}
 use Rattle.scene.proofs.Taken.{layout, longest, taken_object, object_short, scene_short}
@@ -39,18 +39,18 @@ enough = 38919
 
 record BothRefused (s t : List ℕ) : Type 0 where
   refusal : Refusal
-  of_s : read_scene s ≡ CheckedScene.Refused refusal
-  of_t : read_scene t ≡ CheckedScene.Refused refusal
+  of_s : read_scene s ≡ Err refusal
+  of_t : read_scene t ≡ Err refusal
 
 module _ (s t : List ℕ) (g : Agree 0 enough s t) where
   both_refused : BothRefused s t
   unfolding read_scene
   both_refused = of_f_lem (read_object s 0) refl
     where
-      of_g_lem : (f : Layout) → read_object s 0 ≡ CheckedObject.Taken f → read_object t 0 ≡ CheckedObject.Taken f
+      of_g_lem : (f : Layout) → read_object s 0 ≡ Ok f → read_object t 0 ≡ Ok f
           → (o : CheckedObject) → read_object s (after f) ≡ o → read_object t (after f) ≡ o → BothRefused s t
-      of_g_lem f e e' (CheckedObject.Refused r) q q' = record { refusal = r; of_s = rw (e, q); of_t = rw (e', q') }
-      of_g_lem f e e' (CheckedObject.Taken o) q q' = record {
+      of_g_lem f e e' (Err r) q q' = record { refusal = r; of_s = rw (e, q); of_t = rw (e', q') }
+      of_g_lem f e e' (Ok o) q q' = record {
         refusal = record { number = 7; place = after o };
         of_s = rw (e, q, lt-leb (length s) (after o) (omega (arith, g.long_s, short)));
         of_t = rw (e', q', lt-leb (length t) (after o) (omega (arith, g.long_t, short)));
@@ -60,8 +60,8 @@ module _ (s t : List ℕ) (g : Agree 0 enough s t) where
           short = omega (arith, object_short s 0 f (taken_object s 0 f e), object_short s (after f) o (taken_object s (after f) o q))
 
       of_f_lem : (o : CheckedObject) → read_object s 0 ≡ o → BothRefused s t
-      of_f_lem (CheckedObject.Refused r) e = record { refusal = r; of_s = rw e; of_t = rw (same_object g 0 (omega arith) ∙ e) }
-      of_f_lem (CheckedObject.Taken f) e =
+      of_f_lem (Err r) e = record { refusal = r; of_s = rw e; of_t = rw (same_object g 0 (omega arith) ∙ e) }
+      of_f_lem (Ok f) e =
           of_g_lem f e (same_object g 0 (omega arith) ∙ e) (read_object s (after f)) refl
           (same_object g (after f) (omega (arith, object_short s 0 f (taken_object s 0 f e))))
 
@@ -88,5 +88,5 @@ only_first_bytes rules s t e = go (dec_le enough (length s))
         let same : s ≡ t = sym (take_all enough s (omega arith)) ∙ e ∙ take_all enough t (omega (arith, lengths)) in
         ap (check_scene_by rules) same
 
-pub taken_short : (rules : List (Rule Scene)) (s : List ℕ) (sc : Scene) → check_scene_by rules s ≡ CheckedScene.Taken sc → length s ≤ 38918
+pub taken_short : (rules : List (Rule Scene)) (s : List ℕ) (sc : Scene) → check_scene_by rules s ≡ Ok sc → length s ≤ 38918
 taken_short rules s sc e = scene_short s sc (checked_scene_lem rules s sc e).0

@@ -1,5 +1,7 @@
 -- What an object's bytes stand for does not depend on where they stand: its elements, its segments, the object, and the conditions 10 to 14 and 15,
 -- whose faults have their places raised with the bytes.
+use Rattle.std.specs.Prelude.{None, Some}
+use Rattle.scene.specs.Read.{Fault}
 use Prim.Native.Nat.{ℕ, ◌+◌, ◌-◌, ◌<◌, ◌≤◌}
 use native.Mathlib.Omega.{arith}
 use mathlib.Core.Path.{◌≡◌, refl, sym, ap, ap₂, ◌∙◌}
@@ -15,8 +17,6 @@ use Rattle.plane.specs.Plane.{before, comes_before, dominating, ends_at, grid, i
 use Rattle.scene.specs.declared.Shape.{Shape}
 use Rattle.scene.specs.declared.Shape.TheVariants.{Points, Line, Region}
 use Rattle.scene.specs.declared.Layout.{Layout}
-use Rattle.scene.specs.declared.Fault.{Fault}
-use Rattle.scene.specs.declared.Fault.TheVariants.{At, Nothing}
 use Rattle.scene.specs.Read.{point_at, size, place, end_place}
 use Rattle.scene.specs.Conditions.{elements, has_segments, is_region, half, ia, left_test, segments, object, earliest, is_in_order, is_misplaced, out_of_order, partner, is_unpaired, unpaired, is_touching, touching, touching_itself, ends_oddly, odd_end, has_wrong_ia, wrong_ia, Rule, object_rules}
 use Rattle.scene.proofs.Taken.{layout}
@@ -39,7 +39,7 @@ and_same {a} {a'} {b} {b'} e h = ap (λ (x : Bool). x && b) e ∙ go a' h
     go true h = h refl
     go false h = refl
 
-moved_cond : (d : ℕ) (b : Bool) (p : ℕ) (f : Fault) → cond b (At (p + d)) (moved_fault d f) ≡ moved_fault d (cond b (At p) f)
+moved_cond : (d : ℕ) (b : Bool) (p : ℕ) (f : Fault) → cond b (Some (p + d)) (moved_fault d f) ≡ moved_fault d (cond b (Some p) f)
 moved_cond d true p f = refl
 moved_cond d false p f = refl
 
@@ -99,7 +99,7 @@ module _ {d : ℕ} {s : List ℕ} {l : Layout} {t : List ℕ} {to : ℕ} (o : St
     where
       go : (is : List ℕ) → ((i : ℕ) → i ∈ is → f i ≡ g i) → earliest (placed to l) f is ≡ moved_fault d (earliest l g is)
       go [] h = refl
-      go (i ∷ is) h = (λ x. cond (h i here x) (At (place_moved i x)) (go is (λ j m. h j (there m)) x)) ∙ moved_cond d (g i) (place l i) (earliest l g is)
+      go (i ∷ is) h = (λ x. cond (h i here x) (Some (place_moved i x)) (go is (λ j m. h j (there m)) x)) ∙ moved_cond d (g i) (place l i) (earliest l g is)
 
   -- 11
   partner_stays : has_segments l.shape ≡ true → (i j : ℕ) → i < l.count → j < l.count → partner t (placed to l) i j ≡ partner s l i j
@@ -192,9 +192,9 @@ module _ {d : ℕ} {s : List ℕ} {l : Layout} {t : List ℕ} {to : ℕ} (o : St
   pub faultless_here : NoFault t (placed to l) object_rules → NoFault s l object_rules
   faultless_here = go object_rules moved_faults
     where
-      still : (f : Fault) → moved_fault d f ≡ Nothing → f ≡ Nothing
-      still (At p) e = absurd (not_nothing e)
-      still Nothing e = refl
+      still : (f : Fault) → moved_fault d f ≡ None → f ≡ None
+      still (Some p) e = absurd (not_nothing e)
+      still None e = refl
 
       go : (rules : List (Rule Layout)) → Moves rules → NoFault t (placed to l) rules → NoFault s l rules
       go [] m n = tt

@@ -1,4 +1,7 @@
 -- Reading an object, step by step; and what a taken object gives: its element records, one after the other, each with its tests passed, and its end.
+use Rattle.scene.proofs.Outcomes.{never_taken, same_taken}
+use Rattle.std.specs.Prelude.{Err, Ok}
+use Rattle.scene.specs.Read.{CheckedObject, CheckedScene, Record}
 use Prim.Native.Nat.{ℕ, zero, suc, ◌+◌, ◌-◌, ◌<◌, ◌≤◌, zero-le}
 use native.Mathlib.Nat.{lt_irrefl}
 use native.Mathlib.Decide.{dec_lt, ℕ_discrete}
@@ -16,10 +19,6 @@ use Rattle.scene.specs.declared.Kind.TheVariants.{Start, Element, End, Unknown}
 use Rattle.scene.specs.declared.Layout.{Layout}
 use Rattle.scene.specs.declared.Scene.{Scene}
 use Rattle.scene.specs.declared.Refusal.{Refusal}
-use Rattle.scene.specs.declared.Record.{Record}
-use Rattle.scene.specs.declared.Record.TheVariants.{Good, Bad}
-use Rattle.scene.specs.declared.CheckedObject.{CheckedObject}
-use Rattle.scene.specs.declared.CheckedScene.{CheckedScene}
 use Rattle.scene.specs.Read.{kind_at, shape_number, stands_in, starts_object, is_end, record_at, place, end_place, after, next, most, elements_from, begun, read_object, shape_of, byte, unless, decide, judge, ends_with, alone, read_alone, descends, arranged, turned, given_first, given_second, scene_with_second, scene_with_first, read_scene, IsObject}
 use Rattle.scene.proofs.Passed.{Passed, passed, same_shape}
 
@@ -63,7 +62,7 @@ module _ (s : List ℕ) (k : Shape) (start : ℕ) where
           left : most - n ≡ suc (most - (n + 1))
           left = omega arith
 
-      full : rest most ≡ next (record_of most) (layout k start most) (CheckedObject.Taken (layout k start most))
+      full : rest most ≡ next (record_of most) (layout k start most) (Ok (layout k start most))
       full = refl
 
       at_most : ¬ (n < most) → most ≡ n
@@ -71,13 +70,13 @@ module _ (s : List ℕ) (k : Shape) (start : ℕ) where
 
       go : Dec (n < most) → Step n
       go (yes l) = record { other = rest (n + 1); is = more l; goes = λ _. refl }
-      go (no l) = subst Step (at_most l) (record { other = CheckedObject.Taken (layout k start most); is = full; goes = λ g. absurd (lt_irrefl most g) })
+      go (no l) = subst Step (at_most l) (record { other = Ok (layout k start most); is = full; goes = λ g. absurd (lt_irrefl most g) })
 
   -- what that record decides
-  pub stops : (n : ℕ) → n ≤ most → (r : Refusal) → record_of n ≡ Bad r → rest n ≡ CheckedObject.Refused r
+  pub stops : (n : ℕ) → n ≤ most → (r : Refusal) → record_of n ≡ Err r → rest n ≡ Err r
   stops n h r e = (step n h).is ∙ rw e
 
-  pub ends_here : (n : ℕ) → n ≤ most → (j : Kind) → record_of n ≡ Good j → is_end j ≡ true → rest n ≡ CheckedObject.Taken (layout k start n)
+  pub ends_here : (n : ℕ) → n ≤ most → (j : Kind) → record_of n ≡ Ok j → is_end j ≡ true → rest n ≡ Ok (layout k start n)
   ends_here n h j e b = (step n h).is ∙ rw (e, b)
 
   pub record GoesOn (n : ℕ) : Type 0 where
@@ -85,7 +84,7 @@ module _ (s : List ℕ) (k : Shape) (start : ℕ) where
     pub room : n < most
     pub on : rest n ≡ rest (n + 1)
 
-  pub goes_on : (n : ℕ) → n ≤ most → (j : Kind) → record_of n ≡ Good j → is_end j ≡ false → GoesOn n
+  pub goes_on : (n : ℕ) → n ≤ most → (j : Kind) → record_of n ≡ Ok j → is_end j ≡ false → GoesOn n
   goes_on n h j e b = record {
     tests = subst (λ (f : Bool). Passed s (place (layout k start n) n) (stands_in k) f (Element k)) (ne_eqb n most not_full) at_element;
     room = room;
@@ -113,12 +112,6 @@ pub record TakenObject (s : List ℕ) (at : ℕ) (l : Layout) : Type 0 where
   pub end : kind_at s (end_place l) ≡ End
   pub elements : (i : ℕ) → i < l.count → Passed s (place l i) (stands_in l.shape) false (Element l.shape)
 
-pub not_taken : {r : Refusal} {l : Layout} → CheckedObject.Refused r ≡ CheckedObject.Taken l → ⊥
-not_taken e = let z : ◌≡◌ {A = ℕ} 0 1 = cc in omega arith
-
-pub same_layout : {l l' : Layout} → CheckedObject.Taken l ≡ CheckedObject.Taken l' → l ≡ l'
-same_layout e = cc
-
 module _ (s : List ℕ) (k : Shape) (start : ℕ) (l : Layout) where
   -- from n elements on
   record ReadTo (n : ℕ) : Type 0 where
@@ -129,13 +122,13 @@ module _ (s : List ℕ) (k : Shape) (start : ℕ) (l : Layout) where
     end : kind_at s (end_place (layout k start last)) ≡ End
     elements : (i : ℕ) → n ≤ i → i < last → Passed s (place (layout k start i) i) (stands_in k) false (Element k)
 
-  read_one : (n : ℕ) → n ≤ most → (n < most → rest s k start (n + 1) ≡ CheckedObject.Taken l → ReadTo (n + 1)) → rest s k start n ≡ CheckedObject.Taken l → ReadTo n
+  read_one : (n : ℕ) → n ≤ most → (n < most → rest s k start (n + 1) ≡ Ok l → ReadTo (n + 1)) → rest s k start n ≡ Ok l → ReadTo n
   read_one n h later e = go (record_of s k start n) refl
     where
-      ended : (j : Kind) → record_of s k start n ≡ Good j → is_end j ≡ true → ReadTo n
+      ended : (j : Kind) → record_of s k start n ≡ Ok j → is_end j ≡ true → ReadTo n
       ended j q x = record {
         last = n;
-        is = same_layout (sym (ends_here s k start n h j q x) ∙ e);
+        is = same_taken (sym (ends_here s k start n h j q x) ∙ e);
         few = h;
         ends = omega (arith, tests.whole);
         end = tests.kind ∙ end_kind j x;
@@ -162,20 +155,20 @@ module _ (s : List ℕ) (k : Shape) (start : ℕ) (l : Layout) where
           which i t (yes q) f = subst (λ (i : ℕ). Passed s (place (layout k start i) i) (stands_in k) false (Element k)) q g.tests
           which i t (no q) f = r.elements i (omega arith) t
 
-      good : (j : Kind) → record_of s k start n ≡ Good j → (b : Bool) → is_end j ≡ b → ReadTo n
+      good : (j : Kind) → record_of s k start n ≡ Ok j → (b : Bool) → is_end j ≡ b → ReadTo n
       good j q true x = ended j q x
       good j q false x = further (goes_on s k start n h j q x)
 
       go : (r : Record) → record_of s k start n ≡ r → ReadTo n
-      go (Bad r) q = absurd (not_taken (sym (stops s k start n h r q) ∙ e))
-      go (Good j) q = good j q (is_end j) refl
+      go (Err r) q = absurd (never_taken (sym (stops s k start n h r q) ∙ e))
+      go (Ok j) q = good j q (is_end j) refl
 
-  read_to : (m n : ℕ) → n + m ≡ most → rest s k start n ≡ CheckedObject.Taken l → ReadTo n
+  read_to : (m n : ℕ) → n + m ≡ most → rest s k start n ≡ Ok l → ReadTo n
   read_to zero n b e = read_one n (omega arith) (λ h. absurd (omega arith)) e
   read_to (suc m) n b e = read_one n (omega arith) (λ h. read_to m (n + 1) (omega arith)) e
 
 -- the type record that an object begins with
-pub type_record : (s : List ℕ) (at : ℕ) (j : Kind) → record_at s at starts_object false ≡ Good j → at + 2 ≤ length s
+pub type_record : (s : List ℕ) (at : ℕ) (j : Kind) → record_at s at starts_object false ≡ Ok j → at + 2 ≤ length s
 type_record s at j e = go j (passed s at starts_object false j e)
   where
     go : (j : Kind) → Passed s at starts_object false j → at + 2 ≤ length s
@@ -184,14 +177,14 @@ type_record s at j e = go j (passed s at starts_object false j e)
     go End p = absurd p.allows
     go Unknown p = absurd p.allows
 
-pub taken_object : (s : List ℕ) (at : ℕ) (l : Layout) → read_object s at ≡ CheckedObject.Taken l → TakenObject s at l
+pub taken_object : (s : List ℕ) (at : ℕ) (l : Layout) → read_object s at ≡ Ok l → TakenObject s at l
 unfolding read_object
 taken_object s at l e = go (record_at s at starts_object false) e
   where
     k : Shape
     k = shape_of (byte s (at + 1))
 
-    read : rest s k at 0 ≡ CheckedObject.Taken l → TakenObject s at l
+    read : rest s k at 0 ≡ Ok l → TakenObject s at l
     read q =
         subst (TakenObject s at) r.is
         (record { starts = refl; type = refl; few = r.few; ends = r.ends; end = r.end; elements = λ i t. r.elements i zero-le t })
@@ -199,13 +192,13 @@ taken_object s at l e = go (record_at s at starts_object false) e
         r : ReadTo s k at l 0
         r = read_to s k at l most 0 refl q
 
-    go : (r : Record) → begun r (rest s k at 0) ≡ CheckedObject.Taken l → TakenObject s at l
-    go (Bad r) q = absurd (not_taken q)
-    go (Good j) q = read q
+    go : (r : Record) → begun r (rest s k at 0) ≡ Ok l → TakenObject s at l
+    go (Err r) q = absurd (never_taken q)
+    go (Ok j) q = read q
 
 -- a layout says where its object starts
-is_object : (s : List ℕ) (at : ℕ) (l : Layout) → read_object s at ≡ CheckedObject.Taken l → IsObject s l
-is_object s at l e = subst (λ (at : ℕ). read_object s at ≡ CheckedObject.Taken l) (sym (taken_object s at l e).starts) e
+is_object : (s : List ℕ) (at : ℕ) (l : Layout) → read_object s at ≡ Ok l → IsObject s l
+is_object s at l e = subst (λ (at : ℕ). read_object s at ≡ Ok l) (sym (taken_object s at l e).starts) e
 
 -- ---- one object's bytes taken alone, and a taken scene: the bytes end where the last object does
 pub record TakenAlone (s : List ℕ) (at : ℕ) (l : Layout) : Type 0 where
@@ -221,13 +214,7 @@ pub record TakenScene (s : List ℕ) (sc : Scene) : Type 0 where
   -- the objects are exchanged exactly where the types given descend
   pub by_types : turned sc ≡ descends (given_first sc).shape (given_second sc).shape
 
-pub never_taken : {r : Refusal} {sc : Scene} → CheckedScene.Refused r ≡ CheckedScene.Taken sc → ⊥
-never_taken e = let z : ◌≡◌ {A = ℕ} 0 1 = cc in omega arith
-
-pub same_scene : {sc sc' : Scene} → CheckedScene.Taken sc ≡ CheckedScene.Taken sc' → sc ≡ sc'
-same_scene e = cc
-
-module _ (s : List ℕ) (at : ℕ) (l : Layout) (e : read_object s at ≡ CheckedObject.Taken l) where
+module _ (s : List ℕ) (at : ℕ) (l : Layout) (e : read_object s at ≡ Ok l) where
   -- 7 did not refuse
   not_seven : {A : Type 0} (refuse : Refusal → A) (a a' : A) → ((r : Refusal) → refuse r ≡ a' → ⊥) → judge refuse a (ends_with s l ∷ []) ≡ a' → TakenAlone s at l × (a ≡ a')
   not_seven refuse a a' never q = go (leb (length s) (after l)) refl q
@@ -239,15 +226,15 @@ module _ (s : List ℕ) (at : ℕ) (l : Layout) (e : read_object s at ≡ Checke
       go true x q = (record { object = taken; read = is_object s at l e; all = omega (arith, taken.ends, leb-true (length s) (after l) x) }, q)
       go false x q = absurd (never (record { number = 7; place = after l }) q)
 
-pub taken_alone : (s : List ℕ) (l : Layout) → read_alone s ≡ CheckedObject.Taken l → TakenAlone s 0 l
+pub taken_alone : (s : List ℕ) (l : Layout) → read_alone s ≡ Ok l → TakenAlone s 0 l
 unfolding read_alone
 taken_alone s l e = go (read_object s 0) refl e
   where
-    go : (o : CheckedObject) → read_object s 0 ≡ o → alone s o ≡ CheckedObject.Taken l → TakenAlone s 0 l
-    go (CheckedObject.Refused r) q x = absurd (not_taken x)
-    go (CheckedObject.Taken l') q x =
-        let y = not_seven s 0 l' q CheckedObject.Refused (CheckedObject.Taken l') (CheckedObject.Taken l) (λ r. not_taken) x in
-        subst (TakenAlone s 0) (same_layout y.1) y.0
+    go : (o : CheckedObject) → read_object s 0 ≡ o → alone s o ≡ Ok l → TakenAlone s 0 l
+    go (Err r) q x = absurd (never_taken x)
+    go (Ok l') q x =
+        let y = not_seven s 0 l' q Err (Ok l') (Ok l) (λ r. never_taken) x in
+        subst (TakenAlone s 0) (same_taken y.1) y.0
 
 -- ---- the order of two objects
 
@@ -286,19 +273,19 @@ arrange a b h = go (descends a.shape b.shape) refl
         record { first = rw t; second = rw t; rises = ltb-false (shape_number b.shape) (shape_number a.shape) e; where_descending = t ∙ sym e }
 
 -- where the second begins, the first has ended
-pub second_later : (s : List ℕ) (a b : Layout) → read_object s 0 ≡ CheckedObject.Taken a → read_object s (after a) ≡ CheckedObject.Taken b → a.start < b.start
+pub second_later : (s : List ℕ) (a b : Layout) → read_object s 0 ≡ Ok a → read_object s (after a) ≡ Ok b → a.start < b.start
 second_later s a b p q = omega (arith, (taken_object s 0 a p).starts, (taken_object s (after a) b q).starts)
 
-pub taken_scene : (s : List ℕ) (sc : Scene) → read_scene s ≡ CheckedScene.Taken sc → TakenScene s sc
+pub taken_scene : (s : List ℕ) (sc : Scene) → read_scene s ≡ Ok sc → TakenScene s sc
 unfolding read_scene
 taken_scene s sc e = of_first (read_object s 0) refl e
   where
-    of_second : (a : Layout) → read_object s 0 ≡ CheckedObject.Taken a → (o : CheckedObject) → read_object s (after a) ≡ o → scene_with_second s a o ≡ CheckedScene.Taken sc → TakenScene s sc
-    of_second a p (CheckedObject.Refused r) q x = absurd (never_taken x)
-    of_second a p (CheckedObject.Taken b) q x = subst (TakenScene s) (same_scene y.1) there
+    of_second : (a : Layout) → read_object s 0 ≡ Ok a → (o : CheckedObject) → read_object s (after a) ≡ o → scene_with_second s a o ≡ Ok sc → TakenScene s sc
+    of_second a p (Err r) q x = absurd (never_taken x)
+    of_second a p (Ok b) q x = subst (TakenScene s) (same_taken y.1) there
       where
-        y : TakenAlone s (after a) b × (CheckedScene.Taken (arranged a b) ≡ CheckedScene.Taken sc)
-        y = not_seven s (after a) b q CheckedScene.Refused (CheckedScene.Taken (arranged a b)) (CheckedScene.Taken sc) (λ r. never_taken) x
+        y : TakenAlone s (after a) b × ◌≡◌ {A = CheckedScene} (Ok (arranged a b)) (Ok sc)
+        y = not_seven s (after a) b q Err (Ok (arranged a b)) (Ok sc) (λ r. never_taken) x
 
         o : Arranged a b (arranged a b)
         o = arrange a b (second_later s a b p q)
@@ -312,9 +299,9 @@ taken_scene s sc e = of_first (read_object s 0) refl e
           by_types = o.where_descending ∙ ap₂ (λ (l m : Layout). descends l.shape m.shape) (sym o.first) (sym o.second);
         }
 
-    of_first : (o : CheckedObject) → read_object s 0 ≡ o → scene_with_first s o ≡ CheckedScene.Taken sc → TakenScene s sc
-    of_first (CheckedObject.Refused r) q x = absurd (never_taken x)
-    of_first (CheckedObject.Taken a) q x = of_second a q (read_object s (after a)) refl x
+    of_first : (o : CheckedObject) → read_object s 0 ≡ o → scene_with_first s o ≡ Ok sc → TakenScene s sc
+    of_first (Err r) q x = absurd (never_taken x)
+    of_first (Ok a) q x = of_second a q (read_object s (after a)) refl x
 
 -- F and G, wherever they stand
 module _ {s : List ℕ} {sc : Scene} (t : TakenScene s sc) where
@@ -331,14 +318,14 @@ module _ {s : List ℕ} {sc : Scene} (t : TakenScene s sc) where
 no_seven : {A : Type 0} (refuse : Refusal → A) (a : A) (s : List ℕ) (l : Layout) → length s ≡ after l → judge refuse a (ends_with s l ∷ []) ≡ a
 no_seven refuse a s l e = rw (le-leb (length s) (after l) (omega arith))
 
-pub alone_read : (s : List ℕ) (l : Layout) → read_object s 0 ≡ CheckedObject.Taken l → length s ≡ after l → read_alone s ≡ CheckedObject.Taken l
+pub alone_read : (s : List ℕ) (l : Layout) → read_object s 0 ≡ Ok l → length s ≡ after l → read_alone s ≡ Ok l
 unfolding read_alone
-alone_read s l e all = ap (alone s) e ∙ no_seven CheckedObject.Refused (CheckedObject.Taken l) s l all
+alone_read s l e all = ap (alone s) e ∙ no_seven Err (Ok l) s l all
 
-pub scene_read : (s : List ℕ) (a b : Layout) → read_object s 0 ≡ CheckedObject.Taken a → read_object s (after a) ≡ CheckedObject.Taken b → length s ≡ after b
-    → read_scene s ≡ CheckedScene.Taken (arranged a b)
+pub scene_read : (s : List ℕ) (a b : Layout) → read_object s 0 ≡ Ok a → read_object s (after a) ≡ Ok b → length s ≡ after b
+    → read_scene s ≡ Ok (arranged a b)
 unfolding read_scene
-scene_read s a b p q all = ap (scene_with_first s) p ∙ ap (scene_with_second s a) q ∙ no_seven CheckedScene.Refused (CheckedScene.Taken (arranged a b)) s b all
+scene_read s a b p q all = ap (scene_with_first s) p ∙ ap (scene_with_second s a) q ∙ no_seven Err (Ok (arranged a b)) s b all
 
 -- no object takes more than 19,459 bytes, and no scene more than 38,918
 abbrev pub longest : ℕ

@@ -1,5 +1,7 @@
 -- The conditions 10 to 15 of document 01's "What is turned away", each as "the earliest place at fault, if any", and the lists that give their order. 8 "never
 -- occurs" since 02's Paper 1; 9, 16 and 17 belong to single questions, which put them into the list at their places.
+use Rattle.std.specs.Prelude.{Err, None, Ok, Some}
+use Rattle.scene.specs.Read.{CheckedObject, CheckedScene, Fault}
 use Rattle.std.specs.Prelude.{ℕ, zero, suc, ◌-◌, Bool, true, false, not, ◌&&◌, cond, List, [], ◌∷◌, ◌++◌, map, ltb}
 use Rattle.std.specs.Bool.{beq}
 use Rattle.whole.specs.Count.{odd, some}
@@ -10,10 +12,6 @@ use Rattle.scene.specs.declared.Shape.{Shape}
 use Rattle.scene.specs.declared.Shape.TheVariants.{Points, Line, Region}
 use Rattle.scene.specs.declared.Layout.{Layout}
 use Rattle.scene.specs.declared.Scene.{Scene}
-use Rattle.scene.specs.declared.Fault.{Fault}
-use Rattle.scene.specs.declared.Fault.TheVariants.{At, Nothing}
-use Rattle.scene.specs.declared.CheckedObject.{CheckedObject}
-use Rattle.scene.specs.declared.CheckedScene.{CheckedScene}
 use Rattle.scene.specs.Read.{point_at, halfsegment_at, ia_at, place, given_first, given_second, Condition, condition, judge, read_scene, read_alone}
 
 -- ---- the elements of an object, by their index
@@ -67,8 +65,8 @@ module _ (s : List ℕ) (l : Layout) where
 
 -- "The place is the record at fault, .. the earliest if several"
 abbrev pub earliest : Layout → (ℕ → Bool) → List ℕ → Fault
-earliest l wrong [] = Nothing
-earliest l wrong (i ∷ is) = cond (wrong i) (At (place l i)) (earliest l wrong is)
+earliest l wrong [] = None
+earliest l wrong (i ∷ is) = cond (wrong i) (Some (place l i)) (earliest l wrong is)
 
 module _ (s : List ℕ) (l : Layout) where
   -- 10: "element not strictly after the one before", and its place is the later of the two
@@ -143,8 +141,8 @@ object_rules = rule 10 out_of_order ∷ rule 11 unpaired ∷ rule 12 touching_it
 
 -- over a scene: "the earliest in those bytes if several", so the object given first comes first
 abbrev pub or_else : Fault → Fault → Fault
-or_else (At p) other = At p
-or_else Nothing other = other
+or_else (Some p) other = Some p
+or_else None other = other
 
 abbrev pub over_both : Rule Layout → Rule Scene
 over_both r = rule r.number (λ s sc. or_else (r.fault s (given_first sc)) (r.fault s (given_second sc)))
@@ -160,8 +158,8 @@ scene_rules nine later = nine ++ (map over_both object_rules ++ (rule 15 touchin
 -- ---- checking
 
 abbrev pub checked_scene : List (Rule Scene) → List ℕ → CheckedScene → CheckedScene
-checked_scene rules s (CheckedScene.Refused r) = CheckedScene.Refused r
-checked_scene rules s (CheckedScene.Taken sc) = judge CheckedScene.Refused (CheckedScene.Taken sc) (conditions rules s sc)
+checked_scene rules s (Err r) = Err r
+checked_scene rules s (Ok sc) = judge Err (Ok sc) (conditions rules s sc)
 
 unfoldable pub check_scene_by : List (Rule Scene) → List ℕ → CheckedScene
 check_scene_by rules s = checked_scene rules s (read_scene s)
@@ -171,8 +169,8 @@ check_scene s = check_scene_by (scene_rules [] []) s
 
 -- "A call on one object takes 1 to 7 and 10 to 14 over its bytes alone"
 abbrev pub checked_object : List ℕ → CheckedObject → CheckedObject
-checked_object s (CheckedObject.Refused r) = CheckedObject.Refused r
-checked_object s (CheckedObject.Taken l) = judge CheckedObject.Refused (CheckedObject.Taken l) (conditions object_rules s l)
+checked_object s (Err r) = Err r
+checked_object s (Ok l) = judge Err (Ok l) (conditions object_rules s l)
 
 unfoldable pub check_object : List ℕ → CheckedObject
 check_object s = checked_object s (read_alone s)

@@ -1,6 +1,6 @@
 -- Reading a scene: document 01's section "Scene bytes", and the refusals 1 to 7 of "What is turned away".
 -- Bytes are a list of numbers, an offset counts from 0, and nothing is decoded: an element is read where its record stands.
-use Rattle.std.specs.Prelude.{ℕ, zero, suc, ◌+◌, ◌*◌, ◌^◌, ◌≡◌, Bool, true, false, not, ◌&&◌, cond, List, [], ◌∷◌, length, get_or, leb, ltb, eqb, ℤ, pos, ◌-ℤ◌}
+use Rattle.std.specs.Prelude.{Option, Some, None, Result, Ok, Err, ℕ, zero, suc, ◌+◌, ◌*◌, ◌^◌, ◌≡◌, Bool, true, false, not, ◌&&◌, cond, List, [], ◌∷◌, length, get_or, leb, ltb, eqb, ℤ, pos, ◌-ℤ◌}
 use Rattle.plane.specs.declared.Point.{Point}
 use Rattle.plane.specs.declared.Segment.{Segment}
 use Rattle.plane.specs.declared.Halfsegment.{Halfsegment}
@@ -12,12 +12,6 @@ use Rattle.scene.specs.declared.Kind.TheVariants.{Start, Element, End, Unknown}
 use Rattle.scene.specs.declared.Layout.{Layout}
 use Rattle.scene.specs.declared.Scene.{Scene}
 use Rattle.scene.specs.declared.Refusal.{Refusal}
-use Rattle.scene.specs.declared.Fault.{Fault}
-use Rattle.scene.specs.declared.Fault.TheVariants.{At, Nothing}
-use Rattle.scene.specs.declared.Record.{Record}
-use Rattle.scene.specs.declared.Record.TheVariants.{Good, Bad}
-use Rattle.scene.specs.declared.CheckedObject.{CheckedObject}
-use Rattle.scene.specs.declared.CheckedScene.{CheckedScene}
 
 -- ---- the bytes of an element
 
@@ -84,22 +78,36 @@ shape_of n = cond (eqb n 1) Points (cond (eqb n 2) Line Region)
 
 -- ---- a record at fault
 
--- "the earliest place at fault, if any" of one condition, with its number; and the first of several conditions that has one refuses
+-- "the earliest place at fault, if any" of one condition
+abbrev pub Fault : Type 0
+Fault = Option ℕ
+
+-- what is due at an offset, an object and a scene, or a refusal
+abbrev pub Record : Type 0
+Record = Result Kind Refusal
+
+abbrev pub CheckedObject : Type 0
+CheckedObject = Result Layout Refusal
+
+abbrev pub CheckedScene : Type 0
+CheckedScene = Result Scene Refusal
+
+-- a condition's fault with its number; and the first of several conditions that has one refuses
 pub record Condition : Type 0 where
   pub number : ℕ
   pub fault : Fault
 
 abbrev pub unless : Bool → ℕ → Fault
-unless true place = Nothing
-unless false place = At place
+unless true place = None
+unless false place = Some place
 
 abbrev pub condition : ℕ → Fault → Condition
 condition n f = record { number = n; fault = f }
 
 module _ {A : Type 0} (refuse : Refusal → A) where
   abbrev pub decide : ℕ → Fault → A → A
-  decide n (At p) rest = refuse (record { number = n; place = p })
-  decide n Nothing rest = rest
+  decide n (Some p) rest = refuse (record { number = n; place = p })
+  decide n None rest = rest
 
   abbrev pub judge : A → List Condition → A
   judge taken [] = taken
@@ -171,7 +179,7 @@ module _ (s : List ℕ) (at : ℕ) where
       ∷ field_conditions k
 
   unfoldable pub record_at : (Kind → Bool) → Bool → Record
-  record_at allowed full = judge Bad (Good (kind_at s at)) (record_conditions allowed full (kind_at s at))
+  record_at allowed full = judge Err (Ok (kind_at s at)) (record_conditions allowed full (kind_at s at))
 
 -- ---- an object
 
@@ -204,18 +212,18 @@ is_end Unknown = false
 -- Numbers 1 to 7 "are found record by record": l is what has been read of the object, and as many elements as are left may follow. An end closes
 -- the object; any other good record is an element, and the rest follows. Where none is left, no good record is an element.
 abbrev pub next : Record → Layout → CheckedObject → CheckedObject
-next (Bad r) l rest = CheckedObject.Refused r
-next (Good k) l rest = cond (is_end k) (CheckedObject.Taken l) rest
+next (Err r) l rest = Err r
+next (Ok k) l rest = cond (is_end k) (Ok l) rest
 
 unfoldable pub elements_from : List ℕ → ℕ → Layout → CheckedObject
-elements_from s zero l = next (record_at s (end_place l) (stands_in l.shape) true) l (CheckedObject.Taken l)
+elements_from s zero l = next (record_at s (end_place l) (stands_in l.shape) true) l (Ok l)
 elements_from s (suc left) l =
     let rest = elements_from s left (one_more l) in
     next (record_at s (end_place l) (stands_in l.shape) false) l rest
 
 abbrev pub begun : Record → CheckedObject → CheckedObject
-begun (Bad r) rest = CheckedObject.Refused r
-begun (Good k) rest = rest
+begun (Err r) rest = Err r
+begun (Ok k) rest = rest
 
 unfoldable pub read_object : List ℕ → ℕ → CheckedObject
 read_object s at =
@@ -252,20 +260,20 @@ abbrev pub ends_with : List ℕ → Layout → Condition
 ends_with s l = condition 7 (unless (leb (length s) (after l)) (after l))
 
 abbrev pub scene_with_second : List ℕ → Layout → CheckedObject → CheckedScene
-scene_with_second s a (CheckedObject.Refused r) = CheckedScene.Refused r
-scene_with_second s a (CheckedObject.Taken b) = judge CheckedScene.Refused (CheckedScene.Taken (arranged a b)) (ends_with s b ∷ [])
+scene_with_second s a (Err r) = Err r
+scene_with_second s a (Ok b) = judge Err (Ok (arranged a b)) (ends_with s b ∷ [])
 
 abbrev pub scene_with_first : List ℕ → CheckedObject → CheckedScene
-scene_with_first s (CheckedObject.Refused r) = CheckedScene.Refused r
-scene_with_first s (CheckedObject.Taken a) = scene_with_second s a (read_object s (after a))
+scene_with_first s (Err r) = Err r
+scene_with_first s (Ok a) = scene_with_second s a (read_object s (after a))
 
 unfoldable pub read_scene : List ℕ → CheckedScene
 read_scene s = scene_with_first s (read_object s 0)
 
 -- "A call on one object takes 1 to 7 .. over its bytes alone, 7 being bytes after its end."
 abbrev pub alone : List ℕ → CheckedObject → CheckedObject
-alone s (CheckedObject.Refused r) = CheckedObject.Refused r
-alone s (CheckedObject.Taken l) = judge CheckedObject.Refused (CheckedObject.Taken l) (ends_with s l ∷ [])
+alone s (Err r) = Err r
+alone s (Ok l) = judge Err (Ok l) (ends_with s l ∷ [])
 
 unfoldable pub read_alone : List ℕ → CheckedObject
 read_alone s = alone s (read_object s 0)
@@ -273,10 +281,10 @@ read_alone s = alone s (read_object s 0)
 -- ---- a layout of these bytes: what the functions on a layout require, and reading gives
 
 abbrev pub IsObject : List ℕ → Layout → Type 0
-IsObject s l = read_object s l.start ≡ CheckedObject.Taken l
+IsObject s l = read_object s l.start ≡ Ok l
 
 abbrev pub IsScene : List ℕ → Scene → Type 0
-IsScene s sc = read_scene s ≡ CheckedScene.Taken sc
+IsScene s sc = read_scene s ≡ Ok sc
 
 -- ---- the numbers and values of an answer
 
@@ -288,9 +296,9 @@ pub record Values : Type 0 where
   pub types : List ℕ
 
 abbrev pub scene_values : CheckedScene → Values
-scene_values (CheckedScene.Taken sc) = record { number = 0; place = 0; types = shape_number (given_first sc).shape ∷ shape_number (given_second sc).shape ∷ [] }
-scene_values (CheckedScene.Refused r) = record { number = r.number; place = r.place; types = 0 ∷ 0 ∷ [] }
+scene_values (Ok sc) = record { number = 0; place = 0; types = shape_number (given_first sc).shape ∷ shape_number (given_second sc).shape ∷ [] }
+scene_values (Err r) = record { number = r.number; place = r.place; types = 0 ∷ 0 ∷ [] }
 
 abbrev pub object_values : CheckedObject → Values
-object_values (CheckedObject.Taken l) = record { number = 0; place = 0; types = shape_number l.shape ∷ [] }
-object_values (CheckedObject.Refused r) = record { number = r.number; place = r.place; types = 0 ∷ [] }
+object_values (Ok l) = record { number = 0; place = 0; types = shape_number l.shape ∷ [] }
+object_values (Err r) = record { number = r.number; place = r.place; types = 0 ∷ [] }

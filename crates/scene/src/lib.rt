@@ -41,32 +41,6 @@ pub struct Refusal {
     pub place: usize,
 }
 
-// The earliest place at fault under one condition.
-#[derive(Clone, Copy)]
-pub enum Fault {
-    At(usize),
-    Nothing,
-}
-
-// What stands at an offset where a record is due.
-#[derive(Clone, Copy)]
-pub enum Record {
-    Good(Kind),
-    Bad(Refusal),
-}
-
-#[derive(Clone, Copy)]
-pub enum CheckedObject {
-    Taken(Layout),
-    Refused(Refusal),
-}
-
-#[derive(Clone, Copy)]
-pub enum CheckedScene {
-    Taken(Scene),
-    Refused(Refusal),
-}
-
 pub mod bytes;
 pub mod order;
 pub mod records;

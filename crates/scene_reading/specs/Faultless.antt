@@ -1,10 +1,10 @@
 -- Elements of one type that stand one after the other, none of them at fault, as many as there are.
+use Rattle.std.specs.Prelude.{Ok}
 use Rattle.std.specs.Prelude.{ℕ, ◌+◌, ◌*◌, ◌<◌, ◌≤◌, ◌≡◌, Bool, false, ◌&&◌, List, length}
 use Rattle.plane.specs.declared.Segment.{Segment}
 use Rattle.plane.specs.Plane.{segment_in_range, ordered}
 use Rattle.scene.specs.declared.Shape.{Shape}
 use Rattle.scene.specs.declared.Kind.TheVariants.{Element}
-use Rattle.scene.specs.declared.Record.TheVariants.{Good}
 use Rattle.scene.specs.Read.{record_at, stands_in, size, most}
 
 -- neither 4 nor 5
@@ -14,7 +14,7 @@ is_sound t = segment_in_range t && ordered t
 module _ (s : List ℕ) (k : Shape) where
   -- the record at an offset is an element without fault, where one more may stand
   abbrev pub IsElement : ℕ → Type 0
-  IsElement at = record_at s at (stands_in k) false ≡ Good (Element k)
+  IsElement at = record_at s at (stands_in k) false ≡ Ok (Element k)
 
   -- exactly so many of them from an offset on: where an object may have one more, none follows
   pub record Faultless (start n : ℕ) : Type 0 where

@@ -52,13 +52,11 @@ pub fn count(s: &[u8], k: Shape, start: usize) -> usize
 {
     let size = records::size(k);
     let mut at = start;
-    let mut i: usize = 0;
-    while i < 1024 {
+    for i in 0..1024 {
         if !is_faultless(s, k, at) {
             return i;
         }
         at += size;
-        i += 1;
     }
-    i
+    1024
 }

@@ -1,5 +1,6 @@
 -- Where elements are in order, the left halfsegments after one that begins right of t's end begin there too: none of them touches t, and none counts for
 -- its ia. So the searches that stop there find what is defined over all segments.
+use Rattle.std.specs.Prelude.{None}
 use Prim.Native.Nat.{ℕ, ◌-◌, ◌<◌, ◌≤◌}
 use native.Mathlib.Nat.{eq-or-lt_of_le}
 use native.Mathlib.Omega.{arith}
@@ -21,7 +22,6 @@ use Rattle.plane.specs.Plane.{before, is_same_point, ordered, dominating, comes_
 use Rattle.plane.proofs.Equal.{same_point_read}
 use Rattle.plane.proofs.OnSegment.{ordered_read, width}
 use Rattle.scene.specs.declared.Layout.{Layout}
-use Rattle.scene.specs.declared.Fault.TheVariants.{Nothing}
 use Rattle.scene.specs.Read.{IsObject}
 use Rattle.scene.specs.Conditions.{has_segments, half, left_test, segments, out_of_order}
 use Rattle.scene_segments.specs.Walked.{beyond, vertical, is_below, is_beyond, touches_from, count_below}
@@ -79,7 +79,7 @@ comes_x h k t =
     (λ u. zero_nonneg (ap (λ (p : Point). (dominating k).x -ℤ p.x) (same_point_read (dominating h) (dominating k) (and_left (is_same_point (dominating h) (dominating k)) _ u)) ∙ +ℤ_invr (dominating k).x))
     (or_cases (before (dominating h) (dominating k)) _ t)
 
-module _ (s : List ℕ) (l : Layout) (is : IsObject s l) (order : out_of_order s l ≡ Nothing) (t : Segment) (o : T (ordered t)) where
+module _ (s : List ℕ) (l : Layout) (is : IsObject s l) (order : out_of_order s l ≡ None) (t : Segment) (o : T (ordered t)) where
   left_half : (i : ℕ) → T (left_test s l i) → (has_segments l.shape ≡ true) × ((half s l i).is_left ≡ true)
   left_half i h = (true_is _ (and_left (has_segments l.shape) (half s l i).is_left h), true_is _ (and_right (has_segments l.shape) (half s l i).is_left h))
 

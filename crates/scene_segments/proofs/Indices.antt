@@ -1,4 +1,5 @@
 -- The elements of an object by their indices, of proofs/Indices.antt of scene; and elements in order, each of which comes before every later one.
+use Rattle.std.specs.Prelude.{None}
 use Prim.Native.Nat.{ℕ, suc, ◌-◌, ◌<◌}
 use native.Mathlib.Omega.{arith}
 use mathlib.Core.Path.{◌≡◌, subst}
@@ -12,13 +13,12 @@ use Rattle.plane.specs.declared.Halfsegment.{Halfsegment}
 use Rattle.plane.specs.Plane.{before, ordered, comes_before}
 use Rattle.plane.proofs.Order.{before_trans, comes_trans}
 use Rattle.scene.specs.declared.Layout.{Layout}
-use Rattle.scene.specs.declared.Fault.TheVariants.{Nothing}
 use Rattle.scene.specs.Read.{point_at, place, IsObject}
 use Rattle.scene.specs.Conditions.{has_segments, half, is_in_order, is_misplaced, out_of_order}
 pub use Rattle.scene.proofs.Indices.{in_indices, indices_in, element_in, in_element, keep_in, in_keep, kept_rise, not_nothing, none_wrong, no_fault}
 use Rattle.scene_segments.proofs.Elements.{half_good, order_of_points, order_of_halves}
 
-module _ (s : List ℕ) (l : Layout) (read : IsObject s l) (order : out_of_order s l ≡ Nothing) where
+module _ (s : List ℕ) (l : Layout) (read : IsObject s l) (order : out_of_order s l ≡ None) where
   -- 10: each element comes before every later one
   neighbours : (i : ℕ) → suc i < l.count → T (is_in_order s l i (suc i))
   unfolding out_of_order

@@ -1,4 +1,5 @@
 -- 11: the partner of a halfsegment, "of opposite d, equal ends and ia", from the test; and where 11 finds no fault each has one.
+use Rattle.std.specs.Prelude.{None}
 use Prim.Native.Nat.{ℕ, ◌<◌}
 use mathlib.Core.Path.{◌≡◌, refl, sym}
 use mathlib.Core.Bool.{Bool, true, false, not, ◌&&◌, beq}
@@ -10,7 +11,6 @@ use Rattle.whole.proofs.Logic.{beq_same, and_left, and_right, is_true, true_is, 
 use Rattle.plane.specs.Plane.{is_same_segment}
 use Rattle.plane.proofs.Equal.{same_segment_read}
 use Rattle.scene.specs.declared.Layout.{Layout}
-use Rattle.scene.specs.declared.Fault.TheVariants.{Nothing}
 use Rattle.scene.specs.Conditions.{elements, has_segments, half, ia, partner, is_unpaired, unpaired}
 use Rattle.scene_segments.proofs.Indices.{in_element, none_wrong}
 
@@ -51,7 +51,7 @@ module _ (s : List ℕ) (l : Layout) where
       both : T (sides && segments')
       both = and_left (sides && segments') (beq (ia s l i) (ia s l j)) t
 
-  pub partner_there : unpaired s l ≡ Nothing → has_segments l.shape ≡ true → (i : ℕ) → i < l.count → Partner s l i
+  pub partner_there : unpaired s l ≡ None → has_segments l.shape ≡ true → (i : ℕ) → i < l.count → Partner s l i
   unfolding unpaired
   partner_there paired e i h =
       let w = some_find (partner s l i) (elements l) (is_true (some (partner s l i) (elements l)) found) in

@@ -1,5 +1,6 @@
 -- The elements of an object one after the other: what is left of them from the element i on, of a search, a count and the earliest fault; and one
 -- step of a walk over its segments.
+use Rattle.std.specs.Prelude.{None, Some}
 use Prim.Native.Nat.{ℕ, suc, ◌+◌, ◌-◌, ◌<◌, ◌≤◌}
 use native.Mathlib.Omega.{arith}
 use native.Mathlib.Numerals.{add-one}
@@ -16,7 +17,6 @@ use Rattle.plane.specs.Plane.{segment_in_range, ordered}
 use Rattle.scene.specs.declared.Shape.{Shape}
 use Rattle.scene.specs.declared.Shape.TheVariants.{Points, Line, Region}
 use Rattle.scene.specs.declared.Layout.{Layout}
-use Rattle.scene.specs.declared.Fault.TheVariants.{At, Nothing}
 use Rattle.scene.specs.Read.{byte, segment_at, size, place, after, most, IsObject}
 use Rattle.scene.specs.Conditions.{indices, elements, keep, has_segments, half, left_test, segments, earliest}
 use Rattle.scene.proofs.Taken.{taken_object}
@@ -67,13 +67,13 @@ module _ (f : ℕ → Bool) (i n : ℕ) where
   count_none h = rw (between_none i n h)
 
 module _ (l : Layout) (wrong : ℕ → Bool) (i n : ℕ) where
-  pub earliest_here : i < n → wrong i ≡ true → earliest l wrong (between i n) ≡ At (place l i)
+  pub earliest_here : i < n → wrong i ≡ true → earliest l wrong (between i n) ≡ Some (place l i)
   earliest_here h e = rw (between_next i n h, e)
 
   pub earliest_later : i < n → wrong i ≡ false → earliest l wrong (between i n) ≡ earliest l wrong (between (i + 1) n)
   earliest_later h e = rw (between_next i n h, e)
 
-  pub earliest_none : n ≤ i → earliest l wrong (between i n) ≡ Nothing
+  pub earliest_none : n ≤ i → earliest l wrong (between i n) ≡ None
   earliest_none h = rw (between_none i n h)
 
 -- ---- the segments of an object, by the elements that are left halfsegments

@@ -1,5 +1,6 @@
 -- An object that is read as the halfsegments of segments that share only common ends passes 10 to 12. Where each segment occurs an odd number of
 -- times, the ends are even and ia is as the rule has it, it passes 13 and 14.
+use Rattle.std.specs.Prelude.{None}
 use Prim.Native.Nat.{ℕ, zero, suc, ◌-◌, ◌<◌}
 use native.Mathlib.Nat.{not-suc-le-zero, le_of_suc-le-suc}
 use native.Mathlib.Omega.{arith}
@@ -26,7 +27,6 @@ use Rattle.plane.proofs.Path.{Even}
 use Rattle.plane.proofs.Accepted.{Across, AllOrdered, ends_parity}
 use Rattle.plane.proofs.Order.{half_of, LeftBefore, segments_once}
 use Rattle.scene.specs.declared.Layout.{Layout}
-use Rattle.scene.specs.declared.Fault.TheVariants.{Nothing}
 use Rattle.scene.specs.Read.{IsObject}
 use Rattle.scene.specs.Conditions.{elements, keep, has_segments, is_region, half, ia, left_test, segments, is_in_order, is_misplaced, out_of_order, partner, is_unpaired, unpaired, is_touching, touching, touching_itself, ends_oddly, odd_end, has_wrong_ia, wrong_ia}
 use Rattle.scene_segments.proofs.Elements.{order_of_halves}
@@ -77,7 +77,7 @@ and-false false = refl
 
 -- 12, and 15 across two objects, by the lists that their segments are from
 across_passes : (s : List ℕ) (f g : Layout) (l m : List Segment) → ((t : Segment) → t ∈ segments s f → t ∈ l) → ((t : Segment) → t ∈ segments s g → t ∈ m)
-    → AllOrdered l → AllOrdered m → Across l m → touching s f (segments s g) ≡ Nothing
+    → AllOrdered l → AllOrdered m → Across l m → touching s f (segments s g) ≡ None
 unfolding touching segments
 across_passes s f g l m of_f_lem of_g_lem ord ord' across = no_fault f (is_touching s f (segments s g)) (λ i h. go i h (left_test s f i) refl)
   where
@@ -135,7 +135,7 @@ module _ {s : List ℕ} {lay : Layout} {l : List Segment} {hs : List Halfsegment
       (in_map (λ i. (half s lay i).segment) (in_keep (left_test s lay) (element_in lay w.0 w.1) (rw (r.has, ap (λ (h : Halfsegment). h.is_left) w.2))))
 
   -- ---- 10
-  pub order_passes : out_of_order s lay ≡ Nothing
+  pub order_passes : out_of_order s lay ≡ None
   unfolding out_of_order
   order_passes = no_fault lay (is_misplaced s lay) wrong
     where
@@ -173,7 +173,7 @@ module _ {s : List ℕ} {lay : Layout} {l : List Segment} {hs : List Halfsegment
       (subst (λ (t : Segment). T (is_same_segment (half s lay i).segment t)) (sym (ap (λ (x : Halfsegment). x.segment) e)) (same_segment_refl (half s lay i).segment)))
       (subst (λ (b : Bool). T (beq (ia s lay i) b)) (same_ia_lem i j h k (sym (ap (λ (x : Halfsegment). x.segment) e))) (is_true (beq (ia s lay i) (ia s lay i)) (beq_refl (ia s lay i))))
 
-  pub pairs_pass : unpaired s lay ≡ Nothing
+  pub pairs_pass : unpaired s lay ≡ None
   unfolding unpaired
   pairs_pass = no_fault lay (is_unpaired s lay) (λ i h. rw r.has (ap not (true_is (some (partner s lay i) (elements lay)) (found i h))))
     where
@@ -183,7 +183,7 @@ module _ {s : List ℕ} {lay : Layout} {l : List Segment} {hs : List Halfsegment
           some_make (partner s lay i) (element_in lay w.0 w.1) (paired i w.0 h w.1 w.2)
 
   -- ---- 12
-  pub touch_passes : touching_itself s lay ≡ Nothing
+  pub touch_passes : touching_itself s lay ≡ None
   unfolding touching_itself
   touch_passes = across_passes s lay lay l l (λ t m. segments_in m) (λ t m. segments_in m) ord ord across
 
@@ -217,7 +217,7 @@ module _ {s : List ℕ} {lay : Layout} {l : List Segment} {hs : List Halfsegment
         ap₂ (λ (a b : Bool). (eq_z t.left.x t.right.x && a) || (not (eq_z t.left.x t.right.x) && not b)) (odd_read (counts_below_left (midpoint t)))
         (odd_read (counts_below (midpoint t)))
 
-    pub ends_pass : Even l → odd_end s lay ≡ Nothing
+    pub ends_pass : Even l → odd_end s lay ≡ None
     unfolding odd_end ends_at
     ends_pass even = no_fault lay (ends_oddly s lay) (λ i h. ap (λ (b : Bool). is_region lay.shape && b) (at (dominating (half s lay i))) ∙ and-false (is_region lay.shape))
       where
@@ -227,7 +227,7 @@ module _ {s : List ℕ} {lay : Layout} {l : List Segment} {hs : List Halfsegment
             ∙ parity_same (λ t. is_end t (grid v)) (λ t. is_same_point t.left v ⊻ is_same_point t.right v) l (λ t m. ends_parity t (ordered_read t (ord t m)) v)
             ∙ even v
 
-    pub ia_passes : wrong_ia s lay ≡ Nothing
+    pub ia_passes : wrong_ia s lay ≡ None
     unfolding wrong_ia
     ia_passes = no_fault lay (has_wrong_ia s lay) (λ i h. go i h (is_region lay.shape) refl)
       where

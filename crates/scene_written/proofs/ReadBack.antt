@@ -1,5 +1,6 @@
 -- What is written is read back: the bytes of an object, wherever they stand, are read as an object of its type with as many elements, and each
 -- element's record is read as the element.
+use Rattle.std.specs.Prelude.{Ok}
 use Prim.Native.Nat.{ℕ, zero, suc, ◌+◌, ◌*◌, ◌<◌, ◌≤◌}
 use native.Mathlib.Nat.{not-suc-le-zero, le_of_suc-le-suc}
 use native.Mathlib.Omega.{arith}
@@ -17,8 +18,6 @@ use Rattle.plane.specs.declared.Halfsegment.{Halfsegment}
 use Rattle.scene.specs.declared.Shape.{Shape}
 use Rattle.scene.specs.declared.Shape.TheVariants.{Points, Line, Region}
 use Rattle.scene.specs.declared.Kind.TheVariants.{Start, Element, End}
-use Rattle.scene.specs.declared.Record.TheVariants.{Good}
-use Rattle.scene.specs.declared.CheckedObject.{CheckedObject}
 use Rattle.scene.specs.Read.{byte, kind_of, shape_number, shape_of, stands_in, starts_object, record_at, size, place, after, most, elements_from, read_object, read_alone}
 use Rattle.scene.specs.Conditions.{indices, elements}
 use Rattle.scene.proofs.Passed.{whole_body}
@@ -109,14 +108,14 @@ module _ (s : List ℕ) (start : ℕ) (k : Shape) (xs : List (Item k)) (written 
   shape_byte : byte s (start + 1) ≡ shape_number k
   shape_byte = at_byte written (start + 1) 1 refl (omega (arith, bytes_length k xs))
 
-  type_read : record_at s start starts_object false ≡ Good Start
+  type_read : record_at s start starts_object false ≡ Ok Start
   unfolding kind_of
   type_read =
       whole_body s start starts_object false Start (omega (arith, written.fits, bytes_length k xs))
       (ap kind_of (at_byte written start 0 (omega arith) (omega (arith, bytes_length k xs)))) refl refl (omega (arith, written.fits, bytes_length k xs))
-      ∙ all_good start (Good Start) (ap (λ (n : ℕ). leb 1 n && leb n 3) shape_byte ∙ number_good k) refl refl
+      ∙ all_good start (Ok Start) (ap (λ (n : ℕ). leb 1 n && leb n 3) shape_byte ∙ number_good k) refl refl
 
-  end_read : (full : Bool) → record_at s (start + 2 + length xs * size k) (stands_in k) full ≡ Good End
+  end_read : (full : Bool) → record_at s (start + 2 + length xs * size k) (stands_in k) full ≡ Ok End
   unfolding kind_of
   end_read full =
       whole_body s (start + 2 + length xs * size k) (stands_in k) full End (omega (arith, end_at.fits))
@@ -128,14 +127,14 @@ module _ (s : List ℕ) (start : ℕ) (k : Shape) (xs : List (Item k)) (written 
     element_back d i h = item_back k (get_or xs i d) (good (get_or xs i d) (in_at xs d i h)) (stands_at d i h)
 
     module _ (few : length xs ≤ most) where
-      element_read : (n : ℕ) → n < length xs → record_of s k start n ≡ Good (Element k)
+      element_read : (n : ℕ) → n < length xs → record_of s k start n ≡ Ok (Element k)
       element_read n h =
           rw (ne_eqb n most (λ q. omega arith))
           (record_good k (get_or xs n (an_item k)) (good (get_or xs n (an_item k)) (in_at xs (an_item k) n h)) (stands_at (an_item k) n h))
 
-      rest_read : (m n : ℕ) → n + m ≡ length xs → rest s k start n ≡ CheckedObject.Taken (layout k start (length xs))
+      rest_read : (m n : ℕ) → n + m ≡ length xs → rest s k start n ≡ Ok (layout k start (length xs))
       rest_read zero n e =
-          subst (λ (n : ℕ). rest s k start n ≡ CheckedObject.Taken (layout k start (length xs))) same
+          subst (λ (n : ℕ). rest s k start n ≡ Ok (layout k start (length xs))) same
           (ends_here s k start (length xs) few End (end_read (eqb (length xs) most)) refl)
         where
           same : length xs ≡ n
@@ -144,7 +143,7 @@ module _ (s : List ℕ) (start : ℕ) (k : Shape) (xs : List (Item k)) (written 
           (goes_on s k start n (omega arith) (Element k) (element_read n (omega arith)) refl).on ∙ rest_read m (n + 1) (omega arith)
 
       -- the object is read, whatever stands before it and after it
-      pub object_back : read_object s start ≡ CheckedObject.Taken (layout k start (length xs))
+      pub object_back : read_object s start ≡ Ok (layout k start (length xs))
       unfolding read_object
       object_back =
           rw type_read
@@ -185,7 +184,7 @@ stands_whole bs = record { fits = omega arith; same = λ i h. ap (byte bs) (none
     none : (i : ℕ) → 0 + i ≡ i
     none i = omega arith
 
-pub alone_back : (k : Shape) (xs : List (Item k)) → AllGood k xs → length xs ≤ most → read_alone (bytes_of k xs) ≡ CheckedObject.Taken (layout k 0 (length xs))
+pub alone_back : (k : Shape) (xs : List (Item k)) → AllGood k xs → length xs ≤ most → read_alone (bytes_of k xs) ≡ Ok (layout k 0 (length xs))
 unfolding read_alone
 alone_back k xs good few = rw (object_back (bytes_of k xs) 0 k xs (stands_whole (bytes_of k xs)) good few, le-leb (length (bytes_of k xs)) (after (layout k 0 (length xs))) ends)
   where

@@ -1,4 +1,6 @@
 -- Bytes that stand at an offset; and what an element's record is read as, where its bytes stand.
+use Rattle.std.specs.Prelude.{Err, Ok}
+use Rattle.scene.specs.Read.{Record}
 use Prim.Native.Nat.{ℕ, ◌+◌, ◌*◌, ◌<◌, ◌≤◌}
 use native.Mathlib.Omega.{arith}
 use mathlib.Core.Path.{◌≡◌, refl, ap, ◌∙◌}
@@ -16,8 +18,6 @@ use Rattle.plane.specs.Plane.{limit, within, in_range, segment_in_range, ordered
 use Rattle.scene.specs.declared.Shape.{Shape}
 use Rattle.scene.specs.declared.Shape.TheVariants.{Points, Line, Region}
 use Rattle.scene.specs.declared.Kind.TheVariants.{Element}
-use Rattle.scene.specs.declared.Record.{Record}
-use Rattle.scene.specs.declared.Record.TheVariants.{Good, Bad}
 use Rattle.scene.specs.Read.{byte, signed, coordinate, point_from, segment_at, kind_of, kind_at, body_length, stands_in, unless, condition, judge, record_at, size}
 use Rattle.scene.specs.Inner.{fields_at}
 use Rattle.scene.proofs.Passed.{whole_body}
@@ -122,7 +122,7 @@ both_true : {a b : Bool} → a ≡ true → b ≡ true → a && b ≡ true
 both_true e f = rw (e, f)
 
 pub all_good : (at : ℕ) {a b c : Bool} (r : Record) → a ≡ true → b ≡ true → c ≡ true
-    → judge Bad r (condition 3 (unless a at) ∷ condition 4 (unless b at) ∷ condition 5 (unless c at) ∷ []) ≡ r
+    → judge Err r (condition 3 (unless a at) ∷ condition 4 (unless b at) ∷ condition 5 (unless c at) ∷ []) ≡ r
 all_good at r p q t = rw (p, q, t)
 
 module _ {s : List ℕ} {at : ℕ} where
@@ -172,17 +172,17 @@ module _ {s : List ℕ} {at : ℕ} where
   kind_byte_lem Line x h = ap kind_of (at_byte h at 0 (omega arith) (omega arith))
   kind_byte_lem Region x h = ap kind_of (at_byte h at 0 (omega arith) (omega arith))
 
-  fields_good_lem : (k : Shape) (x : Item k) → GoodItem k x → Stands s at (record_bytes k x) → fields_at s at (Element k) ≡ Good (Element k)
-  fields_good_lem Points x g h = all_good at (Good (Element Points)) refl (ap in_range (point_back x g h) ∙ true_is (in_range x) g) refl
+  fields_good_lem : (k : Shape) (x : Item k) → GoodItem k x → Stands s at (record_bytes k x) → fields_at s at (Element k) ≡ Ok (Element k)
+  fields_good_lem Points x g h = all_good at (Ok (Element Points)) refl (ap in_range (point_back x g h) ∙ true_is (in_range x) g) refl
   fields_good_lem Line x g h =
-      all_good at (Good (Element Line)) (bit_small x.is_left (line_d x h)) (ap segment_in_range (line_segment x g h) ∙ true_is (segment_in_range x.segment) g.in_range_lem)
+      all_good at (Ok (Element Line)) (bit_small x.is_left (line_d x h)) (ap segment_in_range (line_segment x g h) ∙ true_is (segment_in_range x.segment) g.in_range_lem)
       (ap ordered (line_segment x g h) ∙ true_is (ordered x.segment) g.in_order)
   fields_good_lem Region x g h =
-      all_good at (Good (Element Region)) (both_true (bit_small x.half.is_left (region_d x h)) (bit_small x.ia (region_ia x h)))
+      all_good at (Ok (Element Region)) (both_true (bit_small x.half.is_left (region_d x h)) (bit_small x.ia (region_ia x h)))
       (ap segment_in_range (region_segment x g h) ∙ true_is (segment_in_range x.half.segment) g.in_range_lem)
       (ap ordered (region_segment x g h) ∙ true_is (ordered x.half.segment) g.in_order)
 
-  pub record_good : (k : Shape) (x : Item k) → GoodItem k x → Stands s at (record_bytes k x) → record_at s at (stands_in k) false ≡ Good (Element k)
+  pub record_good : (k : Shape) (x : Item k) → GoodItem k x → Stands s at (record_bytes k x) → record_at s at (stands_in k) false ≡ Ok (Element k)
   record_good k x g h =
       whole_body s at (stands_in k) false (Element k) (omega (arith, room)) (kind_byte_lem k x h) (stands_alike k) refl (omega (arith, room)) ∙ fields_good_lem k x g h
     where

@@ -1,5 +1,7 @@
 -- What is written is taken: the bytes of an object whose points are in range, or whose segments are in range and share only common ends, and for a
 -- region have even ends, pass 1 to 7 and 10 to 14. Points and segments given in order are read back as they are.
+use Rattle.std.specs.Prelude.{Err, None, Ok}
+use Rattle.scene.specs.Read.{Fault}
 use Prim.Native.Nat.{ℕ, zero, suc, ◌-◌, ◌<◌, ◌≤◌}
 use native.Mathlib.Omega.{arith}
 use mathlib.Core.Path.{◌≡◌, refl, sym, ap, subst, subst₂, ◌∙◌}
@@ -20,9 +22,6 @@ use Rattle.plane.proofs.Order.{half_of, ordered_make, LeftBefore, comes_irreflex
 use Rattle.scene.specs.declared.Shape.TheVariants.{Points, Line, Region}
 use Rattle.scene.specs.declared.Layout.{Layout}
 use Rattle.scene.specs.declared.Refusal.{Refusal}
-use Rattle.scene.specs.declared.Fault.{Fault}
-use Rattle.scene.specs.declared.Fault.TheVariants.{Nothing}
-use Rattle.scene.specs.declared.CheckedObject.{CheckedObject}
 use Rattle.scene.specs.Read.{point_at, place, most, decide, judge, IsObject}
 use Rattle.scene.specs.Conditions.{elements, has_segments, is_region, half, ia, segments, is_in_order, is_misplaced, out_of_order, is_unpaired, unpaired, is_touching, touching, touching_itself, ends_oddly, odd_end, has_wrong_ia, wrong_ia, Rule, conditions, object_rules, checked_object, check_object}
 use Rattle.scene.proofs.Taken.{layout}
@@ -128,27 +127,27 @@ region_read s start l g stands = record {
 -- ---- no condition of one object has a fault
 
 module _ (s : List ℕ) (lay : Layout) where
-  no_odd_end : is_region lay.shape ≡ false → odd_end s lay ≡ Nothing
+  no_odd_end : is_region lay.shape ≡ false → odd_end s lay ≡ None
   unfolding odd_end
   no_odd_end e = no_fault lay (ends_oddly s lay) (λ i h. rw e)
 
-  no_wrong_ia : is_region lay.shape ≡ false → wrong_ia s lay ≡ Nothing
+  no_wrong_ia : is_region lay.shape ≡ false → wrong_ia s lay ≡ None
   unfolding wrong_ia
   no_wrong_ia e = no_fault lay (has_wrong_ia s lay) (λ i h. rw e)
 
-  none_unpaired : has_segments lay.shape ≡ false → unpaired s lay ≡ Nothing
+  none_unpaired : has_segments lay.shape ≡ false → unpaired s lay ≡ None
   unfolding unpaired
   none_unpaired e = no_fault lay (is_unpaired s lay) (λ i h. rw e)
 
-  none_touching : (others : List Segment) → has_segments lay.shape ≡ false → touching s lay others ≡ Nothing
+  none_touching : (others : List Segment) → has_segments lay.shape ≡ false → touching s lay others ≡ None
   unfolding touching
   none_touching others e = no_fault lay (is_touching s lay others) (λ i h. rw e)
 
-  none_touching_itself : has_segments lay.shape ≡ false → touching_itself s lay ≡ Nothing
+  none_touching_itself : has_segments lay.shape ≡ false → touching_itself s lay ≡ None
   unfolding touching_itself
   none_touching_itself e = none_touching (segments s lay) e
 
-points_ordered : (s : List ℕ) (start : ℕ) (l : List Point) → GoodPoints l → Stands s start (object_bytes (points l)) → out_of_order s (layout_of (points l) start) ≡ Nothing
+points_ordered : (s : List ℕ) (start : ℕ) (l : List Point) → GoodPoints l → Stands s start (object_bytes (points l)) → out_of_order s (layout_of (points l) start) ≡ None
 unfolding out_of_order
 points_ordered s start l g stands = no_fault lay (is_misplaced s lay) wrong
   where
@@ -219,11 +218,11 @@ no_refusal refuse b s a (r ∷ rules) n =
     ap (λ (f : Fault). decide refuse r.number f (judge refuse b (conditions rules s a))) n.0 ∙ no_refusal refuse b s a rules n.1
 
 -- the bytes of one object
-pub object_taken : (o : Object) → Writable o → check_object (object_bytes o) ≡ CheckedObject.Taken (layout_of o 0)
+pub object_taken : (o : Object) → Writable o → check_object (object_bytes o) ≡ Ok (layout_of o 0)
 unfolding check_object
 object_taken o w =
     ap (checked_object (object_bytes o)) (alone_back (shape_in o) (items_of o) (good_items o w) (few_items o w))
-    ∙ no_refusal CheckedObject.Refused (CheckedObject.Taken (layout_of o 0)) (object_bytes o) (layout_of o 0) object_rules (no_faults (object_bytes o) 0 o w (stands_whole (object_bytes o)))
+    ∙ no_refusal Err (Ok (layout_of o 0)) (object_bytes o) (layout_of o 0) object_rules (no_faults (object_bytes o) 0 o w (stands_whole (object_bytes o)))
 
 -- ---- points and segments given in order are read back as they are
 

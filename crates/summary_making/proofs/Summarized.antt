@@ -1,4 +1,7 @@
 -- The parts of an accepted object's summary, and the answer by the scene that the object and an empty one form.
+use Rattle.std.specs.Prelude.{Err, Ok}
+use Rattle.check_verdict.specs.Refusals.{Verdict}
+use Rattle.flags_vectors.specs.Vectors.{SceneAnswer}
 use Prim.Native.Nat.{ℕ, ◌≤◌}
 use native.Mathlib.Omega.{arith}
 use mathlib.Core.Path.{◌≡◌, refl, sym, ap, ◌∙◌}
@@ -13,14 +16,11 @@ use Rattle.scene.specs.declared.Shape.TheVariants.{Points, Line, Region}
 use Rattle.scene.specs.declared.Layout.{Layout}
 use Rattle.scene.specs.declared.Scene.{Scene}
 use Rattle.scene.specs.declared.Refusal.{Refusal}
-use Rattle.scene.specs.declared.CheckedObject.{CheckedObject}
-use Rattle.scene.specs.declared.CheckedScene.{CheckedScene}
 use Rattle.scene.specs.Read.{descends, read_alone}
 use Rattle.scene.specs.Conditions.{check_scene, check_object}
-use Rattle.scene.proofs.Taken.{longest, taken_alone, object_short, never_taken, same_scene}
+use Rattle.scene.proofs.Taken.{longest, taken_alone, object_short}
+use Rattle.scene.proofs.Outcomes.{never_taken, same_taken}
 use Rattle.scene.proofs.Given.{object_checked}
-use Rattle.check_verdict.specs.declared.Verdict.{Verdict}
-use Rattle.check_verdict.specs.declared.Verdict.TheVariants.{Sound, Refused}
 use Rattle.check_verdict.specs.Refusals.{settle, object_verdict}
 use Rattle.check_verdict.proofs.Verdicts.{object_read}
 use Rattle.check_verdict.specs.SharedPoints.{CheckedObjectMeans}
@@ -30,7 +30,6 @@ use Rattle.flags.specs.Flags.{Elements, pack}
 use Rattle.flags.specs.Elements.{elements_as, elements_of}
 use Rattle.flags_masks.specs.declared.Wanted.{Wanted}
 use Rattle.flags_vectors.specs.declared.Vectors.{Vectors}
-use Rattle.flags_vectors.specs.declared.SceneAnswer.{SceneAnswer}
 use Rattle.flags_vectors.specs.Vectors.{vectors_in, answer_of}
 use Rattle.flags_vectors.proofs.Answered.{all_tidy, was_refused, was_taken}
 use Rattle.cells_matrix.proofs.Theorem as M
@@ -74,7 +73,7 @@ no_corners (Elements.line (s ∷ l)) e = absurd (let z : ◌≡◌ {A = ℕ} 0 1
 no_corners (Elements.region []) e = refl
 no_corners (Elements.region (r ∷ l)) e = absurd (let z : ◌≡◌ {A = ℕ} 0 1 = cc in omega arith)
 
-module _ (s : List ℕ) (l : Layout) (e : check_object s ≡ CheckedObject.Taken l) where
+module _ (s : List ℕ) (l : Layout) (e : check_object s ≡ Ok l) where
   pub empty_box : l.count ≡ 0 → box_of [] ≡ (summary_in s l).bounds
   empty_box none = ap box_of (sym (ap (λ (n : ℕ). corners_from s l n 0) none) ∙ corners_are s l)
 
@@ -86,7 +85,7 @@ module _ (s : List ℕ) (l : Layout) (e : check_object s ≡ CheckedObject.Taken
 
 -- ---- beside an empty object
 
-empty_taken : (k : Shape) → check_object (empty_of k) ≡ CheckedObject.Taken (nothing k)
+empty_taken : (k : Shape) → check_object (empty_of k) ≡ Ok (nothing k)
 empty_taken k = let n = empty_faultless k in object_checked (empty_of k) (nothing k) (empty_read k) (n.0, (n.1, (n.2, (n.3, (n.4, tt)))))
 
 not_descending : (k : Shape) → descends k k ≡ false
@@ -101,40 +100,40 @@ same_type s t e = go (descends s.shape t.shape) (ap (descends s.shape) e ∙ not
     go true q = absurd (true≢false q)
     go false q = refl
 
-module _ (s : List ℕ) (l : Layout) (read : read_alone s ≡ CheckedObject.Taken l) where
+module _ (s : List ℕ) (l : Layout) (read : read_alone s ≡ Ok l) where
   abbrev k : Shape
   k = l.shape
 
   pub short : length s ≤ longest
   short = let t = taken_alone s l read in omega (arith, object_short s 0 l t.object, t.all)
 
-  pub refused_beside : (r : Refusal) → check_scene (s ++ empty_of k) ≡ CheckedScene.Refused r → check_object s ≡ CheckedObject.Refused r
+  pub refused_beside : (r : Refusal) → check_scene (s ++ empty_of k) ≡ Err r → check_object s ≡ Err r
   refused_beside r e = object_read s l read ∙ go (object_verdict s l) (sym (checked_beside s l k read) ∙ e)
     where
-      go : (v : Verdict) → settle CheckedScene.Refused v (CheckedScene.Taken (scene s l k read)) ≡ CheckedScene.Refused r → settle CheckedObject.Refused v (CheckedObject.Taken l) ≡ CheckedObject.Refused r
-      go Sound q = absurd (never_taken (sym q))
-      go (Refused x) q = let h : x ≡ r = cc in ap CheckedObject.Refused h
+      go : (v : Verdict) → settle Err v (Ok (scene s l k read)) ≡ Err r → settle Err v (Ok l) ≡ Err r
+      go (Ok tt) q = absurd (never_taken (sym q))
+      go (Err x) q = let h : x ≡ r = cc in ap Err h
 
-  pub taken_beside : (sc : Scene) → check_scene (s ++ empty_of k) ≡ CheckedScene.Taken sc → (check_object s ≡ CheckedObject.Taken l) × (scene s l k read ≡ sc)
+  pub taken_beside : (sc : Scene) → check_scene (s ++ empty_of k) ≡ Ok sc → (check_object s ≡ Ok l) × (scene s l k read ≡ sc)
   taken_beside sc e = let w = go (object_verdict s l) (sym (checked_beside s l k read) ∙ e) in (object_read s l read ∙ w.0, w.1)
     where
-      go : (v : Verdict) → settle CheckedScene.Refused v (CheckedScene.Taken (scene s l k read)) ≡ CheckedScene.Taken sc
-          → (settle CheckedObject.Refused v (CheckedObject.Taken l) ≡ CheckedObject.Taken l) × (scene s l k read ≡ sc)
-      go Sound q = (refl, same_scene q)
-      go (Refused x) q = absurd (never_taken q)
+      go : (v : Verdict) → settle Err v (Ok (scene s l k read)) ≡ Ok sc
+          → (settle Err v (Ok l) ≡ Ok l) × (scene s l k read ≡ sc)
+      go (Ok tt) q = (refl, same_taken q)
+      go (Err x) q = absurd (never_taken q)
 
   -- the answer to the scene, for the object
   module _ {a : SceneAnswer} (is : a ≡ answer_of (s ++ empty_of k) Wanted.All) where
-    pub refused_alone : (r : Refusal) → a ≡ SceneAnswer.Refused r → check_object s ≡ CheckedObject.Refused r
+    pub refused_alone : (r : Refusal) → a ≡ Err r → check_object s ≡ Err r
     refused_alone r e = refused_beside r (was_refused Wanted.All all_tidy (s ++ empty_of k) is r e)
 
-    pub taken_so : (sc : Scene) (v : Vectors) → a ≡ SceneAnswer.Taken sc v → (check_object s ≡ CheckedObject.Taken l) × (v.f ≡ beside_empty (summary_in s l))
+    pub taken_so : (sc : Scene) (v : Vectors) → a ≡ Ok sc v → (check_object s ≡ Ok l) × (v.f ≡ beside_empty (summary_in s l))
     taken_so sc v e = (taken.0, ap (λ (v : Vectors). v.f) (all.1 ∙ ap (λ (x : Scene). vectors_in (s ++ empty_of k) x Wanted.All) (sym taken.1) ∙ sym told) ∙ vector)
       where
-        all : (check_scene (s ++ empty_of k) ≡ CheckedScene.Taken sc) × (v ≡ vectors_in (s ++ empty_of k) sc Wanted.All)
+        all : (check_scene (s ++ empty_of k) ≡ Ok sc) × (v ≡ vectors_in (s ++ empty_of k) sc Wanted.All)
         all = was_taken Wanted.All all_tidy (s ++ empty_of k) is sc v e
 
-        taken : (check_object s ≡ CheckedObject.Taken l) × (scene s l k read ≡ sc)
+        taken : (check_object s ≡ Ok l) × (scene s l k read ≡ sc)
         taken = taken_beside sc all.0
 
         F : Summary
@@ -160,10 +159,10 @@ module _ (s : List ℕ) where
   abbrev Answered : SummaryAnswer → Type 0
   Answered a = (a ≡ summary_answer_of s) × CheckedObjectMeans s (check_object s)
 
-  pub refused_answer : (r : Refusal) → check_object s ≡ CheckedObject.Refused r → Answered (SummaryAnswer.Refused r)
+  pub refused_answer : (r : Refusal) → check_object s ≡ Err r → Answered (SummaryAnswer.Refused r)
   unfolding summary_answer_of
   refused_answer r e = (sym (ap (summarized s) e), checked_object_means s)
 
-  pub made_answer : (l : Layout) → check_object s ≡ CheckedObject.Taken l → {m : Summary} → m ≡ summary_in s l → Answered (SummaryAnswer.Made m)
+  pub made_answer : (l : Layout) → check_object s ≡ Ok l → {m : Summary} → m ≡ summary_in s l → Answered (SummaryAnswer.Made m)
   unfolding summary_answer_of
   made_answer l e q = (ap SummaryAnswer.Made q ∙ sym (ap (summarized s) e), checked_object_means s)

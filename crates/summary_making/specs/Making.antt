@@ -1,4 +1,6 @@
 -- The call on one object: "From one object's bytes make a record of kind 83".
+use Rattle.std.specs.Prelude.{Err, Ok}
+use Rattle.scene.specs.Read.{CheckedObject}
 use Rattle.std.specs.Prelude.{ℕ, zero, suc, not, cond, List, [], ◌∷◌, ◌++◌, pos, neg_ℤ}
 use Rattle.plane.specs.declared.Point.{Point}
 use Rattle.plane.specs.declared.Halfsegment.{Halfsegment}
@@ -6,7 +8,6 @@ use Rattle.plane.specs.Plane.{limit}
 use Rattle.scene.specs.declared.Shape.{Shape}
 use Rattle.scene.specs.declared.Shape.TheVariants.{Points, Line, Region}
 use Rattle.scene.specs.declared.Layout.{Layout}
-use Rattle.scene.specs.declared.CheckedObject.{CheckedObject}
 use Rattle.scene.specs.Read.{point_at, halfsegment_at, shape_number, place}
 use Rattle.scene.specs.Conditions.{check_object}
 use Rattle.flags.specs.Flags.{pack}
@@ -20,8 +21,8 @@ use Rattle.summary_making.specs.declared.SummaryAnswer.{SummaryAnswer}
 
 -- "A call on one object takes 1 to 7 and 10 to 14 over its bytes alone"
 abbrev pub summarized : List ℕ → CheckedObject → SummaryAnswer
-summarized s (CheckedObject.Taken l) = SummaryAnswer.Made (summary_in s l)
-summarized s (CheckedObject.Refused r) = SummaryAnswer.Refused r
+summarized s (Ok l) = SummaryAnswer.Made (summary_in s l)
+summarized s (Err r) = SummaryAnswer.Refused r
 
 unfoldable pub summary_answer_of : List ℕ → SummaryAnswer
 summary_answer_of s = summarized s (check_object s)

@@ -4,7 +4,6 @@
 #![tactic(auto)]
 
 ghost use Rattle.std.specs.Prelude.{◌≡◌, not, []};
-ghost use Rattle.scene.specs.declared.CheckedObject.{CheckedObject as Checked};
 ghost use Rattle.scene.specs.Conditions.{check_object};
 ghost use Rattle.check_verdict.specs.SharedPoints.{CheckedObjectMeans};
 ghost use Rattle.flags.specs.Flags.{Elements, pack};
@@ -49,7 +48,7 @@ fn nowhere() -> Bounds
 
 // The box of an accepted object.
 fn bounds_in(s: &[u8], l: Layout) -> Bounds
-    requires { check_object s.now ≡ Checked.Taken l }
+    requires { check_object s.now ≡ Ok l }
     ensures { result ≡ (summary_in s.now l).bounds }
 {
     if l.count == 0 {
@@ -60,7 +59,7 @@ fn bounds_in(s: &[u8], l: Layout) -> Bounds
 
 // The summary of an accepted object, from its vector beside an empty one of its type.
 fn made(s: &[u8], l: Layout, v: u16) -> Summary
-    requires { (check_object s.now ≡ Checked.Taken l) × (v ≡ beside_empty (summary_in s.now l)) }
+    requires { (check_object s.now ≡ Ok l) × (v ≡ beside_empty (summary_in s.now l)) }
     ensures { result ≡ summary_in s.now l }
 {
     let shape = l.shape;

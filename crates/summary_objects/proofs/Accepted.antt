@@ -1,4 +1,5 @@
 -- An accepted object, by its bytes alone: its elements are good, in order and in range, and so its summary is good.
+use Rattle.std.specs.Prelude.{Ok}
 use Prim.Native.Nat.{ℕ}
 use mathlib.Core.Path.{◌≡◌, refl, sym, ap, subst}
 use mathlib.Core.Logic.{⊎_elim}
@@ -13,7 +14,6 @@ use Rattle.plane.proofs.Order.{LeftBefore}
 use Rattle.scene.specs.declared.Shape.{Shape}
 use Rattle.scene.specs.declared.Shape.TheVariants.{Points, Line, Region}
 use Rattle.scene.specs.declared.Layout.{Layout}
-use Rattle.scene.specs.declared.CheckedObject.{CheckedObject}
 use Rattle.scene.specs.Conditions.{has_segments, elements, segments, check_object}
 use Rattle.scene.proofs.Given.{checked_object_lem}
 use Rattle.scene.proofs.Indices.{in_element}
@@ -26,7 +26,7 @@ use Rattle.summary.specs.Summary.{ends, corners, is_good}
 use Rattle.summary.proofs.Made.{AllInRange, Listed, made_good}
 use Rattle.summary_objects.specs.Objects.{summary_in}
 
-pub sound_object : (s : List ℕ) (l : Layout) → check_object s ≡ CheckedObject.Taken l → SoundObject s l
+pub sound_object : (s : List ℕ) (l : Layout) → check_object s ≡ Ok l → SoundObject s l
 sound_object s l e =
     let c = checked_object_lem s l e in
     record { read = c.0.read; order = c.1.0; paired = c.1.1.0; apart = c.1.1.1.0; even = c.1.1.1.1.0; right_ia = c.1.1.1.1.1.0 }
@@ -64,7 +64,7 @@ module _ (s : List ℕ) (l : Layout) (o : SoundObject s l) where
       go Region e = subst (λ (r : List Segment). AllInRange (ends r)) (sym (outline_edges s l)) (ends_in_range (segments s l) (λ t i. segments_in_range o i))
 
 -- nothing made is refused
-pub summary_good : (s : List ℕ) (l : Layout) → check_object s ≡ CheckedObject.Taken l → T (is_good (summary_in s l))
+pub summary_good : (s : List ℕ) (l : Layout) → check_object s ≡ Ok l → T (is_good (summary_in s l))
 summary_good s l e =
     let o = sound_object s l e in
     made_good (elements_of s l) (elements_good s l o) (elements_listed s l o) (elements_in_range s l o)

@@ -1,5 +1,6 @@
 -- Every good summary is the summary of some accepted object: the elements that have it, written out, are taken and read back as they are. With what is proved
 -- of records made from accepted objects, a byte string is a good summary exactly if some accepted object has it.
+use Rattle.std.specs.Prelude.{Ok}
 use Prim.Native.Nat.{ℕ, zero, suc, ◌*◌, ◌<◌, ◌≤◌}
 use native.Mathlib.Omega.{arith}
 use mathlib.Core.Path.{◌≡◌, refl, sym, ap, ◌∙◌}
@@ -14,7 +15,6 @@ use Rattle.plane.specs.declared.Segment.{Segment}
 use Rattle.plane.specs.Plane.{in_range, segment_in_range, Object}
 use Rattle.scene.specs.declared.Shape.TheVariants.{Region}
 use Rattle.scene.specs.declared.Layout.{Layout}
-use Rattle.scene.specs.declared.CheckedObject.{CheckedObject}
 use Rattle.scene.specs.Read.{byte, most}
 use Rattle.scene.specs.Conditions.{check_object}
 use Rattle.scene_written.specs.Bytes.{AreBytes}
@@ -88,7 +88,7 @@ pub record FoundFor (s : Summary) : Type 0 where
   pub bytes : List ℕ
   pub layout : Layout
   pub are_bytes : AreBytes bytes
-  pub accepted : check_object bytes ≡ CheckedObject.Taken layout
+  pub accepted : check_object bytes ≡ Ok layout
   pub same : summary_in bytes layout ≡ s
 
 pub found : (s : Summary) → T (is_good s) → FoundFor s

@@ -1,4 +1,5 @@
 -- What two summaries tell of accepted objects: two that are far form an accepted scene, and the vectors told are the full answer.
+use Rattle.std.specs.Prelude.{Err, None, Ok}
 use Prim.Native.Nat.{ℕ}
 use native.Mathlib.Omega.{arith}
 use mathlib.Core.Path.{◌≡◌, refl, sym, ap, ap₂, subst, ◌∙◌}
@@ -16,14 +17,10 @@ use Rattle.scene.specs.declared.Shape.{Shape}
 use Rattle.scene.specs.declared.Shape.TheVariants.{Points, Line, Region}
 use Rattle.scene.specs.declared.Layout.{Layout}
 use Rattle.scene.specs.declared.Scene.{Scene}
-use Rattle.scene.specs.declared.Fault.TheVariants.{Nothing}
-use Rattle.scene.specs.declared.CheckedObject.{CheckedObject}
-use Rattle.scene.specs.declared.CheckedScene.{CheckedScene}
 use Rattle.scene.specs.Read.{read_alone, IsScene}
 use Rattle.scene.specs.Conditions.{has_segments, half, left_test, segments, over_both, object_rules, touching_across, check_scene, check_object}
 use Rattle.scene.proofs.Given.{NoFault}
 use Rattle.scene.proofs.SideBySide.{beside, beside_read, beside_faultless}
-use Rattle.check_verdict.specs.declared.Verdict.TheVariants.{Sound}
 use Rattle.check_verdict.specs.Refusals.{settle, geometry_verdict}
 use Rattle.check_verdict.specs.SharedPoints.{OnlyEndsShared, CheckedObjectMeans}
 use Rattle.check_verdict.proofs.Laws.{SoundObject, in_left, all_ordered}
@@ -45,7 +42,7 @@ use Rattle.summary.proofs.Bytes.{good_bytes_lem, good_summary, asked_good}
 use Rattle.summary_objects.specs.Objects.{summary_in, NeverBad, ToldInFull, LookExactlyIfNear}
 use Rattle.summary_objects.proofs.Accepted.{sound_object, elements_good, summary_good}
 
-pub read_of : (s : List ℕ) (l : Layout) → check_object s ≡ CheckedObject.Taken l → read_alone s ≡ CheckedObject.Taken l
+pub read_of : (s : List ℕ) (l : Layout) → check_object s ≡ Ok l → read_alone s ≡ Ok l
 read_of s l e = (subst (CheckedObjectMeans s) e (checked_object_means s)).0
 
 -- the segments are those of the elements
@@ -63,7 +60,7 @@ module _ (s : List ℕ) (l : Layout) (o : SoundObject s l) where
 
 -- ---- two objects
 
-module _ (a b : List ℕ) (l m : Layout) (first : check_object a ≡ CheckedObject.Taken l) (second : check_object b ≡ CheckedObject.Taken m)
+module _ (a b : List ℕ) (l m : Layout) (first : check_object a ≡ Ok l) (second : check_object b ≡ Ok m)
     (far : T (are_far (summary_in a l) (summary_in b m))) where
   abbrev scene : Scene
   scene = beside a b l m
@@ -79,19 +76,19 @@ module _ (a b : List ℕ) (l m : Layout) (first : check_object a ≡ CheckedObje
       (on_along t (fractions p.shared) (ordered_read t (all_ordered o t i)) p.on_one) (on_along u (fractions p.shared) (ordered_read u (all_ordered q u j)) p.on_other)
 
   -- 10 to 14 find no fault in either, and 15 none across
-  geometry_sound : geometry_verdict (a ++ b) scene ≡ Sound
+  geometry_sound : geometry_verdict (a ++ b) scene ≡ (Ok tt)
   unfolding geometry_verdict
   geometry_sound = rw (n.0, n.1.0, n.1.1.0, n.1.1.1.0, n.1.1.1.1.0, apart)
     where
       n : NoFault (a ++ b) scene (map over_both object_rules)
       n = beside_faultless a b l m (read_of a l first) (read_of b m second) first second
 
-      apart : touching_across (a ++ b) scene ≡ Nothing
+      apart : touching_across (a ++ b) scene ≡ None
       apart = (across_none a b l m (read_of a l first) (read_of b m second)).1 share_none
 
   -- two accepted objects whose boxes share no point, or of which one is empty, always form an accepted scene
-  pub far_taken : check_scene (a ++ b) ≡ CheckedScene.Taken scene
-  far_taken = checked (a ++ b) scene is_scene ∙ ap (λ v. settle CheckedScene.Refused v (CheckedScene.Taken scene)) geometry_sound
+  pub far_taken : check_scene (a ++ b) ≡ Ok scene
+  far_taken = checked (a ++ b) scene is_scene ∙ ap (λ v. settle Err v (Ok scene)) geometry_sound
 
   -- whose vectors are what their summaries tell
   pub far_told : far_vectors (summary_in a l) (summary_in b m) ≡ vectors_in (a ++ b) scene Wanted.All
@@ -122,7 +119,7 @@ told_in_full r q is one other v e = go (are_far s t) refl (sym tells ∙ sym is 
         ∙ asked_good s t (summary_good one.object one.layout one.accepted) (summary_good other.object other.layout other.accepted)
 
     go : (b : Bool) → are_far s t ≡ b → cond b (Told (far_vectors s t)) Look ≡ Told v
-        → (sc : Scene) × (check_scene (one.object ++ other.object) ≡ CheckedScene.Taken sc) × (v ≡ vectors_in (one.object ++ other.object) sc Wanted.All)
+        → (sc : Scene) × (check_scene (one.object ++ other.object) ≡ Ok sc) × (v ≡ vectors_in (one.object ++ other.object) sc Wanted.All)
     go true f h =
         let x : far_vectors s t ≡ v = cc in (
           beside one.object other.object one.layout other.layout,

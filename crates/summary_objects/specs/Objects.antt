@@ -1,9 +1,8 @@
 -- Summaries and the bytes of objects: 02's Paper 2 in sentences over objects that are accepted, "some" and "every" written out.
+use Rattle.std.specs.Prelude.{Ok}
 use Rattle.std.specs.Prelude.{ℕ, ◌≡◌, ◌↔◌, List, ◌++◌, T}
 use Rattle.scene.specs.declared.Layout.{Layout}
 use Rattle.scene.specs.declared.Scene.{Scene}
-use Rattle.scene.specs.declared.CheckedObject.{CheckedObject}
-use Rattle.scene.specs.declared.CheckedScene.{CheckedScene}
 use Rattle.scene.specs.Conditions.{check_scene, check_object}
 use Rattle.scene_written.specs.Bytes.{AreBytes}
 use Rattle.flags.specs.Elements.{elements_of}
@@ -25,7 +24,7 @@ summary_in s l = summary_of (elements_of s l)
 pub record Made (r : List ℕ) : Type 0 where
   pub object : List ℕ
   pub layout : Layout
-  pub accepted : check_object object ≡ CheckedObject.Taken layout
+  pub accepted : check_object object ≡ Ok layout
   pub is : bytes_of (summary_in object layout) ≡ r
 
 -- Nothing made is refused: the record of an accepted object is a good summary.
@@ -49,7 +48,7 @@ GoodExactlyIfMade r = NeverBad r × OnlyMade r
 abbrev pub ToldInFull : List ℕ → List ℕ → Answer → Type 0
 ToldInFull r q answer =
     (one : Made r) (other : Made q) (v : Vectors) → answer ≡ Told v
-    → (sc : Scene) × (check_scene (one.object ++ other.object) ≡ CheckedScene.Taken sc) × (v ≡ vectors_in (one.object ++ other.object) sc Wanted.All)
+    → (sc : Scene) × (check_scene (one.object ++ other.object) ≡ Ok sc) × (v ≡ vectors_in (one.object ++ other.object) sc Wanted.All)
 
 -- "if the boxes share no point or an object is empty, and "look" .. otherwise"
 abbrev pub LookExactlyIfNear : List ℕ → List ℕ → Answer → Type 0

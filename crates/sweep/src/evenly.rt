@@ -3,7 +3,6 @@
 ghost use Rattle.std.specs.Prelude.{◌≡◌, ◌+◌, ◌≤◌, length, T};
 ghost use Rattle.whole.specs.Decides.{Decides};
 ghost use Rattle.plane.specs.Plane.{is_same_point, dominating};
-ghost use Rattle.scene.specs.declared.Fault.TheVariants.{Nothing};
 ghost use Rattle.scene.specs.Read.{halfsegment_at, IsObject, IsScene};
 ghost use Rattle.scene.specs.Conditions.{has_segments, is_region, out_of_order};
 ghost use Rattle.sweep_laws.specs.Swept.{InOrder};
@@ -23,7 +22,7 @@ fn share_point(s: &[u8], at: usize, next: usize) -> bool
 
 // Does an object with segments end evenly?
 fn ends_evenly(s: &[u8], l: Layout) -> bool
-    requires { IsObject s.now l × T (has_segments l.shape) × (out_of_order s.now l ≡ Nothing) }
+    requires { IsObject s.now l × T (has_segments l.shape) × (out_of_order s.now l ≡ None) }
     ensures { Decides (EndsEvenly s.now l) result }
 {
     if l.count % 2 != 0 {
@@ -45,7 +44,7 @@ fn ends_evenly(s: &[u8], l: Layout) -> bool
 
 // Does an object, if it is a region?
 fn is_even(s: &[u8], l: Layout) -> bool
-    requires { IsObject s.now l × (out_of_order s.now l ≡ Nothing) }
+    requires { IsObject s.now l × (out_of_order s.now l ≡ None) }
     ensures { Decides (T (is_region l.shape) → EndsEvenly s.now l) result }
 {
     let k = l.shape;

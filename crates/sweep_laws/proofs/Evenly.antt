@@ -1,6 +1,7 @@
 -- Condition 13 by pairs of halfsegments: what is left of a parity from the element i on, and what the records of a pair give; that in a region where the
 -- conditions 10 to 14 find no fault each point is the dominating point of an even number of halfsegments; and that then, in order, two by two they
 -- share it.
+use Rattle.std.specs.Prelude.{None}
 use Prim.Native.Nat.{ℕ, suc, ◌+◌, ◌-◌, ◌*◌, ◌<◌, ◌≤◌, zero, ◌%◌}
 use native.Mathlib.Omega.{arith}
 use native.Mathlib.Nat.{eq-or-lt_of_le}
@@ -25,7 +26,6 @@ use Rattle.scene.specs.Read.{size, place, halfsegment_at, IsObject}
 use Rattle.scene.specs.Conditions.{indices, has_segments, elements, keep, is_region, half, left_test, segments, out_of_order}
 use Rattle.scene.proofs.Taken.{TakenObject, taken_object}
 use Rattle.scene.proofs.Given.{GoodHalfsegment, good_halfsegment}
-use Rattle.scene.specs.declared.Fault.TheVariants.{Nothing}
 use Rattle.scene_segments.proofs.Indices.{element_in, in_element, keep_in, in_keep, kept_rise, indices_in, halves_rise}
 use Rattle.scene_segments.proofs.Elements.{region_segments}
 use Rattle.sweep_laws.specs.Evenly.{dominated_by, EndsEvenly}
@@ -235,7 +235,7 @@ module _ (s : List ℕ) (l : Layout) (evenly : EndsEvenly s l) where
       go h = omega arith
 
 -- and where evenly many are left at each point, and points come in order, the next two share theirs
-module _ (s : List ℕ) (l : Layout) (is : IsObject s l) (has : T (has_segments l.shape)) (order : out_of_order s l ≡ Nothing) (i : ℕ) (h : i + 1 < l.count) (left : (v : Point) → parity_from (dominated_by s l v) i l.count ≡ false) where
+module _ (s : List ℕ) (l : Layout) (is : IsObject s l) (has : T (has_segments l.shape)) (order : out_of_order s l ≡ None) (i : ℕ) (h : i + 1 < l.count) (left : (v : Point) → parity_from (dominated_by s l v) i l.count ≡ false) where
   abbrev at : ℕ → Point
   at k = dominating (half s l k)
 

@@ -1,4 +1,5 @@
 -- The order of the events in full: no event to come comes before one that has been taken, nor before the one that is next.
+use Rattle.std.specs.Prelude.{None}
 use Prim.Native.Nat.{ℕ, ◌<◌, ◌≤◌}
 use native.Mathlib.Nat.{eq-or-lt_of_le, not-suc-le-zero}
 use native.Mathlib.Omega.{arith}
@@ -17,7 +18,6 @@ use Rattle.plane.specs.Plane.{before, is_same_point, side, dominating, far_end, 
 use Rattle.plane.proofs.Equal.{same_point_refl}
 use Rattle.plane.proofs.Order.{comes_irreflexive, comes_trans, half_of}
 use Rattle.scene.specs.declared.Scene.{Scene}
-use Rattle.scene.specs.declared.Fault.TheVariants.{Nothing}
 use Rattle.scene.specs.Read.{IsScene}
 use Rattle.scene.specs.Conditions.{half, out_of_order}
 use Rattle.scene_segments.proofs.Indices.{halves_rise}
@@ -54,7 +54,7 @@ module _ (s : List ℕ) (sc : Scene) where
   abbrev pub Rises : Type 0
   Rises = (first : Bool) (k m : ℕ) → k < m → m < total s sc first → T (comes_before (half_by first k) (half_by first m))
 
-  pub rises : IsScene s sc → ((first : Bool) → out_of_order s (object_of s sc first) ≡ Nothing) → Rises
+  pub rises : IsScene s sc → ((first : Bool) → out_of_order s (object_of s sc first) ≡ None) → Rises
   rises is order first k m h l = halves_rise s (object_of s sc first) (read s sc is first) (order first) (has s sc first m l).0 k m h (has s sc first m l).1
 
   -- of the events to come, none comes before one that has been taken

@@ -1,4 +1,5 @@
 -- A run that has taken all elements and has no active segment: the conditions 11 to 15 find no fault.
+use Rattle.std.specs.Prelude.{None}
 use Prim.Native.Nat.{ℕ, ◌<◌}
 use native.Mathlib.Omega.{arith}
 use mathlib.Core.Path.{◌≡◌, refl, sym, ap, ap₂, ◌∙◌, subst}
@@ -19,7 +20,6 @@ use Rattle.plane.proofs.Accepted.{ends_parity}
 use Rattle.scene.specs.declared.Shape.{Shape}
 use Rattle.scene.specs.declared.Shape.TheVariants.{Points, Line, Region}
 use Rattle.scene.specs.declared.Scene.{Scene}
-use Rattle.scene.specs.declared.Fault.TheVariants.{Nothing}
 use Rattle.scene.specs.Read.{turned}
 use Rattle.scene.specs.Conditions.{elements, keep, has_segments, is_region, half, ia, left_test, segments, partner, is_unpaired, unpaired, is_touching, touching, touching_itself, ends_oddly, odd_end, has_wrong_ia, wrong_ia}
 use Rattle.whole.proofs.Counted.{count_none}
@@ -165,7 +165,7 @@ module _ (s : List ℕ) (sc : Scene) (o : Orderly s sc) (run : Run s sc (total s
       let w = map_in (λ i. (half s (object_of s sc first) i).segment) (keep (left_test s (object_of s sc first)) (elements (object_of s sc first))) m in
       true≢false (sym (keep_in (left_test s (object_of s sc first)) (elements (object_of s sc first)) w.1).1 ∙ ap (λ b. b && (half s (object_of s sc first) w.0).is_left) has)
 
-  no_touch : (first other : Bool) → touching s (object_of s sc first) (segments s (object_of s sc other)) ≡ Nothing
+  no_touch : (first other : Bool) → touching s (object_of s sc first) (segments s (object_of s sc other)) ≡ None
   unfolding touching
   no_touch first other =
       no_fault (object_of s sc first) (is_touching s (object_of s sc first) (segments s (object_of s sc other)))
@@ -256,7 +256,7 @@ module _ (s : List ℕ) (sc : Scene) (o : Orderly s sc) (run : Run s sc (total s
         across = by_order (turned sc);
       }
     where
-      by_order : (b : Bool) → touching s (cond b sc.g sc.f) (segments s (cond b sc.f sc.g)) ≡ Nothing
+      by_order : (b : Bool) → touching s (cond b sc.g sc.f) (segments s (cond b sc.f sc.g)) ≡ None
       by_order true = no_touch false true
       by_order false = no_touch true false
 

@@ -1,4 +1,5 @@
 -- What the sweep starts from: in a scene that has been read and whose elements are in order, no dominating point comes before an earlier one.
+use Rattle.std.specs.Prelude.{None}
 use Prim.Native.Nat.{ℕ, ◌<◌}
 use mathlib.Core.Path.{◌≡◌, sym, subst, ◌∙◌}
 use mathlib.Core.Logic.{◌⊎◌, inl, inr, ⊎_elim}
@@ -11,7 +12,6 @@ use Rattle.plane.specs.Plane.{before, is_same_point, dominating, comes_before}
 use Rattle.plane.proofs.Order.{before_irreflexive, before_trans, comes_irreflexive}
 use Rattle.plane.proofs.Equal.{same_point_read}
 use Rattle.scene.specs.declared.Scene.{Scene}
-use Rattle.scene.specs.declared.Fault.TheVariants.{Nothing}
 use Rattle.scene.specs.Read.{IsScene}
 use Rattle.scene.specs.Conditions.{half, out_of_order}
 use Rattle.scene_segments.proofs.Indices.{halves_rise}
@@ -37,7 +37,7 @@ not_after h k t = not_T (before (dominating k) (dominating h)) clash
         ⊎_elim (λ c. before_irreflexive (dominating h) (before_trans (dominating h) (dominating k) (dominating h) c b))
         (λ e. before_irreflexive (dominating h) (subst (λ p. T (before p (dominating h))) (sym e) b)) (comes_point h k t)
 
-module _ (s : List ℕ) (sc : Scene) (is : IsScene s sc) (order : (first : Bool) → out_of_order s (object_of s sc first) ≡ Nothing) where
+module _ (s : List ℕ) (sc : Scene) (is : IsScene s sc) (order : (first : Bool) → out_of_order s (object_of s sc first) ≡ None) where
   pub orderly : Orderly s sc
   orderly =
       record {

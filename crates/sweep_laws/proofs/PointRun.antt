@@ -1,4 +1,5 @@
 -- The sweep over the points of F and the halfsegments of G: from event to event, the points so far have the notes that are defined.
+use Rattle.std.specs.Prelude.{None}
 use Prim.Native.Nat.{ℕ, ◌+◌, ◌<◌, ◌≤◌}
 use native.Mathlib.Nat.{not-suc-le-zero, eq-or-lt_of_le}
 use native.Mathlib.Decide.{dec_lt}
@@ -16,7 +17,6 @@ use Rattle.plane.specs.Plane.{before, comes_before, grid, ends_at}
 use Rattle.plane.proofs.Order.{before_irreflexive, before_trans}
 use Rattle.scene.specs.declared.Shape.TheVariants.{Points}
 use Rattle.scene.specs.declared.Scene.{Scene}
-use Rattle.scene.specs.declared.Fault.TheVariants.{Nothing}
 use Rattle.scene.specs.Read.{halfsegment_at, place, IsScene}
 use Rattle.scene.specs.Conditions.{has_segments, segments, out_of_order}
 use Rattle.scene_segments.proofs.Indices.{points_rise}
@@ -84,7 +84,7 @@ module _ (s : List ℕ) (sc : Scene) where
   pub passed_none : (entries notes : List ℕ) → Passed 0 0 entries notes
   passed_none entries notes = record { in_time = λ p k a b h. absurd (not-suc-le-zero h); noted = λ later p h. absurd (not-suc-le-zero h) }
 
-  module _ (is : IsScene s sc) (order : (first : Bool) → out_of_order s (object_of s sc first) ≡ Nothing) (points : sc.f.shape ≡ Points) (has : T (has_segments sc.g.shape)) where
+  module _ (is : IsScene s sc) (order : (first : Bool) → out_of_order s (object_of s sc first) ≡ None) (points : sc.f.shape ≡ Points) (has : T (has_segments sc.g.shape)) where
     abbrev pub start : Orderly s sc
     start = orderly s sc is order
 

@@ -1,4 +1,5 @@
 -- What an object gives that 10 to 14 do not refuse, in the form that the plane's lemmas take.
+use Rattle.std.specs.Prelude.{None}
 use Prim.Native.Nat.{ℕ, zero, suc, ◌<◌}
 use mathlib.Core.Path.{◌≡◌, refl, sym, ap, subst, subst₂, ◌∙◌}
 use mathlib.Core.Bool.{Bool, true, false, not, cond, beq}
@@ -15,7 +16,6 @@ use Rattle.plane.proofs.Order.{before_irreflexive, comes_irreflexive, LeftBefore
 use Rattle.plane.proofs.Accepted.{Split, Regular, AllOrdered, split_from_order, even_from_ends}
 use Rattle.scene.specs.declared.Layout.{Layout}
 use Rattle.scene.specs.declared.Scene.{Scene}
-use Rattle.scene.specs.declared.Fault.TheVariants.{Nothing}
 use Rattle.scene.specs.Read.{point_at, place, turned, IsObject}
 use Rattle.scene.specs.Conditions.{indices, elements, keep, has_segments, is_region, half, ia, left_test, segments, is_in_order, out_of_order, unpaired, is_touching, touching, touching_itself, ends_oddly, odd_end, has_wrong_ia, wrong_ia, touching_across}
 use Rattle.scene_segments.proofs.Elements.{point_good, half_good, order_of_points, order_of_halves}
@@ -27,11 +27,11 @@ use Rattle.scene_segments.proofs.Indices.{indices_in, element_in, in_element, ke
 
 pub record SoundObject (s : List ℕ) (l : Layout) : Type 0 where
   pub read : IsObject s l
-  pub order : out_of_order s l ≡ Nothing
-  pub paired : unpaired s l ≡ Nothing
-  pub apart : touching_itself s l ≡ Nothing
-  pub even : odd_end s l ≡ Nothing
-  pub right_ia : wrong_ia s l ≡ Nothing
+  pub order : out_of_order s l ≡ None
+  pub paired : unpaired s l ≡ None
+  pub apart : touching_itself s l ≡ None
+  pub even : odd_end s l ≡ None
+  pub right_ia : wrong_ia s l ≡ None
 
 -- the halfsegment i, with one segment, on one side
 module _ (s : List ℕ) (l : Layout) (i : ℕ) where
@@ -96,7 +96,7 @@ module _ {s : List ℕ} {l : Layout} (o : SoundObject s l) where
           (halves_rise s l o.read o.order (left_segments s l i a.1).0 i j h (in_element l j b.0))
 
   -- 12 and 15: none of them touches one of the others
-  none_touched : {others : List Segment} → touching s l others ≡ Nothing → (t u : Segment) → t ∈ segments s l → u ∈ others → touch t u ≡ false
+  none_touched : {others : List Segment} → touching s l others ≡ None → (t u : Segment) → t ∈ segments s l → u ∈ others → touch t u ≡ false
   unfolding touching
   none_touched {others} e t u m k =
       let w = in_left m in
@@ -185,16 +185,16 @@ module _ {s : List ℕ} {l : Layout} (o : SoundObject s l) where
 -- ---- two such objects of a scene
 
 -- 15, whichever of them is given first, since touching goes both ways
-module _ {s : List ℕ} {a b : Layout} (o : SoundObject s a) (q : SoundObject s b) (none : touching s a (segments s b) ≡ Nothing) where
+module _ {s : List ℕ} {a b : Layout} (o : SoundObject s a) (q : SoundObject s b) (none : touching s a (segments s b) ≡ None) where
   untouched : (t u : Segment) → t ∈ segments s a → u ∈ segments s b → (touch t u ≡ false) × (touch u t ≡ false)
   untouched t u m k =
       let e = none_touched o none t u m k in
       (e, refute (touch u t) (λ h. subst T e (touch_swap u t (all_ordered q u k) (all_ordered o t m) h)))
 
-pub no_touch_across : {s : List ℕ} {sc : Scene} → SoundObject s sc.f → SoundObject s sc.g → touching_across s sc ≡ Nothing
+pub no_touch_across : {s : List ℕ} {sc : Scene} → SoundObject s sc.f → SoundObject s sc.g → touching_across s sc ≡ None
     → (t u : Segment) → t ∈ segments s sc.f → u ∈ segments s sc.g → (touch t u ≡ false) × (touch u t ≡ false)
 no_touch_across {s} {sc} o q none t u m k = go (turned sc) none
   where
-    go : (b : Bool) → touching s (cond b sc.g sc.f) (segments s (cond b sc.f sc.g)) ≡ Nothing → (touch t u ≡ false) × (touch u t ≡ false)
+    go : (b : Bool) → touching s (cond b sc.g sc.f) (segments s (cond b sc.f sc.g)) ≡ None → (touch t u ≡ false) × (touch u t ≡ false)
     go true e = let w = untouched q o e u t k m in (w.1, w.0)
     go false e = untouched o q e t u m k

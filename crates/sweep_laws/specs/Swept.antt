@@ -1,11 +1,11 @@
 -- The events of a scene, read from its bytes: the strand of each, their order, and the conditions that the sweep decides.
+use Rattle.std.specs.Prelude.{None}
 use Rattle.std.specs.Prelude.{ℕ, zero, suc, ◌+◌, ◌<◌, ◌≡◌, Bool, true, false, not, ◌&&◌, ◌||◌, cond, List, [], ◌∷◌, T, ltb}
 use Rattle.std.specs.Bool.{beq}
 use Rattle.plane.specs.Plane.{comes_before}
 use Rattle.scene.specs.declared.Layout.{Layout}
 use Rattle.scene.specs.declared.Scene.{Scene}
 use Rattle.scene.specs.Read.{segment_at, halfsegment_at, ia_at, place, turned, given_second}
-use Rattle.scene.specs.declared.Fault.TheVariants.{Nothing}
 use Rattle.scene.specs.Conditions.{has_segments, is_region, out_of_order, unpaired, touching_itself, odd_end, wrong_ia, touching_across}
 use Rattle.sweep_laws.specs.Kept.{Strand}
 
@@ -62,12 +62,12 @@ module _ (s : List ℕ) (sc : Scene) where
 
 -- 10 finds no fault in either object
 abbrev pub InOrder : List ℕ → Scene → Type 0
-InOrder s sc = (first : Bool) → out_of_order s (object_of s sc first) ≡ Nothing
+InOrder s sc = (first : Bool) → out_of_order s (object_of s sc first) ≡ None
 
 -- 11 to 15 find none
 pub record Passes (s : List ℕ) (sc : Scene) : Type 0 where
-  pub paired : (first : Bool) → unpaired s (object_of s sc first) ≡ Nothing
-  pub apart : (first : Bool) → touching_itself s (object_of s sc first) ≡ Nothing
-  pub even : (first : Bool) → odd_end s (object_of s sc first) ≡ Nothing
-  pub right_ia : (first : Bool) → wrong_ia s (object_of s sc first) ≡ Nothing
-  pub across : touching_across s sc ≡ Nothing
+  pub paired : (first : Bool) → unpaired s (object_of s sc first) ≡ None
+  pub apart : (first : Bool) → touching_itself s (object_of s sc first) ≡ None
+  pub even : (first : Bool) → odd_end s (object_of s sc first) ≡ None
+  pub right_ia : (first : Bool) → wrong_ia s (object_of s sc first) ≡ None
+  pub across : touching_across s sc ≡ None

@@ -1,4 +1,5 @@
 -- `areas::areas_of` meets its contract: a refusal of the check, or the three sums.
+use Rattle.std.specs.Prelude.{Ok}
 use Prim.Native.Nat.{ℕ}
 use native.Mathlib.Omega.{arith}
 use mathlib.Core.Path.{◌≡◌, sym, ap, ◌∙◌}
@@ -9,7 +10,6 @@ use mir.Val.{SFits, to_z, of_z}
 use mir.Facts.{to_z-of_z}
 use borrow.Author.Rules.{rules}
 use Rattle.scene.specs.declared.Scene.{Scene}
-use Rattle.scene.specs.declared.CheckedScene.{CheckedScene}
 use Rattle.overlap.specs.Rules.{check_regions}
 use Rattle.overlap.proofs.Checked.{regions_mean}
 use Rattle.areas.specs.Parts.{in_both, in_f_only, in_g_only}
@@ -20,7 +20,7 @@ use Rattle.areas.proofs.areas_of.Statement.{statement}
 use Rattle.areas.proofs.areas_of.Tie as tie
 
 -- a scene that was taken
-module _ (c : tie.After-notes-in-Taken-1) where
+module _ (c : tie.After-notes-in-Ok-1) where
   abbrev k : tie.After-check_regions
   k = c.before.before.before
 
@@ -28,10 +28,10 @@ module _ (c : tie.After-notes-in-Taken-1) where
   bytes = k.args.s.now
 
   abbrev scene : Scene
-  scene = c.in-Taken.scene
+  scene = c.in-Ok.scene
 
-  taken : check_regions bytes ≡ CheckedScene.Taken scene
-  taken = sym k.check_regions.ensures.1 ∙ c.in-Taken.is
+  taken : check_regions bytes ≡ Ok scene
+  taken = sym k.check_regions.ensures.1 ∙ c.in-Ok.is
 
 -- the sums, read from their bits
 numbers : ℤ → ℤ → ℤ → Areas
@@ -58,18 +58,18 @@ slice_bounds-sums_of-end c = search rules
 
 sums_of-sums-requires : tie.Need-sums_of-sums-requires
 sums_of-sums-requires c κs =
-    (good (bytes c) (scene c) (taken c), omega (arith, (k c).check_regions.ensures.0), (k c).check_regions.ensures.2 (scene c) c.in-Taken.is)
+    (good (bytes c) (scene c) (taken c), omega (arith, (k c).check_regions.ensures.0), (k c).check_regions.ensures.2 (scene c) c.in-Ok.is)
 
-returns-in-Refused : tie.Need-returns-in-Refused
-returns-in-Refused c =
+returns-in-Err : tie.Need-returns-in-Err
+returns-in-Err c =
     let k = c.before.before in
     let s = k.args.s.now in
-    let e = sym (ap (answer s) (sym k.check_regions.ensures.1 ∙ c.in-Refused.is)) in
+    let e = sym (ap (answer s) (sym k.check_regions.ensures.1 ∙ c.in-Err.is)) in
     (e, parts_make_whole s e, regions_mean s)
 
-returns-in-Taken : tie.Need-returns-in-Taken
+returns-in-Ok : tie.Need-returns-in-Ok
 unfolding numbers
-returns-in-Taken c =
+returns-in-Ok c =
     let e = c.before.before in
     let v = c.sums_of-sums.ensures in
     let fits = c.struct_told-1.given in
@@ -88,5 +88,5 @@ areas_of_spec =
     enum_known-scene
     slice_bounds-sums_of-end
     sums_of-sums-requires
-    returns-in-Refused
-    returns-in-Taken)
+    returns-in-Err
+    returns-in-Ok)

@@ -1,10 +1,10 @@
 -- `check_conditions::fault_under` meets its contract. The loop's invariant: no element before `i` is at fault, so the answer is that of the rest.
 -- The measure is the number of elements that are left.
+use Rattle.std.specs.Prelude.{Some}
 use Prim.Native.Nat.{ℕ, ◌-◌, ◌≤◌}
 use native.Mathlib.Omega.{arith}
 use mathlib.Core.Path.{◌≡◌, sym, ap, ◌∙◌}
 use mathlib.Core.Bool.{Bool}
-use Rattle.scene.specs.declared.Fault.TheVariants.{At}
 use Rattle.scene.specs.Conditions.{earliest}
 use Rattle.check_conditions.specs.Faults.{is_at_fault, fault_under}
 use Rattle.scene_segments.proofs.Elements.{fits}
@@ -39,7 +39,7 @@ returns-then-is_at_fault c =
     let d = c.before.before.before in
     let z = d.before.before.before.before in
     let i = d.loop-i.i in
-    ap At c.place.ensures
+    ap Some c.place.ensures
     ∙ sym (d.loop-i.invariant.1
     ∙ earliest_here z.args.l (wrong z) i z.args.l.count d.loop-i-test.true (sym c.is_at_fault.ensures ∙ c.if-is_at_fault.true))
 

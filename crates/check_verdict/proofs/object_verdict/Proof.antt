@@ -25,13 +25,13 @@ fault_under-requires c κs = search rules
 enum_known-place : tie.Need-enum_known-place invariant_loop decreases_loop
 enum_known-place c = search rules
 
-returns-in-At : tie.Need-returns-in-At invariant_loop decreases_loop
-returns-in-At c =
+returns-in-Some : tie.Need-returns-in-Some invariant_loop decreases_loop
+returns-in-Some c =
     let r = c.before in
     let t = r in
     let z = t.args in
     sym (t.loop-number.invariant.2
-    ∙ refuses (fault_under z.s.now z.l z.l) t.loop-number.number 15 c.loop-number-test.true c.in-At.place (sym r.fault_under.ensures ∙ c.in-At.is))
+    ∙ refuses (fault_under z.s.now z.l z.l) t.loop-number.number 15 c.loop-number-test.true c.in-Some.place (sym r.fault_under.ensures ∙ c.in-Some.is))
 
 enum_told-1 : tie.Need-enum_told-1 invariant_loop decreases_loop
 enum_told-1 c = search rules
@@ -50,7 +50,7 @@ loop-number-preserved c =
       omega arith,
       omega arith,
       t.loop-number.invariant.2
-          ∙ passes (fault_under z.s.now z.l z.l) t.loop-number.number 15 c.loop-number-test.true (sym r.fault_under.ensures ∙ c.in-Nothing.is),
+          ∙ passes (fault_under z.s.now z.l z.l) t.loop-number.number 15 c.loop-number-test.true (sym r.fault_under.ensures ∙ c.in-None.is),
     )
 
 returns : tie.Need-returns invariant_loop decreases_loop
@@ -67,7 +67,7 @@ object_verdict_spec =
     loop-number-init
     fault_under-requires
     enum_known-place
-    returns-in-At
+    returns-in-Some
     enum_told-1
     overflow_add-number
     loop-number-smaller

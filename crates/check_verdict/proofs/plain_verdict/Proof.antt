@@ -24,13 +24,13 @@ scene_fault-requires c κs = search rules
 enum_known-place : tie.Need-enum_known-place invariant_loop decreases_loop
 enum_known-place c = search rules
 
-returns-in-At : tie.Need-returns-in-At invariant_loop decreases_loop
-returns-in-At c =
+returns-in-Some : tie.Need-returns-in-Some invariant_loop decreases_loop
+returns-in-Some c =
     let r = c.before in
     let t = r in
     let z = t.args in
     sym (t.loop-number.invariant.2
-    ∙ refuses (scene_fault_under z.s.now z.scene) t.loop-number.number 16 c.loop-number-test.true c.in-At.place (sym r.scene_fault.ensures ∙ c.in-At.is))
+    ∙ refuses (scene_fault_under z.s.now z.scene) t.loop-number.number 16 c.loop-number-test.true c.in-Some.place (sym r.scene_fault.ensures ∙ c.in-Some.is))
 
 enum_told-1 : tie.Need-enum_told-1 invariant_loop decreases_loop
 enum_told-1 c = search rules
@@ -49,7 +49,7 @@ loop-number-preserved c =
       omega arith,
       omega arith,
       t.loop-number.invariant.2
-          ∙ passes (scene_fault_under z.s.now z.scene) t.loop-number.number 16 c.loop-number-test.true (sym r.scene_fault.ensures ∙ c.in-Nothing.is),
+          ∙ passes (scene_fault_under z.s.now z.scene) t.loop-number.number 16 c.loop-number-test.true (sym r.scene_fault.ensures ∙ c.in-None.is),
     )
 
 returns : tie.Need-returns invariant_loop decreases_loop
@@ -66,7 +66,7 @@ plain_verdict_spec =
     loop-number-init
     scene_fault-requires
     enum_known-place
-    returns-in-At
+    returns-in-Some
     enum_told-1
     overflow_add-number
     loop-number-smaller

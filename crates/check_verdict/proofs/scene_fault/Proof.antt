@@ -1,4 +1,6 @@
 -- `check_verdict::scene_fault` meets its contract: the earliest in the object given first, else in the other; and in the first alone for 15.
+use Rattle.std.specs.Prelude.{None, Some}
+use Rattle.scene.specs.Read.{Fault}
 use mathlib.Core.Path.{◌≡◌, sym, ap₂, subst, ◌∙◌}
 use mathlib.Core.List.{List}
 use Prim.Native.Nat.{ℕ}
@@ -6,8 +8,6 @@ use borrow.Author.Rules.{rules}
 use borrow.Author.Tests.{eq-eqb, ne_eqb}
 use Rattle.scene.specs.declared.Layout.{Layout}
 use Rattle.scene.specs.declared.Scene.{Scene}
-use Rattle.scene.specs.declared.Fault.{Fault}
-use Rattle.scene.specs.declared.Fault.TheVariants.{At, Nothing}
 use Rattle.scene.specs.Read.{given_first, given_second, IsObject}
 use Rattle.check_conditions.specs.Faults.{fault_under}
 use Rattle.check_verdict.specs.Refusals.{scene_fault_under}
@@ -19,10 +19,10 @@ module _ (s : List ℕ) (sc : Scene) (n : ℕ) where
   across e = rw (eq-eqb n 15 e)
 
   module _ (ne : n ≡ 15 → ⊥) {o : Fault} (is : o ≡ fault_under s (given_first sc) (given_second sc) n) where
-    in_first : {p : ℕ} → o ≡ At p → At p ≡ scene_fault_under s sc n
+    in_first : {p : ℕ} → o ≡ Some p → Some p ≡ scene_fault_under s sc n
     in_first e = rw (ne_eqb n 15 ne, ← is, e)
 
-    in_second : o ≡ Nothing → fault_under s (given_second sc) (given_first sc) n ≡ scene_fault_under s sc n
+    in_second : o ≡ None → fault_under s (given_second sc) (given_first sc) n ≡ scene_fault_under s sc n
     in_second e = rw (ne_eqb n 15 ne, ← is, e)
 
 -- the two objects as they are given
@@ -72,24 +72,24 @@ enum_known-place c = search rules
 enum_told-1 : tie.Need-enum_told-1
 enum_told-1 c = search rules
 
-fault_under-requires-in-Nothing : tie.Need-fault_under-requires-in-Nothing
-fault_under-requires-in-Nothing c κs = let r = are_read c.before.before.before in (r.1, r.0)
+fault_under-requires-in-None : tie.Need-fault_under-requires-in-None
+fault_under-requires-in-None c κs = let r = are_read c.before.before.before in (r.1, r.0)
 
-returns-in-At : tie.Need-returns-in-At
-returns-in-At c =
+returns-in-Some : tie.Need-returns-in-Some
+returns-in-Some c =
     let r = c.before in
     let d = r.before.before in
     let a = (z d).args in
-    in_first (s d) a.scene a.number r.if-number-eq15.false (r.fault_under-2.ensures ∙ fault_of_lem d a.number) c.in-At.is
+    in_first (s d) a.scene a.number r.if-number-eq15.false (r.fault_under-2.ensures ∙ fault_of_lem d a.number) c.in-Some.is
 
-returns-in-Nothing : tie.Need-returns-in-Nothing
-returns-in-Nothing c =
+returns-in-None : tie.Need-returns-in-None
+returns-in-None c =
     let r = c.before.before in
     let d = r.before.before in
     let a = (z d).args in
-    c.fault_under-in-Nothing.ensures
+    c.fault_under-in-None.ensures
     ∙ fault_of_other d a.number
-    ∙ in_second (s d) a.scene a.number r.if-number-eq15.false (r.fault_under-2.ensures ∙ fault_of_lem d a.number) c.in-Nothing.is
+    ∙ in_second (s d) a.scene a.number r.if-number-eq15.false (r.fault_under-2.ensures ∙ fault_of_lem d a.number) c.in-None.is
 
 pub scene_fault_spec : {M : Type 1} → statement M
 scene_fault_spec =
@@ -102,6 +102,6 @@ scene_fault_spec =
     fault_under-requires-2
     enum_known-place
     enum_told-1
-    fault_under-requires-in-Nothing
-    returns-in-At
-    returns-in-Nothing)
+    fault_under-requires-in-None
+    returns-in-Some
+    returns-in-None)

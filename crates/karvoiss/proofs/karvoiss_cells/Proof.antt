@@ -1,4 +1,5 @@
 -- `karvoiss::karvoiss_cells` meets its contract: each case of the answer, in its fields.
+use Rattle.cells.specs.Explored.{CellsAnswer}
 use Prim.Native.Nat.{ℕ}
 use mathlib.Core.Path.{◌≡◌, refl, sym, ap, subst, ◌∙◌}
 use mathlib.Core.List.{List}
@@ -6,7 +7,6 @@ use borrow.Author.Rules.{rules}
 use Rattle.plane_dimensions.specs.declared.Dimension.{Dimension}
 use Rattle.plane_dimensions.specs.Dimensions.{sign}
 use Rattle.cells_matrix.specs.Matrix.{Part, interior, boundary, exterior, cell_at}
-use Rattle.cells.specs.declared.CellsAnswer.{CellsAnswer}
 use Rattle.cells.specs.Explored.{cells_answer_of, cells_values, NoDimensionWrong}
 use Rattle.karvoiss.specs.declared.KarvoissCells.{KarvoissCells}
 use Rattle.karvoiss.specs.Answer.{signs, cells_for_c, sign_of_cell, NoSignWrong}
@@ -61,16 +61,16 @@ enum_known-answer c = search rules
 overflow_cast-r : tie.Need-overflow_cast-r
 overflow_cast-r c = search rules
 
-handed-requires-in-Refused : tie.Need-handed-requires-in-Refused
-handed-requires-in-Refused c κs = search rules
+handed-requires-in-Err : tie.Need-handed-requires-in-Err
+handed-requires-in-Err c κs = search rules
 
-returns-in-Taken : tie.Need-returns-in-Taken
-returns-in-Taken c =
-    in_fields c.args.scene.now c.explore-answer.ensures c.cells.ensures c.signs-cell.ensures c.in-Taken.is c.handed.ensures
+returns-in-Ok : tie.Need-returns-in-Ok
+returns-in-Ok c =
+    in_fields c.args.scene.now c.explore-answer.ensures c.cells.ensures c.signs-cell.ensures c.in-Ok.is c.handed.ensures
 
-returns-in-Refused : tie.Need-returns-in-Refused
-returns-in-Refused c =
-    in_fields c.args.scene.now c.explore-answer.ensures c.cells.ensures c.signs-cell.ensures c.in-Refused.is c.handed-in-Refused.ensures
+returns-in-Err : tie.Need-returns-in-Err
+returns-in-Err c =
+    in_fields c.args.scene.now c.explore-answer.ensures c.cells.ensures c.signs-cell.ensures c.in-Err.is c.handed-in-Err.ensures
 
 pub karvoiss_cells_spec : {M : Type 1} → statement M
 karvoiss_cells_spec =
@@ -83,6 +83,6 @@ karvoiss_cells_spec =
     handed-requires
     enum_known-answer
     overflow_cast-r
-    handed-requires-in-Refused
-    returns-in-Taken
-    returns-in-Refused)
+    handed-requires-in-Err
+    returns-in-Ok
+    returns-in-Err)

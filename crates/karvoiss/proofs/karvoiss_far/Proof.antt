@@ -36,8 +36,8 @@ enum_known-r c = search rules
 overflow_cast-r : tie.Need-overflow_cast-r
 overflow_cast-r c = search rules
 
-told-requires-in-Refused : tie.Need-told-requires-in-Refused
-told-requires-in-Refused c κs = search rules
+told-requires-in-Err : tie.Need-told-requires-in-Err
+told-requires-in-Err c κs = search rules
 
 returns-in-Told : tie.Need-returns-in-Told
 returns-in-Told c =
@@ -52,12 +52,12 @@ returns-in-Look c =
     let a = k.args in
     in_fields a.first.now a.second.now k.far.ensures c.in-Look.is c.told-in-Look.ensures
 
-returns-in-Refused : tie.Need-returns-in-Refused
-returns-in-Refused c =
+returns-in-Err : tie.Need-returns-in-Err
+returns-in-Err c =
     let r = c.before.before in
     let k = r in
     let a = k.args in
-    in_fields a.first.now a.second.now k.far.ensures r.in-Refused.is c.told-in-Refused.ensures
+    in_fields a.first.now a.second.now k.far.ensures r.in-Err.is c.told-in-Err.ensures
 
 pub karvoiss_far_spec : {M : Type 1} → statement M
 karvoiss_far_spec =
@@ -70,7 +70,7 @@ karvoiss_far_spec =
     told-requires-in-Look
     enum_known-r
     overflow_cast-r
-    told-requires-in-Refused
+    told-requires-in-Err
     returns-in-Told
     returns-in-Look
-    returns-in-Refused)
+    returns-in-Err)

@@ -1,9 +1,9 @@
 -- `karvoiss::karvoiss_relate` meets its contract: each case of the answer, in its fields.
+use Rattle.cells_pattern.specs.Related.{RelateAnswer}
 use Prim.Native.Nat.{ℕ}
 use mathlib.Core.Path.{◌≡◌, sym, ap, subst, ◌∙◌}
 use mathlib.Core.List.{List}
 use borrow.Author.Rules.{rules}
-use Rattle.cells_pattern.specs.declared.RelateAnswer.{RelateAnswer}
 use Rattle.cells_pattern.specs.Related.{relate_of, relate_values, NoPatternWrong}
 use Rattle.karvoiss.specs.declared.KarvoissRelate.{KarvoissRelate}
 use Rattle.karvoiss.specs.Answer.{relate_for_c}
@@ -32,23 +32,23 @@ related-requires c κs = search rules
 overflow_cast-r : tie.Need-overflow_cast-r
 overflow_cast-r c = search rules
 
-related-requires-in-Refused : tie.Need-related-requires-in-Refused
-related-requires-in-Refused c κs = search rules
+related-requires-in-Err : tie.Need-related-requires-in-Err
+related-requires-in-Err c κs = search rules
 
-returns-in-Taken : tie.Need-returns-in-Taken
-returns-in-Taken c =
+returns-in-Ok : tie.Need-returns-in-Ok
+returns-in-Ok c =
     let h = c.before in
     let k = h in
     let a = k.args in
-    in_fields a.scene.now a.pattern.now k.relate.ensures h.in-Taken.is c.related.ensures
+    in_fields a.scene.now a.pattern.now k.relate.ensures h.in-Ok.is c.related.ensures
 
-returns-in-Refused : tie.Need-returns-in-Refused
-returns-in-Refused c =
+returns-in-Err : tie.Need-returns-in-Err
+returns-in-Err c =
     let h = c.before.before in
     let k = h in
     let a = k.args in
-    in_fields a.scene.now a.pattern.now k.relate.ensures h.in-Refused.is c.related-in-Refused.ensures
+    in_fields a.scene.now a.pattern.now k.relate.ensures h.in-Err.is c.related-in-Err.ensures
 
 pub karvoiss_relate_spec : {M : Type 1} → statement M
 karvoiss_relate_spec =
-    tie.close (tie.spec relate-requires enum_known-holds related-requires enum_known-r overflow_cast-r related-requires-in-Refused returns-in-Taken returns-in-Refused)
+    tie.close (tie.spec relate-requires enum_known-holds related-requires enum_known-r overflow_cast-r related-requires-in-Err returns-in-Ok returns-in-Err)

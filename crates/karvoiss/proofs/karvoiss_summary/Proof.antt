@@ -29,8 +29,8 @@ enum_known-r c = search rules
 overflow_cast-r : tie.Need-overflow_cast-r
 overflow_cast-r c = search rules
 
-recorded-requires-in-Refused : tie.Need-recorded-requires-in-Refused
-recorded-requires-in-Refused c κs = search rules
+recorded-requires-in-Err : tie.Need-recorded-requires-in-Err
+recorded-requires-in-Err c κs = search rules
 
 returns-in-Made : tie.Need-returns-in-Made
 returns-in-Made c =
@@ -38,11 +38,11 @@ returns-in-Made c =
     let e = m.summarize.ensures in
     (c.recorded.ensures ∙ ap (handed 0 0) c.written.ensures ∙ ap summary_for_c (sym m.in-Made.is ∙ e.0), e.1)
 
-returns-in-Refused : tie.Need-returns-in-Refused
-returns-in-Refused c =
+returns-in-Err : tie.Need-returns-in-Err
+returns-in-Err c =
     let r = c.before.before in
     let e = r.summarize.ensures in
-    (c.recorded-in-Refused.ensures ∙ ap summary_for_c (sym r.in-Refused.is ∙ e.0), e.1)
+    (c.recorded-in-Err.ensures ∙ ap summary_for_c (sym r.in-Err.is ∙ e.0), e.1)
 
 pub karvoiss_summary_spec : {M : Type 1} → statement M
 karvoiss_summary_spec =
@@ -54,6 +54,6 @@ karvoiss_summary_spec =
     recorded-requires
     enum_known-r
     overflow_cast-r
-    recorded-requires-in-Refused
+    recorded-requires-in-Err
     returns-in-Made
-    returns-in-Refused)
+    returns-in-Err)

@@ -1,9 +1,9 @@
 -- `karvoiss::karvoiss_vectors` meets its contract: each case of the answer, in its fields.
+use Rattle.flags_vectors.specs.Vectors.{VectorsAnswer}
 use Prim.Native.Nat.{ℕ}
 use mathlib.Core.Path.{◌≡◌, sym, ap, subst, ◌∙◌}
 use mathlib.Core.List.{List}
 use borrow.Author.Rules.{rules}
-use Rattle.flags_vectors.specs.declared.VectorsAnswer.{VectorsAnswer}
 use Rattle.flags_vectors.specs.Vectors.{vectors_of, vectors_values, NoFlagWrong}
 use Rattle.karvoiss.specs.Answer.{vectors_for_c}
 use Rattle.karvoiss.proofs.karvoiss_vectors.Statement.{statement}
@@ -26,18 +26,18 @@ enum_known-r c = search rules
 overflow_cast-result : tie.Need-overflow_cast-result
 overflow_cast-result c = search rules
 
-returns-in-Taken : tie.Need-returns-in-Taken
-returns-in-Taken c =
+returns-in-Ok : tie.Need-returns-in-Ok
+returns-in-Ok c =
     let k = c.before in
     let a = k.args in
-    in_fields a.scene.now a.want_f a.want_g k.vectors.ensures c.in-Taken.is
+    in_fields a.scene.now a.want_f a.want_g k.vectors.ensures c.in-Ok.is
 
-returns-in-Refused : tie.Need-returns-in-Refused
-returns-in-Refused c =
+returns-in-Err : tie.Need-returns-in-Err
+returns-in-Err c =
     let k = c.before.before in
     let a = k.args in
-    in_fields a.scene.now a.want_f a.want_g k.vectors.ensures c.in-Refused.is
+    in_fields a.scene.now a.want_f a.want_g k.vectors.ensures c.in-Err.is
 
 pub karvoiss_vectors_spec : {M : Type 1} → statement M
 karvoiss_vectors_spec =
-    tie.close (tie.spec vectors-requires enum_known-v enum_known-r overflow_cast-result returns-in-Taken returns-in-Refused)
+    tie.close (tie.spec vectors-requires enum_known-v enum_known-r overflow_cast-result returns-in-Ok returns-in-Err)

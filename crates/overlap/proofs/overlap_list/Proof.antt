@@ -1,11 +1,12 @@
 -- `overlap::overlap_list` meets its contract: a refusal leaves the buffer as it was, and a scene that is taken has its list written.
+use Rattle.std.specs.Prelude.{Ok}
+use Rattle.scene.specs.Read.{CheckedScene}
 use Prim.Native.Nat.{ℕ}
 use native.Mathlib.Omega.{arith}
 use mathlib.Core.Path.{◌≡◌, sym, ap, ◌∙◌}
 use lib.ListN.{length}
 use borrow.Author.Rules.{rules}
 use Rattle.scene.specs.declared.Scene.{Scene}
-use Rattle.scene.specs.declared.CheckedScene.{CheckedScene}
 use Rattle.overlap.specs.Rules.{check_list}
 use Rattle.overlap.specs.declared.Overlap.{Overlap}
 use Rattle.overlap.specs.Overlap.{answer, lent_after}
@@ -25,10 +26,10 @@ module _ (c : tie.After-write-arg-1) where
   z = k.before.before.before.before
 
   abbrev scene : Scene
-  scene = c.in-Taken.scene
+  scene = c.in-Ok.scene
 
-  taken : check_list z.args.s.now (length z.args.list.now) ≡ CheckedScene.Taken scene
-  taken = sym k.check_list.ensures.1 ∙ c.in-Taken.is
+  taken : check_list z.args.s.now (length z.args.list.now) ≡ Ok scene
+  taken = sym k.check_list.ensures.1 ∙ c.in-Ok.is
 
 slice_bounds-check_list-end : tie.Need-slice_bounds-check_list-end
 slice_bounds-check_list-end c = search rules
@@ -47,21 +48,21 @@ slice_bounds-write-end c = search rules
 
 write-count-requires : tie.Need-write-count-requires
 write-count-requires c κs =
-    (taken c, omega (arith, (k c).check_list.ensures.0), (k c).check_list.ensures.2 (scene c) c.in-Taken.is)
+    (taken c, omega (arith, (k c).check_list.ensures.0), (k c).check_list.ensures.2 (scene c) c.in-Ok.is)
 
-returns-in-Refused : tie.Need-returns-in-Refused
-returns-in-Refused c =
+returns-in-Err : tie.Need-returns-in-Err
+returns-in-Err c =
     let k = c.before.before in
     let a = k.args in
-    let e = sym k.check_list.ensures.1 ∙ c.in-Refused.is in
+    let e = sym k.check_list.ensures.1 ∙ c.in-Err.is in
     (sym (ap (answer a.s.now) e), sym (ap (λ (o : CheckedScene). lent_after a.s.now o a.list.now) e), list_means a.s.now _)
 
 shape_of-list : tie.Need-shape_of-list
 shape_of-list c = search rules
 
-returns-in-Taken : tie.Need-returns-in-Taken
+returns-in-Ok : tie.Need-returns-in-Ok
 unfolding listed
-returns-in-Taken c =
+returns-in-Ok c =
     let w = c.before.before in
     let d = w.before in
     let a = (z d).args in (
@@ -80,6 +81,6 @@ overlap_list_spec =
     enum_known-scene
     slice_bounds-write-end
     write-count-requires
-    returns-in-Refused
+    returns-in-Err
     shape_of-list
-    returns-in-Taken)
+    returns-in-Ok)

@@ -1,7 +1,7 @@
 -- `cells::question::cells` meets its contract: the matrix of what was explored, or nine empty cells.
+use Rattle.cells.specs.Explored.{CellsAnswer}
 use mathlib.Core.Path.{sym, ap, ◌∙◌}
 use borrow.Author.Rules.{rules}
-use Rattle.cells.specs.declared.CellsAnswer.{CellsAnswer}
 use Rattle.cells.specs.Explored.{cells_values}
 use Rattle.cells.proofs.question.cells.Statement.{statement}
 use Rattle.cells.proofs.question.cells.Tie as tie
@@ -18,13 +18,13 @@ enum_told-1 c = search rules
 none-requires : tie.Need-none-requires
 none-requires c κs = search rules
 
-returns-in-Taken : tie.Need-returns-in-Taken
-returns-in-Taken c = c.matrix.ensures ∙ sym (ap (λ (a : CellsAnswer). (cells_values a).cells) c.in-Taken.is)
+returns-in-Ok : tie.Need-returns-in-Ok
+returns-in-Ok c = c.matrix.ensures ∙ sym (ap (λ (a : CellsAnswer). (cells_values a).cells) c.in-Ok.is)
 
-returns-in-Refused : tie.Need-returns-in-Refused
-returns-in-Refused c = c.none.ensures ∙ sym (ap (λ (a : CellsAnswer). (cells_values a).cells) c.in-Refused.is)
+returns-in-Err : tie.Need-returns-in-Err
+returns-in-Err c = c.none.ensures ∙ sym (ap (λ (a : CellsAnswer). (cells_values a).cells) c.in-Err.is)
 
 pub cells_spec : {M : Type 1} → statement M
 cells_spec =
     tie.close
-    (tie.spec enum_known-answer matrix-requires enum_told-1 none-requires returns-in-Taken returns-in-Refused)
+    (tie.spec enum_known-answer matrix-requires enum_told-1 none-requires returns-in-Ok returns-in-Err)

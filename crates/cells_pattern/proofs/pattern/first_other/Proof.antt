@@ -1,5 +1,6 @@
 -- `cells_pattern::pattern::first_other` meets its contract. The loop's invariant: what is found from the position that is next is what is found from the first. The
 -- measure is the number of characters that are left.
+use Rattle.std.specs.Prelude.{None, Some}
 use Prim.Native.Nat.{ℕ, zero, suc, ◌+◌, ◌-◌, ◌<◌, ◌≤◌}
 use native.Mathlib.Numerals.{add-one}
 use native.Mathlib.Omega.{arith}
@@ -9,7 +10,6 @@ use mathlib.Core.List.{List, [], ◌∷◌}
 use lib.ListN.{length, drop, get_or}
 use lib.Seq.{drop-cons}
 use borrow.Author.Tests.{not-true, not-false}
-use Rattle.scene.specs.declared.Fault.TheVariants.{At, Nothing}
 use Rattle.cells_pattern.specs.Pattern.{is_character, first_other}
 use Rattle.cells_pattern.proofs.pattern.first_other.Statement.{statement}
 use Rattle.cells_pattern.proofs.pattern.first_other.Tie as tie
@@ -21,10 +21,10 @@ abbrev decreases_loop : tie.decreases-loop-at
 decreases_loop p at₀ at = length p - at
 
 -- the character that is next
-step : (p : List ℕ) (at : ℕ) → at < length p → first_other (drop at p) at ≡ cond (is_character (get_or p at 0)) (first_other (drop (at + 1) p) (at + 1)) (At at)
+step : (p : List ℕ) (at : ℕ) → at < length p → first_other (drop at p) at ≡ cond (is_character (get_or p at 0)) (first_other (drop (at + 1) p) (at + 1)) (Some at)
 step p at h = rw (add-one, drop-cons p at 0 h)
 
-none_left : (p : List ℕ) (at k : ℕ) → length p ≤ at → first_other (drop at p) k ≡ Nothing
+none_left : (p : List ℕ) (at k : ℕ) → length p ≤ at → first_other (drop at p) k ≡ None
 none_left [] zero k h = refl
 none_left [] (suc at) k h = refl
 none_left (c ∷ p) zero k h = absurd (omega arith)
@@ -32,8 +32,8 @@ none_left (c ∷ p) (suc at) k h = none_left p at k (omega arith)
 
 -- what is found, by the character that is next
 module _ (p : List ℕ) (at : ℕ) (h : at < length p) (so_far : first_other (drop at p) at ≡ first_other p 0) {b : Bool} (e : b ≡ is_character (get_or p at 0)) where
-  by_next : {v : Bool} → b ≡ v → first_other p 0 ≡ cond v (first_other (drop (at + 1) p) (at + 1)) (At at)
-  by_next q = sym so_far ∙ step p at h ∙ ap (λ b. cond b (first_other (drop (at + 1) p) (at + 1)) (At at)) (sym e ∙ q)
+  by_next : {v : Bool} → b ≡ v → first_other p 0 ≡ cond v (first_other (drop (at + 1) p) (at + 1)) (Some at)
+  by_next q = sym so_far ∙ step p at h ∙ ap (λ b. cond b (first_other (drop (at + 1) p) (at + 1)) (Some at)) (sym e ∙ q)
 
 loop-at-init : tie.Need-loop-at-init invariant_loop decreases_loop
 loop-at-init c = (omega arith, refl)

@@ -1,10 +1,10 @@
 -- `cells_pattern::pattern::verdict` meets its contract: 22, then 23.
+use Rattle.std.specs.Prelude.{Err, Ok}
+use Rattle.scene.specs.Read.{Fault}
 use borrow.Author.Rules.{rules}
 use mathlib.Core.Path.{sym, ap, ◌∙◌}
 use borrow.Author.Tests.{eq-eqb, ne_eqb}
-use Rattle.scene.specs.declared.Fault.{Fault}
 use Rattle.scene.specs.Read.{decide}
-use Rattle.check_verdict.specs.declared.Verdict.TheVariants.{Sound, Refused}
 use Rattle.cells_pattern.proofs.Checked.{not_nine_lem, nine}
 use Rattle.cells_pattern.proofs.pattern.verdict.Statement.{statement}
 use Rattle.cells_pattern.proofs.pattern.verdict.Tie as tie
@@ -21,19 +21,19 @@ enum_known-place c = search rules
 enum_told-1 : tie.Need-enum_told-1
 enum_told-1 c = search rules
 
-returns-in-At : tie.Need-returns-in-At
-returns-in-At c =
+returns-in-Some : tie.Need-returns-in-Some
+returns-in-Some c =
     let d = c.before in
     let z = d.args in
-    sym (ap (λ (f : Fault). decide Refused 23 f Sound) (sym d.first_other.ensures ∙ c.in-At.is)) ∙ nine z.p.now (eq-eqb _ _ d.if-p-ne9.false)
+    sym (ap (λ (f : Fault). decide Err 23 f (Ok tt)) (sym d.first_other.ensures ∙ c.in-Some.is)) ∙ nine z.p.now (eq-eqb _ _ d.if-p-ne9.false)
 
-returns-in-Nothing : tie.Need-returns-in-Nothing
-returns-in-Nothing c =
+returns-in-None : tie.Need-returns-in-None
+returns-in-None c =
     let d = c.before in
     let z = d.args in
-    sym (ap (λ (f : Fault). decide Refused 23 f Sound) (sym d.first_other.ensures ∙ c.in-Nothing.is)) ∙ nine z.p.now (eq-eqb _ _ d.if-p-ne9.false)
+    sym (ap (λ (f : Fault). decide Err 23 f (Ok tt)) (sym d.first_other.ensures ∙ c.in-None.is)) ∙ nine z.p.now (eq-eqb _ _ d.if-p-ne9.false)
 
 pub verdict_spec : {M : Type 1} → statement M
 verdict_spec =
     tie.close
-    (tie.spec returns-then-p-ne9 first_other-requires enum_known-place enum_told-1 returns-in-At returns-in-Nothing)
+    (tie.spec returns-then-p-ne9 first_other-requires enum_known-place enum_told-1 returns-in-Some returns-in-None)

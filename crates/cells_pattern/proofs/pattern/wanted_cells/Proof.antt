@@ -12,17 +12,17 @@ enum_told-1 c = search rules
 asked_cells-requires : tie.Need-asked_cells-requires
 asked_cells-requires c κs =
     let z = c.before.before in
-    sound_nine z.args.p.now (sym z.requires ∙ c.in-Sound.is)
+    sound_nine z.args.p.now (sym z.requires ∙ c.in-Ok.is)
 
-enum_told-in-Refused : tie.Need-enum_told-in-Refused
-enum_told-in-Refused c = search rules
+enum_told-in-Err : tie.Need-enum_told-in-Err
+enum_told-in-Err c = search rules
 
-returns-in-Sound : tie.Need-returns-in-Sound
-returns-in-Sound c = c.asked_cells.ensures ∙ sym (ap (wanted_cells c.args.p.now) c.in-Sound.is)
+returns-in-Ok : tie.Need-returns-in-Ok
+returns-in-Ok c = c.asked_cells.ensures ∙ sym (ap (wanted_cells c.args.p.now) c.in-Ok.is)
 
-returns-in-Refused : tie.Need-returns-in-Refused
-returns-in-Refused c = search rules
+returns-in-Err : tie.Need-returns-in-Err
+returns-in-Err c = search rules
 
 pub wanted_cells_spec : {M : Type 1} → statement M
 wanted_cells_spec =
-    tie.close (tie.spec enum_told-1 asked_cells-requires enum_told-in-Refused returns-in-Sound returns-in-Refused)
+    tie.close (tie.spec enum_told-1 asked_cells-requires enum_told-in-Err returns-in-Ok returns-in-Err)

@@ -1,10 +1,10 @@
 -- `cells_pattern::question::relate` meets its contract: each case of the scene's answer and of the pattern's verdict, and what it says.
+use Rattle.std.specs.Prelude.{Ok}
+use Rattle.check_verdict.specs.Refusals.{Verdict}
 use Prim.Native.Nat.{ℕ}
 use mathlib.Core.Path.{◌≡◌, sym, ap, ◌∙◌}
 use mathlib.Core.List.{List}
 use borrow.Author.Rules.{rules}
-use Rattle.check_verdict.specs.declared.Verdict.{Verdict}
-use Rattle.check_verdict.specs.declared.Verdict.TheVariants.{Sound}
 use Rattle.cells.specs.declared.Explored.{Explored}
 use Rattle.cells.specs.Explored.{matrix_from}
 use Rattle.cells_pattern.specs.Pattern.{fits_all}
@@ -62,25 +62,25 @@ fits_all-requires : tie.Need-fits_all-requires
 fits_all-requires c κs =
     let told = c.before.before in
     let a = told.before.before in
-    sound_nine (pattern a) (verdict_is a ∙ told.in-Sound.is)
+    sound_nine (pattern a) (verdict_is a ∙ told.in-Ok.is)
 
-returns-in-Refused : tie.Need-returns-in-Refused
-returns-in-Refused c =
+returns-in-Err : tie.Need-returns-in-Err
+returns-in-Err c =
     let k = c in
     let a = k.before in
-    scene_refused (scene a) (pattern a) a.wanted_cells-cells.result a.answer.ensures k.in-Refused.r k.in-Refused.is
+    scene_refused (scene a) (pattern a) a.wanted_cells-cells.result a.answer.ensures k.in-Err.r k.in-Err.is
 
-returns-in-Refused-verdict : tie.Need-returns-in-Refused-verdict
-returns-in-Refused-verdict c =
+returns-in-Err-verdict : tie.Need-returns-in-Err-verdict
+returns-in-Err-verdict c =
     let a = c.before.before in
-    pattern_refused (scene a) (pattern a) a.wanted_cells-cells.result a.answer.ensures c.in-Taken.scene c.in-Taken.vectors c.in-Taken.is
-    c.in-Refused-verdict.r (verdict_is a ∙ c.in-Refused-verdict.is)
+    pattern_refused (scene a) (pattern a) a.wanted_cells-cells.result a.answer.ensures c.in-Ok.scene c.in-Ok.vectors c.in-Ok.is
+    c.in-Err-verdict.r (verdict_is a ∙ c.in-Err-verdict.is)
 
-returns-in-Sound : tie.Need-returns-in-Sound
-returns-in-Sound c =
+returns-in-Ok : tie.Need-returns-in-Ok
+returns-in-Ok c =
     let a = c.before.before.before.before.before in
-    let sound : judged a ≡ Sound = c.in-Sound.is in
-    both_taken (scene a) (pattern a) a.wanted_cells-cells.result a.answer.ensures c.in-Taken.scene c.in-Taken.vectors c.in-Taken.is
+    let sound : judged a ≡ (Ok tt) = c.in-Ok.is in
+    both_taken (scene a) (pattern a) a.wanted_cells-cells.result a.answer.ensures c.in-Ok.scene c.in-Ok.vectors c.in-Ok.is
     (verdict_is a ∙ sound) (a.wanted_cells-cells.ensures ∙ ap (wanted_cells (pattern a)) sound)
     (c.fits_all.ensures ∙ ap (fits_all (pattern a)) (c.matrix.ensures ∙ ap (λ (e : Explored). matrix_from e) c.explored-explored.ensures))
 
@@ -98,6 +98,6 @@ relate_spec =
     explored-explored-requires
     matrix-requires
     fits_all-requires
-    returns-in-Refused
-    returns-in-Refused-verdict
-    returns-in-Sound)
+    returns-in-Err
+    returns-in-Err-verdict
+    returns-in-Ok)

@@ -17,7 +17,7 @@ use Rattle.flags_vectors.proofs.question.answer.Statement.{statement}
 use Rattle.flags_vectors.proofs.question.answer.Tie as tie
 
 -- a scene that was read
-module _ (c : tie.In-Taken) where
+module _ (c : tie.In-Ok) where
   abbrev z : tie.Start
   z = c.before.before.before
 
@@ -25,10 +25,10 @@ module _ (c : tie.In-Taken) where
   bytes = z.args.s.now
 
   abbrev scene : Scene
-  scene = c.in-Taken.scene
+  scene = c.in-Ok.scene
 
   read : IsScene bytes scene
-  read = sym c.read_scene.ensures ∙ c.in-Taken.is
+  read = sym c.read_scene.ensures ∙ c.in-Ok.is
 
   -- what is wanted of it
   abbrev masks : FlagMasks
@@ -39,7 +39,7 @@ module _ (c : tie.After-noted_verdict) where
   abbrev asked : tie.After-masks_for-masks
   asked = c.before.before.before.before
 
-  abbrev its : tie.In-Taken
+  abbrev its : tie.In-Ok
   its = asked.before
 
   tidy : stray_in (scene its) (masks its) ≡ false
@@ -85,34 +85,34 @@ swept_vectors-requires : tie.Need-swept_vectors-requires
 swept_vectors-requires c κs =
     let n = c.before.before.before in
     let d = its n in
-    let is = c.in-Sound.is in
+    let is = c.in-Ok.is in
     (sound (bytes d) (scene d) (read d) (judged n ∙ is), omega (arith, n.noted_verdict.ensures.0), n.noted_verdict.ensures.2 is)
 
 as_given-requires : tie.Need-as_given-requires
 as_given-requires c κs = search rules
 
-enum_known-r-in-Refused-noted_verdict : tie.Need-enum_known-r-in-Refused-noted_verdict
-enum_known-r-in-Refused-noted_verdict c = search rules
+enum_known-r-in-Err-noted_verdict : tie.Need-enum_known-r-in-Err-noted_verdict
+enum_known-r-in-Err-noted_verdict c = search rules
 
-returns-in-Refused : tie.Need-returns-in-Refused
-returns-in-Refused c =
+returns-in-Err : tie.Need-returns-in-Err
+returns-in-Err c =
     let d = c.before in
     let z = d.args in
-    unread z.s.now z.wanted c.in-Refused.r (sym d.read_scene.ensures ∙ c.in-Refused.is)
+    unread z.s.now z.wanted c.in-Err.r (sym d.read_scene.ensures ∙ c.in-Err.is)
 
-returns-in-Sound : tie.Need-returns-in-Sound
-returns-in-Sound c =
+returns-in-Ok : tie.Need-returns-in-Ok
+returns-in-Ok c =
     let v = c.before in
     let n = v.before.before.before.before in
     let d = its n in
-    taken (bytes d) (scene d) (read d) (z d).args.wanted (tidy n) (judged n ∙ v.in-Sound.is)
+    taken (bytes d) (scene d) (read d) (z d).args.wanted (tidy n) (judged n ∙ v.in-Ok.is)
     (c.as_given.ensures ∙ ap (given_vectors (scene d)) (v.swept_vectors.ensures ∙ ap (scene_vectors (bytes d) (scene d)) (asked n).masks_for-masks.ensures))
 
-returns-in-Refused-noted_verdict : tie.Need-returns-in-Refused-noted_verdict
-returns-in-Refused-noted_verdict c =
+returns-in-Err-noted_verdict : tie.Need-returns-in-Err-noted_verdict
+returns-in-Err-noted_verdict c =
     let n = c.before.before in
     let d = its n in
-    at_fault (bytes d) (scene d) (read d) (z d).args.wanted (tidy n) c.in-Refused-noted_verdict.r (judged n ∙ c.in-Refused-noted_verdict.is)
+    at_fault (bytes d) (scene d) (read d) (z d).args.wanted (tidy n) c.in-Err-noted_verdict.r (judged n ∙ c.in-Err-noted_verdict.is)
 
 pub answer_spec : {M : Type 1} → statement M
 answer_spec =
@@ -130,7 +130,7 @@ answer_spec =
     slice_bounds-swept_vectors-end
     swept_vectors-requires
     as_given-requires
-    enum_known-r-in-Refused-noted_verdict
-    returns-in-Refused
-    returns-in-Sound
-    returns-in-Refused-noted_verdict)
+    enum_known-r-in-Err-noted_verdict
+    returns-in-Err
+    returns-in-Ok
+    returns-in-Err-noted_verdict)

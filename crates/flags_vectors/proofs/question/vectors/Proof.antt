@@ -1,9 +1,9 @@
 -- `flags_vectors::question::vectors` meets its contract: the answer without the scene.
+use Rattle.flags_vectors.specs.Vectors.{SceneAnswer}
 use Prim.Native.Nat.{ℕ}
 use mathlib.Core.Path.{◌≡◌, sym, ap, ◌∙◌}
 use mathlib.Core.List.{List}
 use borrow.Author.Rules.{rules}
-use Rattle.flags_vectors.specs.declared.SceneAnswer.{SceneAnswer}
 use Rattle.check_verdict.specs.SharedPoints.{CheckedMeans}
 use Rattle.flags_vectors.specs.Vectors.{these, check_vectors, vectors_alone, answer_of, vectors_of, vectors_values, NoFlagWrong}
 use Rattle.flags_vectors.proofs.NoFlagWrong.{with_meaning}
@@ -24,16 +24,16 @@ enum_known-r c = search rules
 enum_known-vectors : tie.Need-enum_known-vectors
 enum_known-vectors c = search rules
 
-returns-in-Refused : tie.Need-returns-in-Refused
-returns-in-Refused c =
+returns-in-Err : tie.Need-returns-in-Err
+returns-in-Err c =
     let z = c.args in
-    shown_as z.s.now z.want_f z.want_g c.answer.ensures c.in-Refused.is
+    shown_as z.s.now z.want_f z.want_g c.answer.ensures c.in-Err.is
 
-returns-in-Taken : tie.Need-returns-in-Taken
-returns-in-Taken c =
+returns-in-Ok : tie.Need-returns-in-Ok
+returns-in-Ok c =
     let z = c.args in
-    shown_as z.s.now z.want_f z.want_g c.answer.ensures c.in-Taken.is
+    shown_as z.s.now z.want_f z.want_g c.answer.ensures c.in-Ok.is
 
 pub vectors_spec : {M : Type 1} → statement M
 vectors_spec =
-    tie.close (tie.spec answer-requires enum_known-r enum_known-vectors returns-in-Refused returns-in-Taken)
+    tie.close (tie.spec answer-requires enum_known-r enum_known-vectors returns-in-Err returns-in-Ok)

@@ -1,11 +1,11 @@
 -- `overlap::refusals::check_list` meets its contract: the check of two regions, then 17.
+use Rattle.std.specs.Prelude.{Ok}
 use Prim.Native.Nat.{◌<◌, ◌≤◌}
 use native.Mathlib.Omega.{arith}
 use mathlib.Core.Path.{◌≡◌, sym, ◌∙◌}
 use lib.ListN.{length}
 use borrow.Author.Rules.{rules}
 use Rattle.scene.specs.declared.Scene.{Scene}
-use Rattle.scene.specs.declared.CheckedScene.{CheckedScene}
 use Rattle.overlap.specs.Rules.{list_of, check_regions}
 use Rattle.overlap.specs.Walked.{TwoRegions}
 use Rattle.overlap.proofs.Checked.{not_noted, no_regions, seventeen, roomy, two_regions}
@@ -21,10 +21,10 @@ module _ (c : tie.After-g-1) where
   z = k.before.before.before.before
 
   abbrev scene : Scene
-  scene = c.in-Taken.scene
+  scene = c.in-Ok.scene
 
-  taken : check_regions z.args.s.now ≡ CheckedScene.Taken scene
-  taken = sym k.check_regions.ensures.1 ∙ c.in-Taken.is
+  taken : check_regions z.args.s.now ≡ Ok scene
+  taken = sym k.check_regions.ensures.1 ∙ c.in-Ok.is
 
   good : TwoRegions z.args.s.now scene
   good = two_regions z.args.s.now scene taken
@@ -51,14 +51,14 @@ returns-then-room-count c =
     let h : a.room < length (list_of a.s.now (scene g)) = omega (arith, c.if-room-count.true, c.count.ensures) in
     ((k g).check_regions.ensures.0, seventeen a.s.now a.room (scene g) (taken g) h, not_noted)
 
-shape_of-notes-in-Refused : tie.Need-shape_of-notes-in-Refused
-shape_of-notes-in-Refused c = search rules
+shape_of-notes-in-Err : tie.Need-shape_of-notes-in-Err
+shape_of-notes-in-Err c = search rules
 
-returns-in-Refused : tie.Need-returns-in-Refused
-returns-in-Refused c =
+returns-in-Err : tie.Need-returns-in-Err
+returns-in-Err c =
     let k = c.before.before.before in
     let a = k.args in
-    (k.check_regions.ensures.0, no_regions a.s.now a.room c.in-Refused.r (sym k.check_regions.ensures.1 ∙ c.in-Refused.is), not_noted)
+    (k.check_regions.ensures.0, no_regions a.s.now a.room c.in-Err.r (sym k.check_regions.ensures.1 ∙ c.in-Err.is), not_noted)
 
 shape_of-notes-else-room-count : tie.Need-shape_of-notes-else-room-count
 shape_of-notes-else-room-count c = search rules
@@ -70,7 +70,7 @@ returns-else-room-count c =
     let h : length (list_of a.s.now (scene g)) ≤ a.room = omega (arith, c.if-room-count.false, c.count.ensures) in (
       (k g).check_regions.ensures.0,
       roomy a.s.now a.room (scene g) (taken g) h,
-      λ sc e. (k g).check_regions.ensures.2 sc (g.in-Taken.is ∙ e),
+      λ sc e. (k g).check_regions.ensures.2 sc (g.in-Ok.is ∙ e),
     )
 
 pub check_list_spec : {M : Type 1} → statement M
@@ -83,7 +83,7 @@ check_list_spec =
     count-requires
     shape_of-notes-then-room-count
     returns-then-room-count
-    shape_of-notes-in-Refused
-    returns-in-Refused
+    shape_of-notes-in-Err
+    returns-in-Err
     shape_of-notes-else-room-count
     returns-else-room-count)

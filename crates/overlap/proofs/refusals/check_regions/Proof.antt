@@ -11,7 +11,7 @@ use Rattle.overlap.proofs.refusals.check_regions.Statement.{statement}
 use Rattle.overlap.proofs.refusals.check_regions.Tie as tie
 
 -- a scene that was read
-module _ (c : tie.In-Taken) where
+module _ (c : tie.In-Ok) where
   abbrev z : tie.Start
   z = c.before.before.before.before
 
@@ -19,14 +19,14 @@ module _ (c : tie.In-Taken) where
   bytes = z.args.s.now
 
   abbrev scene : Scene
-  scene = c.in-Taken.scene
+  scene = c.in-Ok.scene
 
   read : IsScene bytes scene
-  read = sym c.read_scene.ensures ∙ c.in-Taken.is
+  read = sym c.read_scene.ensures ∙ c.in-Ok.is
 
 -- and that the sweep was asked about
 module _ (c : tie.After-noted_verdict) where
-  abbrev its : tie.In-Taken
+  abbrev its : tie.In-Ok
   its = c.before.before
 
   verdict_is : geometry_verdict (bytes its) (scene its) ≡ c.noted_verdict.result
@@ -50,39 +50,39 @@ enum_told-1 c = search rules
 judge-requires : tie.Need-judge-requires
 judge-requires c κs = search rules
 
-enum_known-r-in-Refused-noted_verdict : tie.Need-enum_known-r-in-Refused-noted_verdict
-enum_known-r-in-Refused-noted_verdict c = search rules
+enum_known-r-in-Err-noted_verdict : tie.Need-enum_known-r-in-Err-noted_verdict
+enum_known-r-in-Err-noted_verdict c = search rules
 
-returns-in-Refused : tie.Need-returns-in-Refused
-returns-in-Refused c =
+returns-in-Err : tie.Need-returns-in-Err
+returns-in-Err c =
     let k = c in
     let d = k.before in
     let a = d.args in
-    (refl, unread a.s.now k.in-Refused.r (sym d.read_scene.ensures ∙ k.in-Refused.is), not_noted)
+    (refl, unread a.s.now k.in-Err.r (sym d.read_scene.ensures ∙ k.in-Err.is), not_noted)
 
-shape_of-notes-in-Sound : tie.Need-shape_of-notes-in-Sound
-shape_of-notes-in-Sound c = search rules
+shape_of-notes-in-Ok : tie.Need-shape_of-notes-in-Ok
+shape_of-notes-in-Ok c = search rules
 
-returns-in-Sound : tie.Need-returns-in-Sound
-returns-in-Sound c =
+returns-in-Ok : tie.Need-returns-in-Ok
+returns-in-Ok c =
     let n = c.before.before.before.before in
     let d = its n in
-    let is = c.in-Sound.is in (
+    let is = c.in-Ok.is in (
       n.noted_verdict.ensures.0,
       c.judge.ensures (bytes d) ∙ sound_regions (bytes d) (scene d) (read d) (verdict_is n ∙ is),
       noted_judged (bytes d) (scene d) (c.judge.ensures (bytes d)) (n.noted_verdict.ensures.2 is),
     )
 
-shape_of-notes-in-Refused-noted_verdict : tie.Need-shape_of-notes-in-Refused-noted_verdict
-shape_of-notes-in-Refused-noted_verdict c = search rules
+shape_of-notes-in-Err-noted_verdict : tie.Need-shape_of-notes-in-Err-noted_verdict
+shape_of-notes-in-Err-noted_verdict c = search rules
 
-returns-in-Refused-noted_verdict : tie.Need-returns-in-Refused-noted_verdict
-returns-in-Refused-noted_verdict c =
+returns-in-Err-noted_verdict : tie.Need-returns-in-Err-noted_verdict
+returns-in-Err-noted_verdict c =
     let k = c.before in
     let n = k.before.before in
     let d = its n in (
       n.noted_verdict.ensures.0,
-      at_fault (bytes d) (scene d) (read d) c.in-Refused-noted_verdict.r (verdict_is n ∙ c.in-Refused-noted_verdict.is),
+      at_fault (bytes d) (scene d) (read d) c.in-Err-noted_verdict.r (verdict_is n ∙ c.in-Err-noted_verdict.is),
       not_noted,
     )
 
@@ -96,9 +96,9 @@ check_regions_spec =
     noted_verdict-requires
     enum_told-1
     judge-requires
-    enum_known-r-in-Refused-noted_verdict
-    returns-in-Refused
-    shape_of-notes-in-Sound
-    returns-in-Sound
-    shape_of-notes-in-Refused-noted_verdict
-    returns-in-Refused-noted_verdict)
+    enum_known-r-in-Err-noted_verdict
+    returns-in-Err
+    shape_of-notes-in-Ok
+    returns-in-Ok
+    shape_of-notes-in-Err-noted_verdict
+    returns-in-Err-noted_verdict)

@@ -14,15 +14,15 @@ enum_known-place c = search rules
 enum_told-1 : tie.Need-enum_told-1
 enum_told-1 c = search rules
 
-returns-in-At : tie.Need-returns-in-At
-returns-in-At c s =
+returns-in-Some : tie.Need-returns-in-Some
+returns-in-Some c s =
     let d = c.before in
-    sixteen s d.args.scene c.in-At.place (sym (d.regions_fault.ensures s) ∙ c.in-At.is)
+    sixteen s d.args.scene c.in-Some.place (sym (d.regions_fault.ensures s) ∙ c.in-Some.is)
 
-returns-in-Nothing : tie.Need-returns-in-Nothing
-returns-in-Nothing c s =
+returns-in-None : tie.Need-returns-in-None
+returns-in-None c s =
     let d = c.before in
-    passed s d.args.scene (sym (d.regions_fault.ensures s) ∙ c.in-Nothing.is)
+    passed s d.args.scene (sym (d.regions_fault.ensures s) ∙ c.in-None.is)
 
 pub judge_spec : {M : Type 1} → statement M
-judge_spec = tie.close (tie.spec regions_fault-requires enum_known-place enum_told-1 returns-in-At returns-in-Nothing)
+judge_spec = tie.close (tie.spec regions_fault-requires enum_known-place enum_told-1 returns-in-Some returns-in-None)

@@ -1,12 +1,12 @@
 -- `overlap::refusals::regions_fault` meets its contract: the type of the object given first, then the other's.
+use Rattle.std.specs.Prelude.{None, Some}
+use Rattle.scene.specs.Read.{Fault}
 use Prim.Native.Nat.{ℕ}
 use mathlib.Core.Path.{◌≡◌, sym, ap₂, ◌∙◌}
 use mathlib.Core.Bool.{true, false}
 use mathlib.Core.List.{List}
 use borrow.Author.Rules.{rules}
 use Rattle.scene.specs.declared.Layout.{Layout}
-use Rattle.scene.specs.declared.Fault.{Fault}
-use Rattle.scene.specs.declared.Fault.TheVariants.{At, Nothing}
 use Rattle.scene.specs.Read.{unless}
 use Rattle.scene.specs.Conditions.{is_region, or_else}
 use Rattle.scene.proofs.Flags.{refuted, upheld}
@@ -28,13 +28,13 @@ module _ (c : tie.After-given_second-second) (s : List ℕ) where
   given : fault_of a b ≡ not_regions s c.args.scene
   given = ap₂ fault_of c.given_first-first.ensures c.given_second-second.ensures
 
-  none : is_region a.shape ≡ true → is_region b.shape ≡ true → Nothing ≡ not_regions s c.args.scene
+  none : is_region a.shape ≡ true → is_region b.shape ≡ true → None ≡ not_regions s c.args.scene
   none e q = rw (e, q) at given
 
-  at_first : is_region a.shape ≡ false → At a.start ≡ not_regions s c.args.scene
+  at_first : is_region a.shape ≡ false → Some a.start ≡ not_regions s c.args.scene
   at_first e = rw e at given
 
-  at_second : is_region a.shape ≡ true → is_region b.shape ≡ false → At b.start ≡ not_regions s c.args.scene
+  at_second : is_region a.shape ≡ true → is_region b.shape ≡ false → Some b.start ≡ not_regions s c.args.scene
   at_second e q = rw (e, q) at given
 
 given_first-first-requires : tie.Need-given_first-first-requires
