@@ -6,7 +6,7 @@ ghost use Rattle.std.specs.Prelude.{◌≡◌, ◌<◌};
 ghost use Rattle.scene.specs.Read.{IsObject};
 ghost use Rattle.check_conditions.specs.Faults.{is_at_fault, fault_under};
 
-use scene::{Fault, Layout, records};
+use scene::{Layout, records};
 
 pub mod ends;
 pub mod interior;
@@ -29,16 +29,14 @@ fn is_at_fault(s: &[u8], l: Layout, other: Layout, number: u8, i: usize) -> bool
 }
 
 // The earliest record of l at fault under one of the conditions 10 to 15. For 15, other is the scene's other object.
-pub fn fault_under(s: &[u8], l: Layout, other: Layout, number: u8) -> Fault
+pub fn fault_under(s: &[u8], l: Layout, other: Layout, number: u8) -> Option<usize>
     requires { IsObject s.now l × IsObject s.now other }
     ensures { result ≡ fault_under s.now l other number }
 {
-    let mut i: usize = 0;
-    while i < l.count {
+    for i in 0..l.count {
         if is_at_fault(s, l, other, number, i) {
-            return Fault::At(records::place(l, i));
+            return Some(records::place(l, i));
         }
-        i += 1;
     }
-    Fault::Nothing
+    None
 }

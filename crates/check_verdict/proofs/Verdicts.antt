@@ -2,7 +2,6 @@
 -- parts, whatever conditions of its own it has.
 use Rattle.std.specs.Prelude.{Err, None, Ok, Some}
 use Rattle.scene.specs.Read.{Fault}
-use Rattle.check_verdict.specs.Refusals.{Verdict}
 use Prim.Native.Nat.{ℕ, ◌+◌, ◌<◌, ◌≤◌}
 use mathlib.Core.Path.{◌≡◌, refl, sym, ap, ap₂, ◌∙◌}
 use mathlib.Core.Bool.{Bool, true, false}
@@ -15,27 +14,24 @@ use Rattle.scene.specs.Conditions.{out_of_order, unpaired, touching_itself, odd_
 use native.Mathlib.Omega.{arith}
 use Rattle.sweep_laws.specs.Swept.{object_of, InOrder, Passes}
 use Rattle.check_conditions.specs.Faults.{fault_under}
-use Rattle.check_verdict.specs.Refusals.{scene_fault_under, verdict, settle, object_verdict, geometry_rules, geometry_verdict}
+use Rattle.check_verdict.specs.Refusals.{scene_fault_under, numbered, Verdict, verdict, settle, object_verdict, geometry_rules, geometry_verdict}
+use Rattle.scene.proofs.Outcomes.{never_taken}
 use Rattle.scene.proofs.Taken.{both_of_given, given_of_both}
 use Rattle.scene.proofs.Given.{neither}
-use Rattle.scene_segments.proofs.Walk.{between, between_next, between_none}
+use Rattle.scene_segments.proofs.Walk.{between_next, between_none}
 use Rattle.check_conditions.proofs.Earliest.{fault_11, fault_12, fault_13, fault_14, fault_15}
 
 -- ---- by number
 
 module _ (fault : ℕ → Fault) where
-  -- the conditions from the number i up to n
-  abbrev pub numbered : ℕ → ℕ → List Condition
-  numbered i n = map (λ (m : ℕ). condition m (fault m)) (between i n)
-
   module _ (i n : ℕ) where
-    pub refuses : i < n → (p : ℕ) → fault i ≡ Some p → verdict (numbered i n) ≡ Err (record { number = i; place = p })
+    pub refuses : i < n → (p : ℕ) → fault i ≡ Some p → verdict (numbered fault i n) ≡ Err (record { number = i; place = p })
     refuses h p e = rw (between_next i n h, e)
 
-    pub passes : i < n → fault i ≡ None → verdict (numbered i n) ≡ verdict (numbered (i + 1) n)
+    pub passes : i < n → fault i ≡ None → verdict (numbered fault i n) ≡ verdict (numbered fault (i + 1) n)
     passes h e = rw (between_next i n h, e)
 
-    pub sound : n ≤ i → verdict (numbered i n) ≡ (Ok tt)
+    pub sound : n ≤ i → verdict (numbered fault i n) ≡ (Ok tt)
     sound h = rw (between_none i n h)
 
 -- equal faults refuse alike, and where there is none what follows decides
@@ -85,11 +81,8 @@ passes_sound s sc order p =
     given f q = given_of_both (λ (l : Layout). f s l ≡ None) sc (q true) (q false)
 
 -- and in one that they do not refuse they find none
-refuses_not : {r : Refusal} → Err r ≡ (Ok tt) → ⊥
-refuses_not e = let z : ◌≡◌ {A = ℕ} 0 1 = cc in omega arith
-
 sound_first : (n : ℕ) (f : Fault) (rest : Verdict) → decide Err n f rest ≡ (Ok tt) → (f ≡ None) × (rest ≡ (Ok tt))
-sound_first n (Some p) rest e = absurd (refuses_not e)
+sound_first n (Some p) rest e = absurd (never_taken e)
 sound_first n None rest e = (refl, e)
 
 pub sound_passes : (s : List ℕ) (sc : Scene) → geometry_verdict s sc ≡ (Ok tt) → InOrder s sc × Passes s sc

@@ -1,0 +1,39 @@
+-- Reading, then 10 to 14, each of which may refuse.
+use Rattle.std.proofs.Common.{◌≡◌, ◌∙◌, sym, ℕ, List, Ok, Err}
+use Rattle.scene.specs.declared.Layout.{Layout}
+use Rattle.scene.specs.declared.Refusal.{Refusal}
+use Rattle.scene.specs.Read.{read_alone}
+use Rattle.scene.specs.Conditions.{check_object}
+use Rattle.scene.proofs.Outcomes.{handed_on}
+use Rattle.scene.proofs.Taken.{taken_alone}
+use Rattle.check_verdict.specs.Refusals.{object_verdict}
+use Rattle.check_verdict.proofs.Verdicts.{object_refused, object_read}
+use Rattle.check_verdict.proofs.CheckedMeans.{object_with_meaning}
+use Rattle.check_verdict.proofs.check_object.Goals as goal
+
+module _ (s : List ℕ) (l : Layout) (e : read_alone s ≡ Ok l) where
+  at_fault : (r : Refusal) → object_verdict s l ≡ Err r → check_object s ≡ Err r
+  at_fault r q = rw (object_read s l e, q)
+
+  taken : object_verdict s l ≡ Ok tt → check_object s ≡ Ok l
+  taken q = rw (object_read s l e, q)
+
+pub returns-in_err-l : goal.returns-in_err-l
+returns-in_err-l c =
+    let s = c.args.s.now in
+    object_with_meaning s (handed_on c.from_residual.result c.from_residual.ensures.1 ∙ sym (object_refused s c.in_err-l.field-0.0 (sym c.read_alone.ensures ∙ c.in_err-l.was)))
+
+pub object_verdict-requires : goal.object_verdict-requires
+object_verdict-requires c = (taken_alone c.args.s.now c.in_ok-l.l (sym c.read_alone.ensures ∙ c.in_ok-l.was)).read
+
+pub returns-in_err-object_verdict : goal.returns-in_err-object_verdict
+returns-in_err-object_verdict c =
+    let s = c.args.s.now in
+    let r = c.from_residual-in_err-object_verdict in
+    object_with_meaning s (handed_on r.result r.ensures.1
+    ∙ sym (at_fault s c.in_ok-l.l (sym c.read_alone.ensures ∙ c.in_ok-l.was) c.in_err-object_verdict.field-0.0 (sym c.object_verdict.ensures ∙ c.in_err-object_verdict.was)))
+
+pub returns : goal.returns
+returns c =
+    let s = c.args.s.now in
+    object_with_meaning s (sym (taken s c.in_ok-l.l (sym c.read_alone.ensures ∙ c.in_ok-l.was) (sym c.object_verdict.ensures ∙ c.in_ok-object_verdict.was)))

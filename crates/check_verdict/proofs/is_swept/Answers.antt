@@ -1,0 +1,16 @@
+-- A scene is sound exactly where 10 finds no fault in either object, and 11 to 15, which the sweep decides, none.
+use Rattle.std.proofs.Common.{refl}
+use Rattle.whole.proofs.Logic.{is_true}
+use Rattle.whole.proofs.Deciding.{no, same_as}
+use Rattle.check_verdict.proofs.Verdicts.{passes_sound, sound_passes}
+use Rattle.check_verdict.proofs.is_swept.Goals as goal
+
+pub returns-then-is_in_order : goal.returns-then-is_in_order
+returns-then-is_in_order c =
+    let s = c.args.s.now in
+    let sc = c.args.scene in
+    let order = c.is_in_order.ensures.sound (is_true c.is_in_order.result c.if-is_in_order.true) in
+    (c.accepts.ensures.0, same_as (passes_sound s sc order) (λ sound. (sound_passes s sc sound).1) c.accepts.ensures.1, c.accepts.ensures.2)
+
+pub returns-else-is_in_order : goal.returns-else-is_in_order
+returns-else-is_in_order c = ?
