@@ -6,9 +6,9 @@ ghost use Rattle.std.specs.Prelude.{◌≤◌, length};
 ghost use Rattle.cells.specs.Explored.{cells_values};
 ghost use Rattle.answer_line.specs.Line.{ok_line, no_line, line_of, line_of_scene, Numbered, Written, Lent};
 
-use cells::{CellsAnswer, question, table};
+use cells::{Explored, question, table};
 use plane_dimensions::Dimension;
-use scene::records;
+use scene::{Refusal, records};
 
 pub mod fields;
 
@@ -39,20 +39,20 @@ fn write_no(out: &mut [u8], number: u8, place: usize) -> usize
     fields::write_byte(out, end, b'\n')
 }
 
-fn write_answer(out: &mut [u8], answer: CellsAnswer) -> usize
+fn write_answer(out: &mut [u8], answer: Result<Explored, Refusal>) -> usize
     requires numbered { Numbered answer }
     requires line_limit_in_bounds { LINE_LIMIT ≤ length out.old }
     ensures { Written out.old 0 (line_of (cells_values answer)) result out.new }
 {
     match answer {
-        CellsAnswer::Taken(e) => {
+        Ok(e) => {
             let of_f = e.f;
             let of_g = e.g;
             let f = records::shape_number(of_f);
             let g = records::shape_number(of_g);
             write_ok(out, f, g, e.v, e.w, table::matrix(e))
         }
-        CellsAnswer::Refused(r) => write_no(out, r.number, r.place),
+        Err(r) => write_no(out, r.number, r.place),
     }
 }
 

@@ -18,9 +18,8 @@ use Rattle.flags.specs.Elements.{edges}
 use Rattle.overlap.specs.Rules.{check_regions}
 use Rattle.overlap.specs.Walked.{TwoRegions}
 use Rattle.overlap.proofs.Checked.{two_regions, regions_mean}
-use Rattle.areas.specs.declared.Areas.{Areas}
 use Rattle.areas.specs.Parts.{Part, in_both, in_f_only, in_g_only, own_area}
-use Rattle.areas.specs.Areas.{area_in, answer, areas_of, PartsMakeWhole}
+use Rattle.areas.specs.Areas.{area_in, AreasAnswer, answer, areas_values, areas_of, PartsMakeWhole}
 use Rattle.areas.proofs.Whole.{area_of_f, area_of_g}
 
 -- equal types are never exchanged
@@ -59,9 +58,9 @@ module _ (s : List ℕ) (sc : Scene) (taken : check_regions s ≡ Ok sc) where
   whole_g = ap₂ ◌+ℤ◌ (sym (given_area in_both)) (sym (given_area in_g_only)) ∙ area_of_g good ∙ ap (λ (l : Layout). own_area (edges s l)) g_second
 
 -- "The first and second sum to F's shoelace area doubled, taken from F by itself; the first and third likewise to G's."
-pub parts_make_whole : (s : List ℕ) {r : Areas} → r ≡ areas_of s → PartsMakeWhole s r.both r.f_only r.g_only
+pub parts_make_whole : (s : List ℕ) {r : AreasAnswer} → r ≡ areas_of s → PartsMakeWhole s (areas_values r).both (areas_values r).f_only (areas_values r).g_only
 parts_make_whole s {r} e sc taken =
-    (ap (λ (a : Areas). a.both +ℤ a.f_only) is ∙ whole_f s sc taken, ap (λ (a : Areas). a.both +ℤ a.g_only) is ∙ whole_g s sc taken)
+    (ap (λ (a : AreasAnswer). (areas_values a).both +ℤ (areas_values a).f_only) is ∙ whole_f s sc taken, ap (λ (a : AreasAnswer). (areas_values a).both +ℤ (areas_values a).g_only) is ∙ whole_g s sc taken)
   where
     is : r ≡ answer s (Ok sc)
     is = e ∙ ap (answer s) taken

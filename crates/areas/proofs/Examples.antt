@@ -8,8 +8,8 @@ use Rattle.flags.specs.Elements.{edges}
 use Rattle.overlap.specs.Bytes.{adjoins}
 use Rattle.overlap.specs.Rules.{check_regions}
 use Rattle.areas.specs.Parts.{shoelace, weighed, part_area}
-use Rattle.areas.specs.declared.Areas.{Areas}
-use Rattle.areas.specs.Areas.{areas_of}
+use Rattle.std.specs.Prelude.{Ok, Err}
+use Rattle.areas.specs.Areas.{AreasAnswer, areas_of}
 
 word : ℕ → List ℕ
 word n = n % 256 ∷ n / 256 % 256 ∷ n / 65536 % 256 ∷ n / 16777216 ∷ []
@@ -42,17 +42,17 @@ all = box (2 ^ 32 - limit) (2 ^ 32 - limit) limit limit
 
 pub record Example : Type 0 where
   pub scene : List ℕ
-  pub answer : Areas
+  pub answer : AreasAnswer
 
 infix 30 ◌gives◌
-◌gives◌ : List ℕ → Areas → Example
+◌gives◌ : List ℕ → AreasAnswer → Example
 s gives a = record { scene = s; answer = a }
 
-refused : ℕ → ℕ → Areas
-refused n p = record { number = n; place = p; both = pos 0; f_only = pos 0; g_only = pos 0 }
+refused : ℕ → ℕ → AreasAnswer
+refused n p = Err (record { number = n; place = p })
 
-areas : ℕ → ℕ → ℕ → Areas
-areas a b c = record { number = 0; place = 0; both = pos a; f_only = pos b; g_only = pos c }
+areas : ℕ → ℕ → ℕ → AreasAnswer
+areas a b c = Ok (record { both = pos a; f_only = pos b; g_only = pos c })
 
 pub examples : List Example
 unfolding word R object box ring first second all ◌gives◌ refused areas

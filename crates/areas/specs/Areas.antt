@@ -1,32 +1,45 @@
 -- The areas question, for every byte string: "For two accepted regions give three whole numbers: twice the area in both, in F only, in G only. .. It refuses
 -- with 16 when a type is not 3, after 15." F is the region that the bytes have first.
-use Rattle.std.specs.Prelude.{Err, Ok}
-use Rattle.scene.specs.Read.{CheckedScene}
-use Rattle.std.specs.Prelude.{ℕ, ◌≤◌, ◌^◌, ◌≡◌, List, ℤ, pos, nat_abs, ◌+ℤ◌}
+use Rattle.std.specs.Prelude.{Result, Ok, Err, ℕ, ◌≤◌, ◌^◌, ◌≡◌, List, ℤ, pos, nat_abs, ◌+ℤ◌}
 use Rattle.plane.specs.declared.Segment.{Segment}
 use Rattle.scene.specs.declared.Layout.{Layout}
 use Rattle.scene.specs.declared.Scene.{Scene}
-use Rattle.scene.specs.Read.{given_first, given_second}
+use Rattle.scene.specs.declared.Refusal.{Refusal}
+use Rattle.scene.specs.Read.{CheckedScene, given_first, given_second}
 use Rattle.flags.specs.Elements.{edges}
 use Rattle.overlap.specs.declared.adjoining.Sides.{Sides}
 use Rattle.overlap.specs.Rules.{check_regions}
 use Rattle.areas.specs.Parts.{shoelace, weighed, Part, in_both, in_f_only, in_g_only, belongs, part_area, own_area}
 use Rattle.areas.specs.declared.sums.Sums.{Sums}
-use Rattle.areas.specs.declared.Areas.{Areas}
 
 -- ---- the answer
 
 abbrev pub area_in : List ℕ → Layout → Layout → Part → ℤ
 area_in s f g p = part_area (edges s f) (edges s g) p
 
--- number and values of every answer: zeros beside a refusal
-abbrev pub answer : List ℕ → CheckedScene → Areas
-answer s (Err r) = record { number = r.number; place = r.place; both = pos 0; f_only = pos 0; g_only = pos 0 }
+-- the three areas, or the refusal
+abbrev pub AreasAnswer : Type 0
+AreasAnswer = Result Sums Refusal
+
+abbrev pub answer : List ℕ → CheckedScene → AreasAnswer
+answer s (Err r) = Err r
 answer s (Ok sc) =
     let area = area_in s (given_first sc) (given_second sc) in
-    record { number = 0; place = 0; both = area in_both; f_only = area in_f_only; g_only = area in_g_only }
+    Ok (record { both = area in_both; f_only = area in_f_only; g_only = area in_g_only })
 
-abbrev pub areas_of : List ℕ → Areas
+-- number and values of every answer: zeros beside a refusal
+pub record AreasValues : Type 0 where
+  pub number : ℕ
+  pub place : ℕ
+  pub both : ℤ
+  pub f_only : ℤ
+  pub g_only : ℤ
+
+abbrev pub areas_values : AreasAnswer → AreasValues
+areas_values (Err r) = record { number = r.number; place = r.place; both = pos 0; f_only = pos 0; g_only = pos 0 }
+areas_values (Ok a) = record { number = 0; place = 0; both = a.both; f_only = a.f_only; g_only = a.g_only }
+
+abbrev pub areas_of : List ℕ → AreasAnswer
 areas_of s = answer s (check_regions s)
 
 -- "The first and second sum to F's shoelace area doubled, taken from F by itself; the first and third likewise to G's."

@@ -1,13 +1,12 @@
 -- The cells question over a scene's bytes: what is answered, for every byte string, and what the answer means for a scene that is taken.
-use Rattle.std.specs.Prelude.{Err, Ok}
-use Rattle.scene.specs.Read.{CheckedScene}
-use Rattle.std.specs.Prelude.{ℕ, ◌≡◌, ◌↔◌, Bool, List, T, eqb}
+use Rattle.std.specs.Prelude.{Result, Ok, Err, ℕ, ◌≡◌, ◌↔◌, Bool, List, T, eqb}
 use Rattle.plane.specs.Plane.{FractionPoint}
 use Rattle.plane_dimensions.specs.declared.Dimension.{Dimension}
 use Rattle.plane_dimensions.specs.Dimensions.{Value, not_empty}
 use Rattle.scene.specs.declared.Layout.{Layout}
 use Rattle.scene.specs.declared.Scene.{Scene}
-use Rattle.scene.specs.Read.{shape_number, given_first, given_second}
+use Rattle.scene.specs.declared.Refusal.{Refusal}
+use Rattle.scene.specs.Read.{CheckedScene, shape_number, given_first, given_second}
 use Rattle.scene.specs.Conditions.{object, check_scene}
 use Rattle.flags_masks.specs.declared.Wanted.{Wanted}
 use Rattle.flags_vectors.specs.declared.Vectors.{Vectors}
@@ -44,6 +43,9 @@ abbrev pub matrix_from : Explored → List (List Dimension)
 matrix_from e = matrix_given e.f e.g e.v e.w e.f_empty e.g_empty
 
 -- ---- the answer
+
+abbrev pub CellsAnswer : Type 0
+CellsAnswer = Result Explored Refusal
 
 abbrev pub answered : List ℕ → CheckedScene → CellsAnswer
 answered s (Ok sc) = Ok (explored_in s sc)

@@ -1,7 +1,7 @@
 // The cells question: the nine-intersection matrix of the two objects of a scene.
 #![tactic(auto)]
 
-use scene::{Refusal, Shape};
+use scene::Shape;
 
 // What a taken scene's cells follow from, in the caller's order: the two types, the two vectors with every flag wanted, and which objects are empty.
 #[derive(Clone, Copy)]
@@ -12,12 +12,6 @@ pub struct Explored {
     pub w: u16,
     pub f_empty: bool,
     pub g_empty: bool,
-}
-
-#[derive(Clone, Copy)]
-pub enum CellsAnswer {
-    Taken(Explored),
-    Refused(Refusal),
 }
 
 pub mod question;

@@ -4,11 +4,11 @@ ghost use Rattle.scene.specs.Conditions.{check_scene};
 ghost use Rattle.check_verdict.specs.SharedPoints.{CheckedMeans};
 ghost use Rattle.cells.specs.Explored.{explored_by, cells_answer_of, cells_values, NoDimensionWrong};
 
-use crate::{CellsAnswer, Explored, table};
+use crate::{Explored, table};
 use flags_masks::Wanted;
-use flags_vectors::{SceneAnswer, Vectors, question};
+use flags_vectors::{Vectors, question};
 use plane_dimensions::Dimension;
-use scene::{Scene, order};
+use scene::{Refusal, Scene, order};
 
 // A scene that is taken, with two vectors of it.
 pub fn explored(scene: Scene, both: Vectors) -> Explored
@@ -29,23 +29,21 @@ pub fn explored(scene: Scene, both: Vectors) -> Explored
 }
 
 // What a scene's bytes are answered: for a scene that is taken, no cell has a wrong value; and what the verdict says in points.
-pub fn explore(s: &[u8]) -> CellsAnswer
+pub fn explore(s: &[u8]) -> Result<Explored, Refusal>
     ensures { (result ≡ cells_answer_of s.now)
         × NoDimensionWrong s.now (cells_values result).cells
         × CheckedMeans s.now (check_scene s.now) }
 {
-    match question::answer(s, Wanted::All) {
-        SceneAnswer::Refused(r) => CellsAnswer::Refused(r),
-        SceneAnswer::Taken { scene, vectors } => CellsAnswer::Taken(explored(scene, vectors)),
-    }
+    let answer = question::answer(s, Wanted::All)?;
+    Ok(explored(answer.scene, answer.vectors))
 }
 
 // The nine cells of an answer: those of a refusal are empty.
-pub fn cells(answer: CellsAnswer) -> [[Dimension; 3]; 3]
+pub fn cells(answer: Result<Explored, Refusal>) -> [[Dimension; 3]; 3]
     ensures { result ≡ (cells_values answer).cells }
 {
     match answer {
-        CellsAnswer::Taken(e) => table::matrix(e),
-        CellsAnswer::Refused(_) => table::none(),
+        Ok(e) => table::matrix(e),
+        Err(_) => table::none(),
     }
 }

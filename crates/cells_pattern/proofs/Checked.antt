@@ -25,16 +25,13 @@ use Rattle.cells_pattern.specs.Related.{pattern_rules, check_relate}
 
 -- ---- a pattern alone
 
-refused_not_sound : {r : Refusal} → Err r ≡ (Ok tt) → ⊥
-refused_not_sound e = let z : ◌≡◌ {A = ℕ} 0 1 = cc in omega arith
-
 pub sound_nine : (p : List ℕ) → pattern_verdict p ≡ (Ok tt) → length p ≡ 9
 unfolding pattern_verdict
 sound_nine p e = eqb-true (length p) 9 (go (eqb (length p) 9) e)
   where
-    go : (b : Bool) → decide Err 22 (unless b 0) (decide Err 23 (first_other p 0) (Ok tt)) ≡ (Ok tt) → b ≡ true
+    go : (b : Bool) → decide {A = Verdict} Err 22 (unless b 0) (decide Err 23 (first_other p 0) (Ok tt)) ≡ Ok tt → b ≡ true
     go true e = refl
-    go false e = absurd (refused_not_sound e)
+    go false e = absurd (never_taken e)
 
 pub not_nine_lem : (p : List ℕ) → eqb (length p) 9 ≡ false → Err (record { number = 22; place = 0 }) ≡ pattern_verdict p
 unfolding pattern_verdict

@@ -1,7 +1,7 @@
 -- The answer: of the flags that a pattern wants it is that of all flags; and it is not wrong in points.
 use Rattle.std.specs.Prelude.{Err, Ok}
 use Rattle.scene.specs.Read.{CheckedScene}
-use Rattle.flags_vectors.specs.Vectors.{SceneAnswer}
+use Rattle.flags_vectors.specs.Vectors.{SceneAnswer, with_vectors}
 use Rattle.cells_pattern.specs.Related.{RelateAnswer}
 use Prim.Native.Nat.{ℕ}
 use mathlib.Core.Path.{◌≡◌, refl, sym, ap, subst, ◌∙◌, fun_ext}
@@ -178,17 +178,17 @@ module _ (s p : List ℕ) where
       (is, subst (λ (x : RelateAnswer). NoPatternWrong s p (relate_values x).holds) (sym is) no_pattern_wrong, relate_means s p)
 
   module _ (cells : ℕ) {a : SceneAnswer} (is : a ≡ answer_of s (Wanted.Cells cells)) where
-    pub scene_refused : (r : Refusal) → a ≡ Err r → Whole (Err r)
-    scene_refused r e =
+    pub scene_refused : (r : Refusal) → a ≡ Err r → {o : RelateAnswer} → o ≡ Err r → Whole o
+    scene_refused r e x =
         let c = was_refused (Wanted.Cells cells) (cells_tidy cells) s is r e in
-        as_related (Err r) (after_scene_lem s p ∙ rw c) refl
+        as_related (Err r) (after_scene_lem s p ∙ rw c) x
 
-    module _ (sc : Scene) (v : Vectors) (e : a ≡ Ok sc v) where
+    module _ (sc : Scene) (v : Vectors) (e : a ≡ Ok (with_vectors sc v)) where
       its : (check_scene s ≡ Ok sc) × (v ≡ vectors_in s sc (Wanted.Cells cells))
       its = was_taken (Wanted.Cells cells) (cells_tidy cells) s is sc v e
 
-      pub pattern_refused : (r : Refusal) → pattern_verdict p ≡ Err r → Whole (Err r)
-      pattern_refused r q = as_related (Err r) (after_scene_lem s p ∙ rw (its.0, q)) refl
+      pub pattern_refused : (r : Refusal) → pattern_verdict p ≡ Err r → {o : RelateAnswer} → o ≡ Err r → Whole o
+      pattern_refused r q x = as_related (Err r) (after_scene_lem s p ∙ rw (its.0, q)) x
 
       pub both_taken : pattern_verdict p ≡ (Ok tt) → cells ≡ asked_cells p → {holds : Bool} → holds ≡ fits_all p (matrix_from (explored_by sc v)) → Whole (Ok holds)
       both_taken q asked h =

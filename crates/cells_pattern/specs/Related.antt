@@ -1,8 +1,8 @@
 -- The pattern question over a scene's bytes and a pattern's bytes: what is answered, for every two byte strings, and what the answer means in points.
-use Rattle.std.specs.Prelude.{Err, Ok}
-use Rattle.scene.specs.Read.{CheckedScene}
-use Rattle.std.specs.Prelude.{ℕ, ◌≡◌, ◌↔◌, Bool, false, List, [], ◌∷◌, T}
+use Rattle.std.specs.Prelude.{Result, Ok, Err, ℕ, ◌≡◌, ◌↔◌, Bool, false, List, [], ◌∷◌, T}
 use Rattle.scene.specs.declared.Scene.{Scene}
+use Rattle.scene.specs.declared.Refusal.{Refusal}
+use Rattle.scene.specs.Read.{CheckedScene}
 use Rattle.scene.specs.Conditions.{Rule, rule, scene_rules, check_scene_by}
 use Rattle.cells_matrix.specs.Matrix.{Part}
 use Rattle.cells.specs.Explored.{explored_in, matrix_from, InCell}
@@ -16,6 +16,9 @@ unfoldable pub check_relate : List ℕ → List ℕ → CheckedScene
 check_relate s p = check_scene_by (scene_rules [] (pattern_rules p)) s
 
 -- ---- the answer
+
+abbrev pub RelateAnswer : Type 0
+RelateAnswer = Result Bool Refusal
 
 abbrev pub answered : List ℕ → List ℕ → CheckedScene → RelateAnswer
 answered s p (Ok sc) = Ok (fits_all p (matrix_from (explored_in s sc)))

@@ -4,9 +4,8 @@ ghost use Rattle.whole.specs.Count.{bit};
 ghost use Rattle.cells_pattern.specs.Pattern.{is_sign, fits, is_character, fits_row, fits_all, first_other};
 ghost use Rattle.cells_pattern.specs.Asked.{pattern_verdict, asks, named_row, asked_cells, wanted_cells};
 
-use check_verdict::Verdict;
 use plane_dimensions::{Dimension, sign};
-use scene::{Fault, Refusal};
+use scene::Refusal;
 
 fn is_sign(c: u8) -> bool
     ensures { result ≡ is_sign c }
@@ -21,32 +20,30 @@ fn is_character(c: u8) -> bool
 }
 
 // 23: the first character outside the six.
-fn first_other(p: &[u8]) -> Fault
+fn first_other(p: &[u8]) -> Option<usize>
     ensures { result ≡ first_other p.now 0 }
 {
-    let mut at: usize = 0;
-    while at < p.len() {
+    for at in 0..p.len() {
         if !is_character(p[at]) {
-            return Fault::At(at);
+            return Some(at);
         }
-        at += 1;
     }
-    Fault::Nothing
+    None
 }
 
 // 22, then 23.
-pub fn verdict(p: &[u8]) -> Verdict
+pub fn verdict(p: &[u8]) -> Result<(), Refusal>
     ensures { result ≡ pattern_verdict p.now }
 {
     if p.len() != 9 {
-        return Verdict::Refused(Refusal {
+        return Err(Refusal {
             number: 22,
             place: 0,
         });
     }
     match first_other(p) {
-        Fault::At(place) => Verdict::Refused(Refusal { number: 23, place }),
-        Fault::Nothing => Verdict::Sound,
+        Some(place) => Err(Refusal { number: 23, place }),
+        None => Ok(()),
     }
 }
 
@@ -77,13 +74,13 @@ fn asked_cells(p: &[u8]) -> u16
 }
 
 // The cells that a pattern asks: none where it is turned away.
-pub fn wanted_cells(p: &[u8], verdict: Verdict) -> u16
+pub fn wanted_cells(p: &[u8], verdict: Result<(), Refusal>) -> u16
     requires { verdict ≡ pattern_verdict p.now }
     ensures { result ≡ wanted_cells p.now verdict }
 {
     match verdict {
-        Verdict::Sound => asked_cells(p),
-        Verdict::Refused(_) => 0,
+        Ok(()) => asked_cells(p),
+        Err(_) => 0,
     }
 }
 

@@ -3,29 +3,23 @@ ghost use Rattle.std.specs.Prelude.{◌≡◌};
 ghost use Rattle.check_verdict.specs.SharedPoints.{CheckedMeans};
 ghost use Rattle.cells_pattern.specs.Related.{check_relate, relate_of, relate_values, NoPatternWrong};
 
-use crate::{RelateAnswer, pattern};
+use crate::pattern;
 use cells::table;
-use check_verdict::Verdict;
 use flags_masks::Wanted;
-use flags_vectors::{SceneAnswer, question};
+use flags_vectors::question;
+use scene::Refusal;
 
 // What a scene and a pattern are answered: the scene is checked whole, and of its flags those are wanted that the pattern's cells are read off. The answer is
 // not wrong in points; and what the verdict says in points.
-pub fn relate(s: &[u8], p: &[u8]) -> RelateAnswer
+pub fn relate(s: &[u8], p: &[u8]) -> Result<bool, Refusal>
     ensures { (result ≡ relate_of s.now p.now)
         × NoPatternWrong s.now p.now (relate_values result).holds
         × CheckedMeans s.now (check_relate s.now p.now) }
 {
     let verdict = pattern::verdict(p);
     let cells = pattern::wanted_cells(p, verdict);
-    match question::answer(s, Wanted::Cells(cells)) {
-        SceneAnswer::Refused(r) => RelateAnswer::Refused(r),
-        SceneAnswer::Taken { scene, vectors } => match verdict {
-            Verdict::Refused(r) => RelateAnswer::Refused(r),
-            Verdict::Sound => {
-                let explored = cells::question::explored(scene, vectors);
-                RelateAnswer::Taken(pattern::fits_all(p, table::matrix(explored)))
-            }
-        },
-    }
+    let answer = question::answer(s, Wanted::Cells(cells))?;
+    verdict?;
+    let explored = cells::question::explored(answer.scene, answer.vectors);
+    Ok(pattern::fits_all(p, table::matrix(explored)))
 }

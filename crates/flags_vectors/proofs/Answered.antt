@@ -1,7 +1,5 @@
 -- The answer of the vectors question by the verdicts that lead to it; and what a scene that is taken gives the walks.
 use Rattle.std.specs.Prelude.{Err, Ok}
-use Rattle.scene.specs.Read.{CheckedScene}
-use Rattle.flags_vectors.specs.Vectors.{SceneAnswer}
 use Prim.Native.Nat.{ℕ}
 use native.Mathlib.Omega.{arith}
 use mathlib.Core.Path.{◌≡◌, refl, sym, ap, ◌∙◌}
@@ -12,12 +10,14 @@ use Rattle.whole.proofs.Logic.{is_true, or_left, or_right}
 use Rattle.scene.specs.declared.Shape.{Shape}
 use Rattle.scene.specs.declared.Scene.{Scene}
 use Rattle.scene.specs.declared.Refusal.{Refusal}
-use Rattle.scene.specs.Read.{read_scene, IsScene}
+use Rattle.scene.specs.Read.{CheckedScene, read_scene, IsScene}
 use Rattle.scene.specs.Conditions.{rule, scene_rules, check_scene_by, check_scene}
 use Rattle.check_verdict.specs.Refusals.{geometry_verdict}
 use Rattle.check_verdict.proofs.Laws.{SoundScene, sound_scene}
 use Rattle.check_verdict.proofs.Verdicts.{check_refused, check_read}
 use Rattle.flags_vectors.specs.declared.Vectors.{Vectors}
+use Rattle.flags_vectors.specs.declared.SceneVectors.{SceneVectors}
+use Rattle.scene.proofs.Outcomes.{never_taken, same_taken, same_refusal}
 use Rattle.sweep_laws.specs.Noted.{Noted}
 use Rattle.flags.specs.Flags.{pack}
 use Rattle.flags_meetings.specs.declared.Meetings.{Meetings}
@@ -32,7 +32,7 @@ use Rattle.flags_masks.specs.declared.FlagMasks.{FlagMasks}
 use Rattle.flags_masks.specs.declared.Wanted.{Wanted}
 use Rattle.flags_masks.specs.Wanted.{masks_for, only, vector_of_f, vector_of_g}
 use Rattle.flags_masks.proofs.Masks.{none_stray}
-use Rattle.flags_vectors.specs.Vectors.{scene_vectors, vectors_in, stray_in, stray_wanted, vectors_rules, check_vectors, answered, answer_of}
+use Rattle.flags_vectors.specs.Vectors.{SceneAnswer, with_vectors, scene_vectors, vectors_in, stray_in, stray_wanted, vectors_rules, check_vectors, answered, answer_of}
 
 -- ---- a scene that is taken
 
@@ -67,28 +67,28 @@ module _ {s : List ℕ} {sc : Scene} {notes : List ℕ} (o : SoundScene s sc) (n
 
 -- ---- the answer
 
-pub unread : (s : List ℕ) (wanted : Wanted) (r : Refusal) → read_scene s ≡ Err r → Err r ≡ answer_of s wanted
+pub unread : (s : List ℕ) (wanted : Wanted) (r : Refusal) → read_scene s ≡ Err r → answer_of s wanted ≡ Err r
 unfolding answer_of
 unread s wanted r e = rw (check_refused (vectors_rules wanted) s r e)
 
 module _ (s : List ℕ) (sc : Scene) (is : IsScene s sc) where
-  pub sound : geometry_verdict s sc ≡ (Ok tt) → check_scene s ≡ Ok sc
+  pub sound : geometry_verdict s sc ≡ Ok tt → check_scene s ≡ Ok sc
   unfolding check_scene
   sound g = rw (check_read [] [] s sc is, g)
 
   module _ (wanted : Wanted) where
-    pub stray : stray_in sc (masks_for wanted sc) ≡ true → Err (record { number = 9; place = 0 }) ≡ answer_of s wanted
+    pub stray : stray_in sc (masks_for wanted sc) ≡ true → answer_of s wanted ≡ Err (record { number = 9; place = 0 })
     unfolding answer_of
     stray e = rw (check_read (rule 9 (stray_wanted wanted) ∷ []) [] s sc is, e)
 
     module _ (tidy : stray_in sc (masks_for wanted sc) ≡ false) where
-      pub at_fault : (r : Refusal) → geometry_verdict s sc ≡ Err r → Err r ≡ answer_of s wanted
+      pub at_fault : (r : Refusal) → geometry_verdict s sc ≡ Err r → answer_of s wanted ≡ Err r
       unfolding answer_of
       at_fault r g = rw (check_read (rule 9 (stray_wanted wanted) ∷ []) [] s sc is, tidy, g)
 
-      pub taken : geometry_verdict s sc ≡ (Ok tt) → {v : Vectors} → v ≡ vectors_in s sc wanted → Ok sc v ≡ answer_of s wanted
+      pub taken : geometry_verdict s sc ≡ Ok tt → {v : Vectors} → v ≡ vectors_in s sc wanted → answer_of s wanted ≡ Ok (with_vectors sc v)
       unfolding answer_of
-      taken g e = ap (Ok sc) e ∙ rw (check_read (rule 9 (stray_wanted wanted) ∷ []) [] s sc is, tidy, g)
+      taken g e = rw (check_read (rule 9 (stray_wanted wanted) ∷ []) [] s sc is, tidy, g, e)
 
 -- ---- where 9 finds nothing, whatever the scene
 
@@ -115,15 +115,16 @@ module _ (wanted : Wanted) (tidy : (sc : Scene) → stray_in sc (masks_for wante
     was_refused r e = go (check_scene s) (sym by_check ∙ e)
       where
         go : (k : CheckedScene) → answered s wanted k ≡ Err r → k ≡ Err r
-        go (Err q) h = let x : q ≡ r = cc in ap Err x
-        go (Ok sc) h = absurd (let x : ◌≡◌ {A = ℕ} 0 1 = cc in omega arith)
+        go (Err q) h = ap Err (same_refusal h)
+        go (Ok sc) h = absurd (never_taken (sym h))
 
-    pub was_taken : (sc : Scene) (v : Vectors) → a ≡ Ok sc v → (check_scene s ≡ Ok sc) × (v ≡ vectors_in s sc wanted)
+    pub was_taken : (sc : Scene) (v : Vectors) → a ≡ Ok (with_vectors sc v) → (check_scene s ≡ Ok sc) × (v ≡ vectors_in s sc wanted)
     was_taken sc v e = go (check_scene s) (sym by_check ∙ e)
       where
-        go : (k : CheckedScene) → answered s wanted k ≡ Ok sc v → (k ≡ Ok sc) × (v ≡ vectors_in s sc wanted)
-        go (Err q) h = absurd (let x : ◌≡◌ {A = ℕ} 0 1 = cc in omega arith)
+        go : (k : CheckedScene) → answered s wanted k ≡ Ok (with_vectors sc v) → (k ≡ Ok sc) × (v ≡ vectors_in s sc wanted)
+        go (Err q) h = absurd (never_taken h)
         go (Ok k) h =
-            let x : k ≡ sc = cc in
-            let y : vectors_in s k wanted ≡ v = cc in
+            let q : with_vectors k (vectors_in s k wanted) ≡ with_vectors sc v = same_taken h in
+            let x : k ≡ sc = ap (λ (a : SceneVectors). a.scene) q in
+            let y : vectors_in s k wanted ≡ v = ap (λ (a : SceneVectors). a.vectors) q in
             (ap Ok x, sym y ∙ ap (λ (k : Scene). vectors_in s k wanted) x)

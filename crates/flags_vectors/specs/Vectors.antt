@@ -1,11 +1,11 @@
 -- The vectors question: "scene and two 16-bit wanted masks; two 16-bit vectors"; and what a flag of the answer means for a scene that is taken.
-use Rattle.std.specs.Prelude.{Err, Ok}
-use Rattle.scene.specs.Read.{CheckedScene, Fault}
-use Rattle.std.specs.Prelude.{ℕ, ◌≡◌, ◌↔◌, Bool, not, cond, List, [], ◌∷◌, T}
+use Rattle.std.specs.Prelude.{Result, Ok, Err, ℕ, ◌≡◌, ◌↔◌, Bool, not, cond, List, [], ◌∷◌, T}
 use Rattle.scene.specs.declared.Scene.{Scene}
-use Rattle.scene.specs.Read.{shape_number, unless, turned, as_given}
+use Rattle.scene.specs.declared.Refusal.{Refusal}
+use Rattle.scene.specs.Read.{CheckedScene, Fault, shape_number, unless, turned, as_given}
 use Rattle.scene.specs.Conditions.{Rule, rule, scene_rules, check_scene_by}
 use Rattle.flags_vectors.specs.declared.Vectors.{Vectors}
+use Rattle.flags_vectors.specs.declared.SceneVectors.{SceneVectors}
 use Rattle.flags.specs.Flags.{has_bit}
 use Rattle.flags.specs.Elements.{elements_of}
 use Rattle.flags.specs.Sentences.{sentences_of_f, sentences_of_g, sentence}
@@ -43,16 +43,25 @@ abbrev pub check_vectors : List ℕ → Wanted → CheckedScene
 check_vectors s wanted = check_scene_by (vectors_rules wanted) s
 
 -- the answer with the scene that was read, and the vectors alone
+abbrev pub SceneAnswer : Type 0
+SceneAnswer = Result SceneVectors Refusal
+
+abbrev pub VectorsAnswer : Type 0
+VectorsAnswer = Result Vectors Refusal
+
+abbrev pub with_vectors : Scene → Vectors → SceneVectors
+with_vectors sc v = record { scene = sc; vectors = v }
+
 abbrev pub answered : List ℕ → Wanted → CheckedScene → SceneAnswer
 answered s wanted (Err r) = Err r
-answered s wanted (Ok sc) = Ok sc (vectors_in s sc wanted)
+answered s wanted (Ok sc) = Ok (with_vectors sc (vectors_in s sc wanted))
 
 unfoldable pub answer_of : List ℕ → Wanted → SceneAnswer
 answer_of s wanted = answered s wanted (check_vectors s wanted)
 
 abbrev pub vectors_alone : SceneAnswer → VectorsAnswer
 vectors_alone (Err r) = Err r
-vectors_alone (Ok sc v) = Ok v
+vectors_alone (Ok a) = Ok a.vectors
 
 -- "two 16-bit wanted masks"
 abbrev pub these : ℕ → ℕ → Wanted

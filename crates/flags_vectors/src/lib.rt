@@ -1,7 +1,7 @@
 // The topological feature vectors of two objects.
 #![tactic(auto)]
 
-use scene::{Refusal, Scene};
+use scene::Scene;
 
 // A 16-bit vector for each object: of F and G, or of the two objects in the caller's order.
 #[derive(Clone, Copy)]
@@ -10,17 +10,11 @@ pub struct Vectors {
     pub g: u16,
 }
 
+// With the scene that was read.
 #[derive(Clone, Copy)]
-pub enum VectorsAnswer {
-    Taken(Vectors),
-    Refused(Refusal),
-}
-
-// The same with the scene that was read.
-#[derive(Clone, Copy)]
-pub enum SceneAnswer {
-    Taken { scene: Scene, vectors: Vectors },
-    Refused(Refusal),
+pub struct SceneVectors {
+    pub scene: Scene,
+    pub vectors: Vectors,
 }
 
 pub mod question;

@@ -1,5 +1,5 @@
 // The vectors question.
-ghost use Rattle.std.specs.Prelude.{◌≡◌, ◌≤◌, T, length};
+ghost use Rattle.std.specs.Prelude.{◌≡◌, ◌≤◌, T, length, Ok};
 ghost use Rattle.scene.specs.Conditions.{check_scene};
 ghost use Rattle.sweep_laws.specs.Noted.{Noted};
 ghost use Rattle.check_verdict.specs.SharedPoints.{CheckedMeans};
@@ -11,13 +11,12 @@ ghost use Rattle.flags_table.specs.Table.{flags_of_f_by, flags_of_g_by};
 ghost use Rattle.flags_table.specs.Walks.{reads_meetings, reads_classes};
 ghost use Rattle.flags_vectors.specs.Vectors.{scene_vectors, given_vectors, these, check_vectors, answer_of, vectors_of, vectors_values, NoFlagWrong};
 
-use crate::{SceneAnswer, Vectors, VectorsAnswer};
-use check_verdict::Verdict;
+use crate::{SceneVectors, Vectors};
 use flags_classes::{Classes, ClassesOfBoth};
 use flags_masks::{FlagMasks, Wanted};
 use flags_meetings::Meetings;
 use flags_table::walks;
-use scene::{CheckedScene, Refusal, Scene, Shape, order};
+use scene::{Refusal, Scene, Shape, order};
 
 // How the elements of a scene meet at points, where a wanted flag is read off that.
 fn wanted_meetings(s: &[u8], scene: Scene, masks: FlagMasks, notes: &[u8]) -> Meetings
@@ -103,45 +102,32 @@ fn as_given(scene: Scene, v: Vectors) -> Vectors
 }
 
 // A scene and what is wanted: taken, with the scene and a vector for each object, or refused with one number and one place.
-pub fn answer(s: &[u8], wanted: Wanted) -> SceneAnswer
+pub fn answer(s: &[u8], wanted: Wanted) -> Result<SceneVectors, Refusal>
     ensures { result ≡ answer_of s.now wanted }
 {
-    match scene_reading::read_scene(s) {
-        CheckedScene::Refused(r) => SceneAnswer::Refused(r),
-        CheckedScene::Taken(scene) => {
-            let masks = flags_masks::masks_for(wanted, scene);
-            if flags_masks::any_stray(scene, masks.f, masks.g) {
-                return SceneAnswer::Refused(Refusal {
-                    number: 9,
-                    place: 0,
-                });
-            }
-            let mut notes = [0u8; 2048];
-            match check_verdict::noted_verdict(s, scene, &mut notes) {
-                Verdict::Sound => SceneAnswer::Taken {
-                    scene,
-                    vectors: as_given(scene, swept_vectors(s, scene, masks, &notes)),
-                },
-                Verdict::Refused(r) => SceneAnswer::Refused(r),
-            }
-        }
+    let scene = scene_reading::read_scene(s)?;
+    let masks = flags_masks::masks_for(wanted, scene);
+    if flags_masks::any_stray(scene, masks.f, masks.g) {
+        return Err(Refusal {
+            number: 9,
+            place: 0,
+        });
     }
+    let mut notes = [0u8; 2048];
+    check_verdict::noted_verdict(s, scene, &mut notes)?;
+    let vectors = as_given(scene, swept_vectors(s, scene, masks, &notes));
+    Ok(SceneVectors { scene, vectors })
 }
 
 // The vectors question: no flag is wrong, and what the verdict says in points.
-pub fn vectors(s: &[u8], want_f: u16, want_g: u16) -> VectorsAnswer
+pub fn vectors(s: &[u8], want_f: u16, want_g: u16) -> Result<Vectors, Refusal>
     ensures { (result ≡ vectors_of s.now want_f want_g)
         × NoFlagWrong s.now want_f want_g (vectors_values result).f (vectors_values result).g
         × CheckedMeans s.now (check_vectors s.now (these want_f want_g)) }
 {
-    match answer(
-        s,
-        Wanted::These(FlagMasks {
-            f: want_f,
-            g: want_g,
-        }),
-    ) {
-        SceneAnswer::Refused(r) => VectorsAnswer::Refused(r),
-        SceneAnswer::Taken { scene: _, vectors } => VectorsAnswer::Taken(vectors),
-    }
+    let wanted = Wanted::These(FlagMasks {
+        f: want_f,
+        g: want_g,
+    });
+    Ok(answer(s, wanted)?.vectors)
 }

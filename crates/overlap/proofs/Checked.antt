@@ -16,6 +16,7 @@ use Rattle.scene.specs.declared.Refusal.{Refusal}
 use Rattle.scene.specs.Read.{unless, decide, judge, given_first, given_second, read_scene, IsScene}
 use Rattle.scene.specs.Conditions.{is_region, or_else, conditions, scene_rules, check_scene_by}
 use Rattle.scene.proofs.Taken.{both_of_given}
+use Rattle.scene.proofs.Indices.{not_nothing}
 use Rattle.scene.proofs.Outcomes.{never_taken, same_taken}
 use Rattle.scene.proofs.Given.{NoFault, checked_scene_lem}
 use Rattle.check_verdict.specs.Refusals.{settle, geometry_verdict}
@@ -30,10 +31,10 @@ use Rattle.overlap.specs.Rules.{list_of, not_regions, shorter, region_rules, jud
 -- ---- 16 comes last
 
 module _ (s : List ℕ) (sc : Scene) where
-  pub sixteen : (p : ℕ) → not_regions s sc ≡ Some p → Err (record { number = 16; place = p }) ≡ judged s sc
+  pub sixteen : (p : ℕ) → not_regions s sc ≡ Some p → judged s sc ≡ Err (record { number = 16; place = p })
   sixteen p q = rw q
 
-  pub passed : not_regions s sc ≡ None → Ok sc ≡ judged s sc
+  pub passed : not_regions s sc ≡ None → judged s sc ≡ Ok sc
   passed q = rw q
 
   -- it takes the scene itself
@@ -49,18 +50,18 @@ module _ (s : List ℕ) (sc : Scene) where
   noted_judged {checked} {notes} e n o q = subst (λ (sc : Scene). Noted s sc notes) (judged_same o (sym e ∙ q)) n
 
 -- a refusal leaves no notes to speak of
-pub not_noted : {s : List ℕ} {r : Refusal} {notes : List ℕ} → NotedWhere s (Err r) notes
-not_noted sc q = absurd (never_taken q)
+pub not_noted : {s : List ℕ} {r : Refusal} {notes : List ℕ} {checked : CheckedScene} → checked ≡ Err r → NotedWhere s checked notes
+not_noted e sc q = absurd (never_taken (sym e ∙ q))
 
 -- ---- the check of two regions, by the verdicts that led to it
 
 module _ (s : List ℕ) where
-  pub unread : (r : Refusal) → read_scene s ≡ Err r → Err r ≡ check_regions s
+  pub unread : (r : Refusal) → read_scene s ≡ Err r → check_regions s ≡ Err r
   unfolding check_regions
-  unread r e = sym (check_refused (scene_rules [] region_rules) s r e)
+  unread r e = check_refused (scene_rules [] region_rules) s r e
 
   module _ (sc : Scene) (is : IsScene s sc) where
-    pub at_fault : (r : Refusal) → geometry_verdict s sc ≡ Err r → Err r ≡ check_regions s
+    pub at_fault : (r : Refusal) → geometry_verdict s sc ≡ Err r → check_regions s ≡ Err r
     unfolding check_regions
     at_fault r g = rw (check_read [] region_rules s sc is, g)
 
@@ -93,20 +94,17 @@ module _ (s : List ℕ) (room : ℕ) where
       go (Err r) e = rw (check_refused (scene_rules [] (list_rules room)) s r e, check_refused (scene_rules [] region_rules) s r e)
       go (Ok sc) e = rw (check_read [] (list_rules room) s sc e, check_read [] region_rules s sc e) (by_verdict sc (geometry_verdict s sc))
 
-  pub no_regions : (r : Refusal) → check_regions s ≡ Err r → Err r ≡ check_list s room
-  no_regions r e = sym (list_after ∙ ap with_room e)
+  pub no_regions : (r : Refusal) → check_regions s ≡ Err r → check_list s room ≡ Err r
+  no_regions r e = list_after ∙ ap with_room e
 
   module _ (sc : Scene) (regions : check_regions s ≡ Ok sc) where
-    pub seventeen : room < length (list_of s sc) → Err (record { number = 17; place = 0 }) ≡ check_list s room
-    seventeen h = sym (list_after ∙ ap with_room regions ∙ rw (lt-leb (length (list_of s sc)) room h))
+    pub seventeen : room < length (list_of s sc) → check_list s room ≡ Err (record { number = 17; place = 0 })
+    seventeen h = list_after ∙ ap with_room regions ∙ rw (lt-leb (length (list_of s sc)) room h)
 
-    pub roomy : length (list_of s sc) ≤ room → Ok sc ≡ check_list s room
-    roomy h = sym (list_after ∙ ap with_room regions ∙ rw (le-leb (length (list_of s sc)) room h))
+    pub roomy : length (list_of s sc) ≤ room → check_list s room ≡ Ok sc
+    roomy h = list_after ∙ ap with_room regions ∙ rw (le-leb (length (list_of s sc)) room h)
 
 -- ---- what 16 and 17 say where they have no fault
-
-not_nothing : {p : ℕ} → Some p ≡ None → ⊥
-not_nothing e = let z : ◌≡◌ {A = ℕ} 0 1 = cc in omega arith
 
 pub both_regions : (s : List ℕ) (sc : Scene) → not_regions s sc ≡ None → T (is_region sc.f.shape) × T (is_region sc.g.shape)
 both_regions s sc e =

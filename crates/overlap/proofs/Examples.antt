@@ -7,7 +7,7 @@ use Rattle.scene.specs.Conditions.{segments, is_in_order, out_of_order, partner,
 use Rattle.flags.specs.Elements.{edges}
 use Rattle.overlap.specs.Bytes.{adjoins, overlap_bytes}
 use Rattle.overlap.specs.Rules.{check_list}
-use Rattle.overlap.specs.Overlap.{overlap_of, buffer_after}
+use Rattle.overlap.specs.Overlap.{overlap_of, overlap_values, buffer_after}
 
 word : ℕ → List ℕ
 word n = n % 256 ∷ n / 256 % 256 ∷ n / 65536 % 256 ∷ n / 16777216 ∷ []
@@ -36,7 +36,7 @@ infix 30 ◌lent◌gives◌and◌
 s lent b gives v and a = record { scene = s; buffer = b; values = v; after = a }
 
 pub answered : Example → List ℕ
-answered e = let r = overlap_of e.scene e.buffer in r.number ∷ r.place ∷ r.count ∷ buffer_after e.scene e.buffer
+answered e = let r = overlap_values (overlap_of e.scene e.buffer) in r.number ∷ r.place ∷ r.count ∷ buffer_after e.scene e.buffer
 
 pub expected : Example → List ℕ
 expected e = e.values ++ e.after

@@ -1,10 +1,8 @@
 -- What a question about two regions turns away after all others, 16, and the overlap list question after that, 17; and what the check of a scene promises
 -- of the sweep's notes.
-use Rattle.std.specs.Prelude.{Err, Ok}
-use Rattle.scene.specs.Read.{CheckedScene, Fault}
-use Rattle.std.specs.Prelude.{ℕ, ◌≡◌, List, [], ◌∷◌, length, leb}
+use Rattle.std.specs.Prelude.{Ok, Err, ℕ, ◌≡◌, List, [], ◌∷◌, length, leb}
 use Rattle.scene.specs.declared.Scene.{Scene}
-use Rattle.scene.specs.Read.{unless, judge, given_first, given_second}
+use Rattle.scene.specs.Read.{CheckedScene, Fault, unless, judge, given_first, given_second}
 use Rattle.scene.specs.Conditions.{is_region, Rule, rule, or_else, conditions, scene_rules, check_scene_by}
 use Rattle.flags.specs.Elements.{edges}
 use Rattle.overlap.specs.Bytes.{overlap_bytes}

@@ -1,5 +1,7 @@
 -- The one object, and the other.
-use Rattle.std.proofs.Common.{true, false}
+use Rattle.std.proofs.Common.{true, false, sym, subst, T}
+use Rattle.whole.specs.Decides.{Decides}
+use Rattle.sweep_laws.specs.Swept.{InOrder}
 use Rattle.whole.proofs.Logic.{is_true}
 use Rattle.whole.proofs.Deciding.{no, same_as}
 use Rattle.sweep_laws.proofs.Objects.{read}
@@ -17,4 +19,4 @@ returns-then-is_ordered c =
     same_as (λ of_g. elim [ true ↦ of_f | false ↦ of_g ]) (λ order. order false) c.is_ordered-then-is_ordered.ensures
 
 pub returns-else-is_ordered : goal.returns-else-is_ordered
-returns-else-is_ordered c = rw c.if-is_ordered.false (no (λ order. ?))
+returns-else-is_ordered c = subst (Decides (InOrder c.args.s.now c.args.scene)) (sym c.if-is_ordered.false) (no (λ order. subst T c.if-is_ordered.false (c.is_ordered.ensures.complete (order true))))
