@@ -1,5 +1,6 @@
 -- The parts of an accepted object's summary, and the answer by the scene that the object and an empty one form.
 use Prim.Native.Nat.{ℕ, ◌≤◌}
+use Rattle.std.specs.Prelude.{Result, Ok, Err}
 use native.Mathlib.Omega.{arith}
 use mathlib.Core.Path.{◌≡◌, refl, sym, ap, ◌∙◌}
 use mathlib.Core.Bool.{Bool, true, false, not, ◌||◌, cond, true≢false}
@@ -40,7 +41,6 @@ use Rattle.summary.specs.Summary.{corners, grow, box_of, shape_of, is_empty, bes
 use Rattle.summary_objects.specs.Objects.{summary_in}
 use Rattle.summary_objects.proofs.Accepted.{sound_object, elements_in_range}
 use Rattle.summary_objects.proofs.Told.{far_told}
-use Rattle.summary_making.specs.declared.SummaryAnswer.{SummaryAnswer}
 use Rattle.summary_making.specs.Making.{corners_from, widest, empty_of, beside_empty, summarized, summary_answer_of}
 use Rattle.summary_making.proofs.Corners.{corners_are, grow_widest}
 use Rattle.summary_making.proofs.EmptyBeside.{nothing, scene, empty_read, empty_faultless, checked_beside}
@@ -157,13 +157,13 @@ module _ (s : List ℕ) (l : Layout) (read : read_alone s ≡ CheckedObject.Take
 -- ---- the answer
 
 module _ (s : List ℕ) where
-  abbrev Answered : SummaryAnswer → Type 0
+  abbrev Answered : Result Summary Refusal → Type 0
   Answered a = (a ≡ summary_answer_of s) × CheckedObjectMeans s (check_object s)
 
-  pub refused_answer : (r : Refusal) → check_object s ≡ CheckedObject.Refused r → Answered (SummaryAnswer.Refused r)
+  pub refused_answer : (r : Refusal) → check_object s ≡ CheckedObject.Refused r → Answered (Err r)
   unfolding summary_answer_of
   refused_answer r e = (sym (ap (summarized s) e), checked_object_means s)
 
-  pub made_answer : (l : Layout) → check_object s ≡ CheckedObject.Taken l → {m : Summary} → m ≡ summary_in s l → Answered (SummaryAnswer.Made m)
+  pub made_answer : (l : Layout) → check_object s ≡ CheckedObject.Taken l → {m : Summary} → m ≡ summary_in s l → Answered (Ok m)
   unfolding summary_answer_of
-  made_answer l e q = (ap SummaryAnswer.Made q ∙ sym (ap (summarized s) e), checked_object_means s)
+  made_answer l e q = (ap Ok q ∙ sym (ap (summarized s) e), checked_object_means s)
