@@ -2,6 +2,7 @@
 -- tells what they tell.
 use Prim.Native.Nat.{ℕ, suc, ◌+◌, ◌*◌, ◌≤◌, ◌<◌}
 use native.Mathlib.Omega.{arith}
+use Rattle.std.specs.Prelude.{Ok}
 use native.Mathlib.Decide.{dec_lt}
 use mathlib.Core.Path.{◌≡◌, refl, sym, ap, ap₂, ◌∙◌}
 use mathlib.Core.Bool.{Bool, true, false, ◌&&◌}
@@ -170,6 +171,6 @@ module _ (r : List ℕ) (bytes : (i : ℕ) → byte r i < 256) where
 
 -- ---- the far question over the bytes of good summaries
 
-pub asked_good : (s t : Summary) → T (is_good s) → T (is_good t) → asked_of (bytes_of s) (bytes_of t) ≡ told_of s t
+pub asked_good : (s t : Summary) → T (is_good s) → T (is_good t) → asked_of (bytes_of s) (bytes_of t) ≡ Ok (told_of s t)
 unfolding asked_of
 asked_good s t g h = rw (good_bytes_lem s g, good_bytes_lem t h, read_back s (box_of s g), read_back t (box_of t h))

@@ -1,14 +1,14 @@
 -- Worked summaries and answers, by computation.
-use Rattle.std.specs.Prelude.{◌≡◌, refl, true, false, List, [], ◌∷◌, ℤ, pos, negsuc, ℕ}
+use Rattle.std.specs.Prelude.{◌≡◌, refl, true, false, Option, Some, None, Result, Ok, List, [], ◌∷◌, ℤ, pos, negsuc, ℕ}
 use Rattle.whole.specs.Count.{odd}
 use Rattle.plane.specs.declared.Point.{Point}
 use Rattle.plane.specs.declared.Segment.{Segment}
 use Rattle.plane.specs.Plane.{within, is_at, is_end, is_boundary, ends_at}
+use Rattle.scene.specs.declared.Refusal.{Refusal}
 use Rattle.scene.specs.Read as Read
 use Rattle.flags.specs.Flags.{Elements}
 use Rattle.scene_written.specs.Bytes.{digit}
-use Rattle.summary.specs.declared.Answer.{Answer}
-use Rattle.summary.specs.declared.Answer.TheVariants.{Told, Look}
+use Rattle.flags_vectors.specs.declared.Vectors.{Vectors}
 use Rattle.summary.specs.Summary.{lesser, greater, beside, good_box, good_at, good_bytes, summary_of, has_boundary, bytes_of, told_of, asked_of, bad}
 
 abbrev at : ℤ → ℤ → Point
@@ -17,7 +17,7 @@ at a b = record { x = a; y = b }
 abbrev from : Point → Point → Segment
 from p q = record { left = p; right = q }
 
-abbrev asked : Elements → Elements → Answer
+abbrev asked : Elements → Elements → Result (Option Vectors) Refusal
 asked F G = asked_of (bytes_of (summary_of F)) (bytes_of (summary_of G))
 
 -- ---- the line (-1,2)-(3,-4): 53 02 00 ffffffff fcffffff 03000000 02000000 01
@@ -67,7 +67,7 @@ round_origin =
     ∷ record { segment = from (at (pos 0) (pos 1)) (at (pos 1) (negsuc 0)); ia = false }
     ∷ [])
 
-empty_line : asked (Elements.line []) round_origin ≡ Told (record { f = 0; g = 1 })
+empty_line : asked (Elements.line []) round_origin ≡ Ok (Some (record { f = 0; g = 1 }))
 unfolding asked_of good_bytes good_at told_of good_box within digit lesser greater beside Read.signed Read.coordinate Read.shape_of
 empty_line = refl
 
@@ -76,11 +76,11 @@ empty_line = refl
 abbrev corners_4 : Elements
 corners_4 = Elements.points (at (pos 0) (pos 0) ∷ at (pos 4) (pos 4) ∷ [])
 
-touching : asked corners_4 (Elements.points (at (pos 4) (pos 4) ∷ [])) ≡ Look
+touching : asked corners_4 (Elements.points (at (pos 4) (pos 4) ∷ [])) ≡ Ok None
 unfolding asked_of good_bytes good_at told_of good_box within digit lesser greater beside Read.signed Read.coordinate Read.shape_of
 touching = refl
 
-beyond : asked corners_4 (Elements.points (at (pos 5) (pos 4) ∷ [])) ≡ Told (record { f = 1; g = 1 })
+beyond : asked corners_4 (Elements.points (at (pos 5) (pos 4) ∷ [])) ≡ Ok (Some (record { f = 1; g = 1 }))
 unfolding asked_of good_bytes good_at told_of good_box within digit lesser greater beside Read.signed Read.coordinate Read.shape_of
 beyond = refl
 
@@ -99,6 +99,6 @@ second_cut = refl
 
 -- ---- types in falling order: a region and points far from it, in the caller's order
 
-falling : asked round_origin (Elements.points (at (pos 9) (pos 9) ∷ [])) ≡ Told (record { f = 0; g = 4 })
+falling : asked round_origin (Elements.points (at (pos 9) (pos 9) ∷ [])) ≡ Ok (Some (record { f = 0; g = 4 }))
 unfolding asked_of good_bytes good_at told_of good_box within digit lesser greater beside Read.signed Read.coordinate Read.shape_of
 falling = refl

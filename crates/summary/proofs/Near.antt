@@ -1,5 +1,6 @@
 -- "look" in words: of two good summaries neither is empty and their boxes share a point, exactly where they are not far.
 use Prim.Native.Nat.{ℕ}
+use Rattle.std.specs.Prelude.{Some, None}
 use native.Mathlib.Omega.{arith}
 use mathlib.Core.Path.{◌≡◌, refl, sym, ap₂, subst, ◌∙◌}
 use mathlib.Core.Logic.{◌↔◌, ⊎_elim}
@@ -14,7 +15,6 @@ use Rattle.whole.proofs.Sign.{lt_z_le_z, nonneg_le_z}
 use Rattle.plane.specs.Plane.{in_range}
 use Rattle.summary.specs.declared.Bounds.{Bounds}
 use Rattle.summary.specs.declared.Summary.{Summary}
-use Rattle.summary.specs.declared.Answer.TheVariants.{Told, Look}
 use Rattle.summary.specs.Summary.{greater, good_box, good_for, is_good, beside, Near, far_vectors, told_of}
 use Rattle.summary.proofs.Boxes.{greater_is, greater_greatest}
 
@@ -93,11 +93,11 @@ module _ (s t : Summary) (good : T (is_good s)) (other : T (is_good t)) where
       (ap₂ ◌||◌ (meet b.greatest.y n.point.y c.least.y n.in_second.from_y n.in_first.to_y) (meet c.greatest.y n.point.y b.least.y n.in_first.from_y n.in_second.to_y))
 
   -- "look" exactly then
-  pub look_exactly : (told_of s t ≡ Look) ↔ Near s t
+  pub look_exactly : (told_of s t ≡ None) ↔ Near s t
   unfolding told_of
   look_exactly = (λ e. go s.empty t.empty (beside b c) refl refl refl e, λ n. let x = n.first_filled in let y = n.second_filled in let z = not_beside n in rw (x, y, z))
     where
-      go : (x y z : Bool) → s.empty ≡ x → t.empty ≡ y → beside b c ≡ z → cond (x || y || z) (Told (far_vectors s t)) Look ≡ Look → Near s t
+      go : (x y z : Bool) → s.empty ≡ x → t.empty ≡ y → beside b c ≡ z → cond (x || y || z) (Some (far_vectors s t)) None ≡ None → Near s t
       go true y z e f g h = absurd (let w : ◌≡◌ {A = ℕ} 0 1 = cc in omega arith)
       go false true z e f g h = absurd (let w : ◌≡◌ {A = ℕ} 0 1 = cc in omega arith)
       go false false true e f g h = absurd (let w : ◌≡◌ {A = ℕ} 0 1 = cc in omega arith)

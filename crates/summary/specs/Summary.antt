@@ -1,5 +1,5 @@
 -- Summaries: 02's Paper 2, sentence by sentence. A quotation names the sentence that a definition renders.
-use Rattle.std.specs.Prelude.{ℕ, ◌+◌, ◌≡◌, Bool, true, false, not, ◌&&◌, ◌||◌, cond, List, [], ◌∷◌, T, leb, eqb, length, ℤ, pos}
+use Rattle.std.specs.Prelude.{ℕ, ◌+◌, ◌≡◌, Bool, true, false, not, ◌&&◌, ◌||◌, cond, Option, Some, None, Result, Ok, Err, List, [], ◌∷◌, T, leb, eqb, length, ℤ, pos}
 use Rattle.std.specs.Int.Signed.{lt_z, le_z}
 use Rattle.whole.specs.Count.{eq_z, bit}
 use Rattle.plane.specs.declared.Point.{Point}
@@ -7,6 +7,7 @@ use Rattle.plane.specs.declared.Segment.{Segment}
 use Rattle.plane.specs.Plane.{in_range}
 use Rattle.scene.specs.declared.Shape.{Shape}
 use Rattle.scene.specs.declared.Shape.TheVariants.{Points, Line, Region}
+use Rattle.scene.specs.declared.Refusal.{Refusal}
 use Rattle.scene.specs.Read.{byte, point_at, shape_number, descends}
 use Rattle.scene.specs.Read as Read
 use Rattle.scene_written.specs.Bytes.{digit}
@@ -14,8 +15,6 @@ use Rattle.flags.specs.Flags.{Elements, points, line, region, outline, is_bound,
 use Rattle.flags_vectors.specs.declared.Vectors.{Vectors}
 use Rattle.summary.specs.declared.Bounds.{Bounds}
 use Rattle.summary.specs.declared.Summary.{Summary}
-use Rattle.summary.specs.declared.Answer.{Answer}
-use Rattle.summary.specs.declared.Answer.TheVariants.{Told, Look, Refused}
 
 -- ---- what a summary holds
 
@@ -171,9 +170,9 @@ swapped v = record { f = v.g; g = v.f }
 abbrev pub far_vectors : Summary → Summary → Vectors
 far_vectors s t = cond (descends s.shape t.shape) (swapped (ascending_vectors t s)) (ascending_vectors s t)
 
--- "the library hands back both vectors if the boxes share no point or an object is empty, and "look" with zero vectors otherwise"
-unfoldable pub told_of : Summary → Summary → Answer
-told_of s t = cond (are_far s t) (Told (far_vectors s t)) Look
+-- "the library hands back both vectors if the boxes share no point or an object is empty, and "look" with zero vectors otherwise": "look" is `None`
+unfoldable pub told_of : Summary → Summary → Option Vectors
+told_of s t = cond (are_far s t) (Some (far_vectors s t)) None
 
 -- ---- the 20 bytes
 
@@ -232,14 +231,18 @@ good_at s at = fields_good_at s at && is_good (summary_at s at)
 unfoldable pub good_bytes : List ℕ → Bool
 good_bytes s = eqb (length s) size && good_at s 0
 
+-- the summary that a byte string is, if it is a good one
+abbrev pub parsed_summary : List ℕ → Option Summary
+parsed_summary s = cond (good_bytes s) (Some (summary_at s 0)) None
+
 -- ---- the far question
 
 -- "Before anything else it refuses 18, with place 0 or 1 for the first bad summary."
-abbrev pub bad : ℕ → Answer
-bad place = Refused (record { number = 18; place = place })
+abbrev pub bad : ℕ → Result (Option Vectors) Refusal
+bad place = Err (record { number = 18; place = place })
 
-unfoldable pub asked_of : List ℕ → List ℕ → Answer
-asked_of s t = cond (good_bytes s) (cond (good_bytes t) (told_of (summary_at s 0) (summary_at t 0)) (bad 1)) (bad 0)
+unfoldable pub asked_of : List ℕ → List ℕ → Result (Option Vectors) Refusal
+asked_of s t = cond (good_bytes s) (cond (good_bytes t) (Ok (told_of (summary_at s 0) (summary_at t 0))) (bad 1)) (bad 0)
 
 -- "Where an answer is an enum, a definition states this paper's number and values for every one of its cases." What is told has number 0; ""look" with zero
 -- vectors"; a refusal has zero vectors too, and is no "look".
@@ -250,7 +253,7 @@ pub record FarValues : Type 0 where
   pub f : ℕ
   pub g : ℕ
 
-abbrev pub far_values : Answer → FarValues
-far_values (Told v) = record { number = 0; place = 0; look = false; f = v.f; g = v.g }
-far_values Look = record { number = 0; place = 0; look = true; f = 0; g = 0 }
-far_values (Refused r) = record { number = r.number; place = r.place; look = false; f = 0; g = 0 }
+abbrev pub far_values : Result (Option Vectors) Refusal → FarValues
+far_values (Ok (Some v)) = record { number = 0; place = 0; look = false; f = v.f; g = v.g }
+far_values (Ok None) = record { number = 0; place = 0; look = true; f = 0; g = 0 }
+far_values (Err r) = record { number = r.number; place = r.place; look = false; f = 0; g = 0 }

@@ -33,12 +33,6 @@ grow_append b [] m = refl
 grow_append b (p ∷ l) m = grow_append (widen b p) l m
 
 module _ (s : List ℕ) (l : Layout) where
-  pub grow_first : (b : Bounds) → grow b (corners_from s l (l.count - 0) 0) ≡ grow b (corners_from s l l.count 0)
-  grow_first b = ap (λ (n : ℕ). grow b (corners_from s l n 0)) all
-    where
-      all : l.count - 0 ≡ l.count
-      all = omega arith
-
   pub grow_next : (b : Bounds) (i : ℕ) → i < l.count
       → grow b (corners_from s l (l.count - i) i) ≡ grow (grow b (corners_at s l.shape (place l i))) (corners_from s l (l.count - (i + 1)) (i + 1))
   grow_next b i h =
@@ -48,12 +42,6 @@ module _ (s : List ℕ) (l : Layout) where
     where
       left : l.count - i ≡ suc (l.count - (i + 1))
       left = omega arith
-
-  pub grow_last : (b : Bounds) (i : ℕ) → l.count ≤ i → grow b (corners_from s l (l.count - i) i) ≡ b
-  grow_last b i h = ap (λ (n : ℕ). grow b (corners_from s l n i)) none
-    where
-      none : l.count - i ≡ 0
-      none = omega arith
 
   pub element_there : IsObject s l → (i : ℕ) → i < l.count → place l i + size l.shape ≤ length s
   element_there is i h = omega (arith, ((taken_object s l.start l is).elements i h).whole)

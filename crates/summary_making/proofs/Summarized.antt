@@ -1,8 +1,8 @@
 -- The parts of an accepted object's summary, and the answer by the scene that the object and an empty one form.
-use Rattle.std.specs.Prelude.{Err, Ok}
 use Rattle.check_verdict.specs.Refusals.{Verdict}
 use Rattle.flags_vectors.specs.Vectors.{SceneAnswer}
 use Prim.Native.Nat.{ℕ, ◌≤◌}
+use Rattle.std.specs.Prelude.{Result, Ok, Err}
 use native.Mathlib.Omega.{arith}
 use mathlib.Core.Path.{◌≡◌, refl, sym, ap, ◌∙◌}
 use mathlib.Core.Bool.{Bool, true, false, not, ◌||◌, cond, true≢false}
@@ -18,8 +18,7 @@ use Rattle.scene.specs.declared.Scene.{Scene}
 use Rattle.scene.specs.declared.Refusal.{Refusal}
 use Rattle.scene.specs.Read.{descends, read_alone}
 use Rattle.scene.specs.Conditions.{check_scene, check_object}
-use Rattle.scene.proofs.Taken.{longest, taken_alone, object_short}
-use Rattle.scene.proofs.Outcomes.{never_taken, same_taken}
+use Rattle.scene.proofs.Taken.{longest, taken_alone, object_short, never_taken, same_scene}
 use Rattle.scene.proofs.Given.{object_checked}
 use Rattle.check_verdict.specs.Refusals.{settle, object_verdict}
 use Rattle.check_verdict.proofs.Verdicts.{object_read}
@@ -39,7 +38,6 @@ use Rattle.summary.specs.Summary.{corners, grow, box_of, shape_of, is_empty, bes
 use Rattle.summary_objects.specs.Objects.{summary_in}
 use Rattle.summary_objects.proofs.Accepted.{sound_object, elements_in_range}
 use Rattle.summary_objects.proofs.Told.{far_told}
-use Rattle.summary_making.specs.declared.SummaryAnswer.{SummaryAnswer}
 use Rattle.summary_making.specs.Making.{corners_from, widest, empty_of, beside_empty, summarized, summary_answer_of}
 use Rattle.summary_making.proofs.Corners.{corners_are, grow_widest}
 use Rattle.summary_making.proofs.EmptyBeside.{nothing, scene, empty_read, empty_faultless, checked_beside}
@@ -119,7 +117,7 @@ module _ (s : List ℕ) (l : Layout) (read : read_alone s ≡ Ok l) where
     where
       go : (v : Verdict) → settle Err v (Ok (scene s l k read)) ≡ Ok sc
           → (settle Err v (Ok l) ≡ Ok l) × (scene s l k read ≡ sc)
-      go (Ok tt) q = (refl, same_taken q)
+      go (Ok tt) q = (refl, same_scene q)
       go (Err x) q = absurd (never_taken q)
 
   -- the answer to the scene, for the object
@@ -156,13 +154,13 @@ module _ (s : List ℕ) (l : Layout) (read : read_alone s ≡ Ok l) where
 -- ---- the answer
 
 module _ (s : List ℕ) where
-  abbrev Answered : SummaryAnswer → Type 0
+  abbrev Answered : Result Summary Refusal → Type 0
   Answered a = (a ≡ summary_answer_of s) × CheckedObjectMeans s (check_object s)
 
-  pub refused_answer : (r : Refusal) → check_object s ≡ Err r → Answered (SummaryAnswer.Refused r)
+  pub refused_answer : (r : Refusal) → check_object s ≡ Err r → Answered (Err r)
   unfolding summary_answer_of
   refused_answer r e = (sym (ap (summarized s) e), checked_object_means s)
 
-  pub made_answer : (l : Layout) → check_object s ≡ Ok l → {m : Summary} → m ≡ summary_in s l → Answered (SummaryAnswer.Made m)
+  pub made_answer : (l : Layout) → check_object s ≡ Ok l → {m : Summary} → m ≡ summary_in s l → Answered (Ok m)
   unfolding summary_answer_of
-  made_answer l e q = (ap SummaryAnswer.Made q ∙ sym (ap (summarized s) e), checked_object_means s)
+  made_answer l e q = (ap Ok q ∙ sym (ap (summarized s) e), checked_object_means s)

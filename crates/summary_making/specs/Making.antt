@@ -1,13 +1,13 @@
 -- The call on one object: "From one object's bytes make a record of kind 83".
-use Rattle.std.specs.Prelude.{Err, Ok}
 use Rattle.scene.specs.Read.{CheckedObject}
-use Rattle.std.specs.Prelude.{ℕ, zero, suc, not, cond, List, [], ◌∷◌, ◌++◌, pos, neg_ℤ}
+use Rattle.std.specs.Prelude.{ℕ, zero, suc, not, cond, Result, Ok, Err, List, [], ◌∷◌, ◌++◌, pos, neg_ℤ}
 use Rattle.plane.specs.declared.Point.{Point}
 use Rattle.plane.specs.declared.Halfsegment.{Halfsegment}
 use Rattle.plane.specs.Plane.{limit}
 use Rattle.scene.specs.declared.Shape.{Shape}
 use Rattle.scene.specs.declared.Shape.TheVariants.{Points, Line, Region}
 use Rattle.scene.specs.declared.Layout.{Layout}
+use Rattle.scene.specs.declared.Refusal.{Refusal}
 use Rattle.scene.specs.Read.{point_at, halfsegment_at, shape_number, place}
 use Rattle.scene.specs.Conditions.{check_object}
 use Rattle.flags.specs.Flags.{pack}
@@ -15,16 +15,15 @@ use Rattle.summary.specs.declared.Bounds.{Bounds}
 use Rattle.summary.specs.declared.Summary.{Summary}
 use Rattle.summary.specs.Summary.{flags_f, bytes_of}
 use Rattle.summary_objects.specs.Objects.{summary_in}
-use Rattle.summary_making.specs.declared.SummaryAnswer.{SummaryAnswer}
 
 -- ---- the answer
 
 -- "A call on one object takes 1 to 7 and 10 to 14 over its bytes alone"
-abbrev pub summarized : List ℕ → CheckedObject → SummaryAnswer
-summarized s (Ok l) = SummaryAnswer.Made (summary_in s l)
-summarized s (Err r) = SummaryAnswer.Refused r
+abbrev pub summarized : List ℕ → CheckedObject → Result Summary Refusal
+summarized s (Ok l) = Ok (summary_in s l)
+summarized s (Err r) = Err r
 
-unfoldable pub summary_answer_of : List ℕ → SummaryAnswer
+unfoldable pub summary_answer_of : List ℕ → Result Summary Refusal
 summary_answer_of s = summarized s (check_object s)
 
 -- "Where an answer is an enum, a definition states this paper's number and values for every one of its cases." What is made has number 0; "Every refusal has ..
@@ -37,9 +36,9 @@ pub record SummaryValues : Type 0 where
   pub place : ℕ
   pub bytes : List ℕ
 
-abbrev pub summary_values : SummaryAnswer → SummaryValues
-summary_values (SummaryAnswer.Made m) = record { number = 0; place = 0; bytes = bytes_of m }
-summary_values (SummaryAnswer.Refused r) = record { number = r.number; place = r.place; bytes = no_record }
+abbrev pub summary_values : Result Summary Refusal → SummaryValues
+summary_values (Ok m) = record { number = 0; place = 0; bytes = bytes_of m }
+summary_values (Err r) = record { number = r.number; place = r.place; bytes = no_record }
 
 -- ---- on the way: the corners that the elements add to the box, one after the other
 

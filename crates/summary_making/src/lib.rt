@@ -16,12 +16,6 @@ use plane::Point;
 use scene::{CheckedObject, Layout, Refusal, Shape};
 use summary::{Bounds, Summary};
 
-#[derive(Clone, Copy)]
-pub enum SummaryAnswer {
-    Made(Summary),
-    Refused(Refusal),
-}
-
 pub mod beside;
 pub mod bounds;
 
@@ -40,9 +34,10 @@ fn has_boundary(k: Shape, empty: bool, v: u16) -> bool
 fn nowhere() -> Bounds
     ensures { result ≡ box_of [] }
 {
+    let origin = Point { x: 0, y: 0 };
     Bounds {
-        least: Point { x: 0, y: 0 },
-        greatest: Point { x: 0, y: 0 },
+        least: origin,
+        greatest: origin,
     }
 }
 
@@ -52,9 +47,10 @@ fn bounds_in(s: &[u8], l: Layout) -> Bounds
     ensures { result ≡ (summary_in s.now l).bounds }
 {
     if l.count == 0 {
-        return nowhere();
+        nowhere()
+    } else {
+        bounds::bounds_of(s, l)
     }
-    bounds::bounds_of(s, l)
 }
 
 // The summary of an accepted object, from its vector beside an empty one of its type.
@@ -62,32 +58,24 @@ fn made(s: &[u8], l: Layout, v: u16) -> Summary
     requires { (check_object s.now ≡ Ok l) × (v ≡ beside_empty (summary_in s.now l)) }
     ensures { result ≡ summary_in s.now l }
 {
-    let shape = l.shape;
     let empty = l.count == 0;
-    let bounds = bounds_in(s, l);
-    let boundary = has_boundary(shape, empty, v);
     Summary {
-        shape,
+        shape: l.shape,
         empty,
-        bounds,
-        boundary,
+        bounds: bounds_in(s, l),
+        boundary: has_boundary(l.shape, empty, v),
     }
 }
 
 // An object's bytes: the summary of its elements, or the refusal; and what the check says of the points that its segments share.
-pub fn summarize(s: &[u8]) -> SummaryAnswer
+pub fn summarize(s: &[u8]) -> Result<Summary, Refusal>
     ensures { (result ≡ summary_answer_of s.now) × CheckedObjectMeans s.now (check_object s.now) }
 {
     match scene_reading::read_alone(s) {
-        CheckedObject::Refused(r) => SummaryAnswer::Refused(r),
-        CheckedObject::Taken(l) => {
-            let k = l.shape;
-            match beside::answer(s, k) {
-                SceneAnswer::Refused(r) => SummaryAnswer::Refused(r),
-                SceneAnswer::Taken { scene: _, vectors } => SummaryAnswer::Made(made(
-                    s, l, vectors.f,
-                )),
-            }
-        }
+        CheckedObject::Refused(r) => Err(r),
+        CheckedObject::Taken(l) => match beside::answer(s, l.shape) {
+            SceneAnswer::Refused(r) => Err(r),
+            SceneAnswer::Taken { scene: _, vectors } => Ok(made(s, l, vectors.f)),
+        },
     }
 }

@@ -1,6 +1,7 @@
 -- What two summaries tell of accepted objects: two that are far form an accepted scene, and the vectors told are the full answer.
-use Rattle.std.specs.Prelude.{Err, None, Ok}
+use Rattle.std.specs.Prelude.{Err}
 use Prim.Native.Nat.{ℕ}
+use Rattle.std.specs.Prelude.{Option, Some, None, Result, Ok}
 use native.Mathlib.Omega.{arith}
 use mathlib.Core.Path.{◌≡◌, refl, sym, ap, ap₂, subst, ◌∙◌}
 use mathlib.Core.Logic.{◌↔◌}
@@ -17,6 +18,7 @@ use Rattle.scene.specs.declared.Shape.{Shape}
 use Rattle.scene.specs.declared.Shape.TheVariants.{Points, Line, Region}
 use Rattle.scene.specs.declared.Layout.{Layout}
 use Rattle.scene.specs.declared.Scene.{Scene}
+use Rattle.scene.specs.declared.Refusal.{Refusal}
 use Rattle.scene.specs.Read.{read_alone, IsScene}
 use Rattle.scene.specs.Conditions.{has_segments, half, left_test, segments, over_both, object_rules, touching_across, check_scene, check_object}
 use Rattle.scene.proofs.Given.{NoFault}
@@ -33,8 +35,7 @@ use Rattle.flags_masks.specs.declared.Wanted.{Wanted}
 use Rattle.flags_vectors.specs.Vectors.{vectors_in}
 use Rattle.cells.proofs.AskedTwice.{given_flags, all_vectors, first_is, second_is}
 use Rattle.summary.specs.declared.Summary.{Summary}
-use Rattle.summary.specs.declared.Answer.{Answer}
-use Rattle.summary.specs.declared.Answer.TheVariants.{Told, Look}
+use Rattle.flags_vectors.specs.declared.Vectors.{Vectors}
 use Rattle.summary.specs.Summary.{are_far, Near, far_vectors, summary_at, bytes_of, good_bytes, bad, told_of, asked_of}
 use Rattle.summary.proofs.Theorem.{full_answer, far_apart}
 use Rattle.summary.proofs.Near.{look_exactly}
@@ -103,7 +104,7 @@ never_bad r one =
     let s = summary_in one.object one.layout in
     subst (λ (r : List ℕ). T (good_bytes r)) one.is (is_true (good_bytes (bytes_of s)) (good_bytes_lem s (summary_good one.object one.layout one.accepted)))
 
-pub told_in_full : (r q : List ℕ) {answer : Answer} → answer ≡ asked_of r q → ToldInFull r q answer
+pub told_in_full : (r q : List ℕ) {answer : Result (Option Vectors) Refusal} → answer ≡ asked_of r q → ToldInFull r q answer
 unfolding told_of
 told_in_full r q is one other v e = go (are_far s t) refl (sym tells ∙ sym is ∙ e)
   where
@@ -113,12 +114,12 @@ told_in_full r q is one other v e = go (are_far s t) refl (sym tells ∙ sym is 
     t : Summary
     t = summary_in other.object other.layout
 
-    tells : asked_of r q ≡ cond (are_far s t) (Told (far_vectors s t)) Look
+    tells : asked_of r q ≡ Ok (cond (are_far s t) (Some (far_vectors s t)) None)
     tells =
         ap₂ asked_of (sym one.is) (sym other.is)
         ∙ asked_good s t (summary_good one.object one.layout one.accepted) (summary_good other.object other.layout other.accepted)
 
-    go : (b : Bool) → are_far s t ≡ b → cond b (Told (far_vectors s t)) Look ≡ Told v
+    go : (b : Bool) → are_far s t ≡ b → ◌≡◌ {A = Result (Option Vectors) Refusal} (Ok (cond b (Some (far_vectors s t)) None)) (Ok (Some v))
         → (sc : Scene) × (check_scene (one.object ++ other.object) ≡ Ok sc) × (v ≡ vectors_in (one.object ++ other.object) sc Wanted.All)
     go true f h =
         let x : far_vectors s t ≡ v = cc in (
@@ -129,18 +130,18 @@ told_in_full r q is one other v e = go (are_far s t) refl (sym tells ∙ sym is 
     go false f h = absurd (let z : ◌≡◌ {A = ℕ} 0 1 = cc in omega arith)
 
 module _ (r q : List ℕ) where
-  pub look_exactly_if_near : {answer : Answer} → answer ≡ asked_of r q → LookExactlyIfNear r q answer
+  pub look_exactly_if_near : {answer : Result (Option Vectors) Refusal} → answer ≡ asked_of r q → LookExactlyIfNear r q answer
   unfolding asked_of
   look_exactly_if_near {answer} is = (λ e. go (good_bytes r) (good_bytes q) refl refl (sym is ∙ e), λ n. is ∙ back (true_is (good_bytes r) n.0) (true_is (good_bytes q) n.1) n.2)
     where
-      tells : good_bytes r ≡ true → good_bytes q ≡ true → (told_of (summary_at r 0) (summary_at q 0) ≡ Look) ↔ Near (summary_at r 0) (summary_at q 0)
+      tells : good_bytes r ≡ true → good_bytes q ≡ true → (told_of (summary_at r 0) (summary_at q 0) ≡ None) ↔ Near (summary_at r 0) (summary_at q 0)
       tells a b = look_exactly (summary_at r 0) (summary_at q 0) (good_summary r a) (good_summary q b)
 
-      go : (a b : Bool) → good_bytes r ≡ a → good_bytes q ≡ b → cond a (cond b (told_of (summary_at r 0) (summary_at q 0)) (bad 1)) (bad 0) ≡ Look
+      go : (a b : Bool) → good_bytes r ≡ a → good_bytes q ≡ b → cond a (cond b (Ok (told_of (summary_at r 0) (summary_at q 0))) (bad 1)) (bad 0) ≡ Ok None
           → T (good_bytes r) × T (good_bytes q) × Near (summary_at r 0) (summary_at q 0)
-      go true true a b e = (is_true (good_bytes r) a, is_true (good_bytes q) b, (tells a b).0 e)
+      go true true a b e = (is_true (good_bytes r) a, is_true (good_bytes q) b, (tells a b).0 cc)
       go true false a b e = absurd (let z : ◌≡◌ {A = ℕ} 0 1 = cc in omega arith)
       go false b x y e = absurd (let z : ◌≡◌ {A = ℕ} 0 1 = cc in omega arith)
 
-      back : good_bytes r ≡ true → good_bytes q ≡ true → Near (summary_at r 0) (summary_at q 0) → cond (good_bytes r) (cond (good_bytes q) (told_of (summary_at r 0) (summary_at q 0)) (bad 1)) (bad 0) ≡ Look
-      back a b n = rw (a, b) ((tells a b).1 n)
+      back : good_bytes r ≡ true → good_bytes q ≡ true → Near (summary_at r 0) (summary_at q 0) → cond (good_bytes r) (cond (good_bytes q) (Ok (told_of (summary_at r 0) (summary_at q 0))) (bad 1)) (bad 0) ≡ Ok None
+      back a b n = rw (a, b) (ap Ok ((tells a b).1 n))

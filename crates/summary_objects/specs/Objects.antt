@@ -1,8 +1,8 @@
 -- Summaries and the bytes of objects: 02's Paper 2 in sentences over objects that are accepted, "some" and "every" written out.
-use Rattle.std.specs.Prelude.{Ok}
-use Rattle.std.specs.Prelude.{ℕ, ◌≡◌, ◌↔◌, List, ◌++◌, T}
+use Rattle.std.specs.Prelude.{ℕ, ◌≡◌, ◌↔◌, Option, Some, None, Result, Ok, List, ◌++◌, T}
 use Rattle.scene.specs.declared.Layout.{Layout}
 use Rattle.scene.specs.declared.Scene.{Scene}
+use Rattle.scene.specs.declared.Refusal.{Refusal}
 use Rattle.scene.specs.Conditions.{check_scene, check_object}
 use Rattle.scene_written.specs.Bytes.{AreBytes}
 use Rattle.flags.specs.Elements.{elements_of}
@@ -10,8 +10,6 @@ use Rattle.flags_masks.specs.declared.Wanted.{Wanted}
 use Rattle.flags_vectors.specs.declared.Vectors.{Vectors}
 use Rattle.flags_vectors.specs.Vectors.{vectors_in}
 use Rattle.summary.specs.declared.Summary.{Summary}
-use Rattle.summary.specs.declared.Answer.{Answer}
-use Rattle.summary.specs.declared.Answer.TheVariants.{Told, Look}
 use Rattle.summary.specs.Summary.{summary_of, Near, bytes_of, summary_at, good_bytes}
 
 -- ---- one object
@@ -45,11 +43,11 @@ GoodExactlyIfMade r = NeverBad r × OnlyMade r
 
 -- "For summaries made from two objects that form an accepted scene, those vectors are the full answer": where vectors are told of two records, every two
 -- accepted objects that have them form an accepted scene, and the vectors are those of the vectors question with all flags wanted, in the caller's order.
-abbrev pub ToldInFull : List ℕ → List ℕ → Answer → Type 0
+abbrev pub ToldInFull : List ℕ → List ℕ → Result (Option Vectors) Refusal → Type 0
 ToldInFull r q answer =
-    (one : Made r) (other : Made q) (v : Vectors) → answer ≡ Told v
+    (one : Made r) (other : Made q) (v : Vectors) → answer ≡ Ok (Some v)
     → (sc : Scene) × (check_scene (one.object ++ other.object) ≡ Ok sc) × (v ≡ vectors_in (one.object ++ other.object) sc Wanted.All)
 
 -- "if the boxes share no point or an object is empty, and "look" .. otherwise"
-abbrev pub LookExactlyIfNear : List ℕ → List ℕ → Answer → Type 0
-LookExactlyIfNear r q answer = (answer ≡ Look) ↔ (T (good_bytes r) × T (good_bytes q) × Near (summary_at r 0) (summary_at q 0))
+abbrev pub LookExactlyIfNear : List ℕ → List ℕ → Result (Option Vectors) Refusal → Type 0
+LookExactlyIfNear r q answer = (answer ≡ Ok None) ↔ (T (good_bytes r) × T (good_bytes q) × Near (summary_at r 0) (summary_at q 0))

@@ -1,71 +1,28 @@
 // The 20 bytes of a summary, by value.
-ghost use Rattle.std.specs.Prelude.{◌≡◌, ◌<◌};
-ghost use Rattle.whole.specs.Count.{bit};
-ghost use Rattle.scene_written.specs.Bytes.{unsigned, digit};
+ghost use Rattle.std.specs.Prelude.{◌≡◌, []};
+ghost use Rattle.scene_written.specs.Bytes.{coordinate_then};
 ghost use Rattle.summary.specs.Summary.{bytes_of};
 
-use plane::Point;
 use scene::records;
 use summary::Summary;
 
-// A coordinate's 32 bits as a number.
-fn unsigned(z: i32) -> u32
-    ensures { result ≡ unsigned z }
+fn coordinate_bytes(z: i32) -> [u8; 4]
+    ensures { result ≡ coordinate_then z [] }
 {
-    if z < 0 {
-        (z as i64 + 4294967296) as u32
-    } else {
-        z as u32
-    }
-}
-
-fn digit_x(p: Point, unit: u32) -> u8
-    requires { 0 < unit }
-    ensures { result ≡ digit p.x unit }
-{
-    (unsigned(p.x) / unit % 256) as u8
-}
-
-fn digit_y(p: Point, unit: u32) -> u8
-    requires { 0 < unit }
-    ensures { result ≡ digit p.y unit }
-{
-    (unsigned(p.y) / unit % 256) as u8
-}
-
-fn bit(b: bool) -> u8
-    ensures { result ≡ bit b }
-{
-    if b { 1 } else { 0 }
+    z.to_le_bytes()
 }
 
 pub fn written(s: Summary) -> [u8; 20]
     ensures { result ≡ bytes_of s }
 {
-    let k = s.shape;
-    let b = s.bounds;
-    let p = b.least;
-    let q = b.greatest;
-    [
-        83,
-        records::shape_number(k),
-        bit(s.empty),
-        digit_x(p, 1),
-        digit_x(p, 256),
-        digit_x(p, 65536),
-        digit_x(p, 16777216),
-        digit_y(p, 1),
-        digit_y(p, 256),
-        digit_y(p, 65536),
-        digit_y(p, 16777216),
-        digit_x(q, 1),
-        digit_x(q, 256),
-        digit_x(q, 65536),
-        digit_x(q, 16777216),
-        digit_y(q, 1),
-        digit_y(q, 256),
-        digit_y(q, 65536),
-        digit_y(q, 16777216),
-        bit(s.boundary),
-    ]
+    let mut record = [0u8; 20];
+    record[0] = 83;
+    record[1] = records::shape_number(s.shape);
+    record[2] = s.empty as u8;
+    record[3..7].copy_from_slice(&coordinate_bytes(s.bounds.least.x));
+    record[7..11].copy_from_slice(&coordinate_bytes(s.bounds.least.y));
+    record[11..15].copy_from_slice(&coordinate_bytes(s.bounds.greatest.x));
+    record[15..19].copy_from_slice(&coordinate_bytes(s.bounds.greatest.y));
+    record[19] = s.boundary as u8;
+    record
 }
