@@ -2,18 +2,18 @@
 // once, and the side where it is certain. Nothing is fused: each result of an operation is a float of its own.
 #![tactic(auto)]
 
-ghost use Rattle.std.specs.Prelude.{◌≡◌, T, leb, nat_abs};
+ghost use Rattle.std.specs.Prelude.{◌≡◌, T};
 ghost use Rattle.std.specs.Float.{binary32};
 ghost use Rattle.floats.specs.Value.{counted};
-ghost use Rattle.estimate.specs.Estimate.{range, in_range, all_in_range, apart, float_side, certain, estimated, side_number, EstimateHolds};
+ghost use Rattle.estimate.specs.Estimate.{all_in_range, apart, float_side, certain, estimated, side_number, EstimateHolds};
 
 use plane::Point;
 
 // The largest coordinate of an estimate, and minus the smallest: document 01's range, which the estimate keeps whatever scenes may have.
-const RANGE: i32 = 1_000_000;
+const RANGE: u32 = 1_000_000;
 
 // The side of c against a segment from a to b, or that it is too close to tell.
-#[derive(Clone, Copy)]
+#[derive(Clone, Copy, PartialEq, Eq)]
 pub enum Side {
     Left,
     Right,
@@ -26,22 +26,11 @@ pub struct Estimated {
     pub side: Side,
 }
 
-fn is_coordinate(v: i32) -> bool
-    ensures { result ≡ leb (nat_abs v) range }
-{
-    -RANGE <= v && v <= RANGE
-}
-
-fn is_in_range(p: Point) -> bool
-    ensures { result ≡ in_range p }
-{
-    is_coordinate(p.x) && is_coordinate(p.y)
-}
-
+#[tactic(auto, unfolding(crate::specs::Estimate::all_in_range))]
 fn are_in_range(a: Point, b: Point, c: Point) -> bool
     ensures { result ≡ all_in_range a b c }
 {
-    is_in_range(a) && (is_in_range(b) && is_in_range(c))
+    plane::is_within(a, RANGE) && plane::is_within(b, RANGE) && plane::is_within(c, RANGE)
 }
 
 fn difference(a: i32, b: i32) -> f32
@@ -89,12 +78,20 @@ pub fn estimate(a: Point, b: Point, c: Point) -> Estimated
 }
 
 // The number of a side: 1 left, -1 right, 0 close.
+impl From<Side> for i32 {
+    ghost from_gives = { λ side number. number ≡ side_number side };
+
+    fn from(side: Side) -> i32 {
+        match side {
+            Side::Left => 1,
+            Side::Right => -1,
+            Side::Close => 0,
+        }
+    }
+}
+
 pub fn side_number(side: Side) -> i32
     ensures { result ≡ side_number side }
 {
-    match side {
-        Side::Left => 1,
-        Side::Right => -1,
-        Side::Close => 0,
-    }
+    i32::from(side)
 }

@@ -80,12 +80,17 @@ module _ (s : Segment) (p : Point) where
   unfolding side_at side
   side_grid = rw (times_one s.left.x, times_one s.left.y)
 
+  pub on_by_side :
+      on s (grid p)
+      ≡ (eq_z (side s.left s.right p) (pos 0) && not (before p s.left) && not (before s.right p))
+  unfolding on
+  on_by_side = rw (side_grid, not_before_grid s.left p, not_after_grid s.right p)
+
   pub on_grid :
       on s (grid p)
       ≡ (is_straight (turn s.left s.right p) && not (before p s.left) && not (before s.right p))
-  unfolding on turn
-  on_grid =
-      rw (side_grid, not_before_grid s.left p, not_after_grid s.right p, straight_is (side s.left s.right p))
+  unfolding turn
+  on_grid = rw (on_by_side, straight_is (side s.left s.right p))
 
   pub end_grid : is_end s (grid p) ≡ (is_same_point s.left p || is_same_point s.right p)
   unfolding is_end

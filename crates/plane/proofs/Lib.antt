@@ -12,6 +12,7 @@ pub mod Steps
 pub mod Flip
 pub mod Topmost
 pub mod Machine
+pub mod Compared
 pub mod Narrow
 pub mod Grid
 pub mod Order

@@ -52,10 +52,6 @@ mag_small : (z : ℤ) → mag z ≤ nat_abs z
 mag_small (pos n) = omega arith
 mag_small (negsuc n) = omega arith
 
-pub mag_nat_abs : (z : ℤ) → nat_abs z ≤ suc (mag z)
-mag_nat_abs (pos n) = omega arith
-mag_nat_abs (negsuc n) = omega arith
-
 -- what is at most 2 ^ 62 in size fits 64 bits
 pub small_fits : (z : ℤ) → nat_abs z ≤ 2 ^ 62 → SFits w64 z
 small_fits z h = record { sfits = omega (arith, mag_small z) }

@@ -1,27 +1,25 @@
 -- The side test without a wide product: what raised differences say of the side value, and where no product is needed.
-use Prim.Native.Nat.{ℕ, zero, suc, ◌+◌, ◌*◌, ◌-◌, ◌<◌, ◌≤◌}
+use Prim.Native.Nat.{ℕ, zero, suc, ◌+◌, ◌*◌, ◌≤◌}
 use native.Mathlib.Omega.{arith}
 use mathlib.Core.Path.{◌≡◌, refl, sym, ap, ap₂, subst, ◌∙◌}
-use mathlib.Core.Bool.{Bool, true, false, ◌&&◌}
+use mathlib.Core.Bool.{true, ◌&&◌}
 use mathlib.Core.List.{[], ◌∷◌}
-use lib.Dec.{T, eqb}
+use lib.Dec.{T}
 use lib.IntN.{ℤ, pos, negsuc, nat_abs, ◌+ℤ◌, ◌-ℤ◌, ◌*ℤ◌}
-use lib.Signed.{lt_z, le_z, non_neg}
+use lib.Signed.{lt_z, le_z}
 use mir.Syntax.{w32}
-use mir.Val.{SFits, Fits, to_z, of_z}
+use mir.Val.{to_z, of_z}
 use mir.Facts.{to_z-of_z}
-use borrow.Author.Tests.{le-ltb}
-use Rattle.whole.specs.Count.{eq_z}
 use Rattle.whole.proofs.Solver.{var, con, opp, ◌:+◌, ◌:-◌, ◌:*◌, solve}
-use Rattle.whole.proofs.Balance.{P, N, add_balance, sub_balanceℤ, pos_P, pos_N, eq_z_read}
+use Rattle.whole.proofs.Balance.{P, N, add_balance, pos_P, pos_N}
 use Rattle.whole.proofs.Sign.{Pos, NonNeg, Neg, Weak, weak, weak_zero, weak_plus, pos_nonneg, pos_mul, nonneg_mul, pos_add_nonneg, nonneg_add_pos, neg_of_pos, lt_z_pos, le_z_nonneg}
-use Rattle.whole.proofs.Logic.{and_left, and_right}
+use Rattle.whole.proofs.Logic.{and_left, and_right, is_true}
 use Rattle.plane.specs.declared.Point.{Point}
 use Rattle.plane.specs.declared.Turn.{Turn}
 use Rattle.plane.specs.declared.Turn.TheVariants.{Left, Straight, Right}
-use Rattle.plane.specs.declared.Beside.TheVariants.{Over, Under, Neither}
-use Rattle.plane.specs.Plane.{limit, within, is_same_point, side, at, turn_of, turn, turn_code, Told}
-use Rattle.plane.proofs.Machine.{Held, is_straight, nat_abs_difference, half_fits, near_fits, within_x, within_y}
+use Rattle.plane.specs.declared.Beside.TheVariants.{Over, Under}
+use Rattle.plane.specs.Plane.{limit, within, side, at, turn_of, turn, Told}
+use Rattle.plane.proofs.Machine.{Held, near_fits, within_x, within_y}
 
 -- ---- the turn of a sign
 left_turn : (z : ℤ) → Pos z → Left ≡ turn_of z
@@ -51,31 +49,11 @@ no_turn z e = ap turn_of (sym e)
 abbrev pub Raised : ℕ → ℤ → Type 0
 Raised u d = pos u ≡ d +ℤ pos 67108864
 
--- a difference of two coordinates, raised, as the machine has it
-lift : ℤ → ℕ
-lift (pos m) = m + 67108864
-lift (negsuc m) = 67108864 - suc m
-
-lift_is : (d : ℤ) → nat_abs d ≤ 67108864 → Raised (lift d) d
-unfolding lift
-lift_is (pos m) h = refl
-lift_is (negsuc m) h = rw (le-ltb 67108864 (suc m) h)
-
-lift_most : (d : ℤ) → lift d ≤ nat_abs d + 67108864
-unfolding lift
-lift_most (pos m) = omega arith
-lift_most (negsuc m) = omega arith
-
+-- a difference of two coordinates, as the machine has it
 abbrev pub gap : ℤ → ℤ → ℤ
 gap a b = to_z w32 (of_z w32 a) -ℤ to_z w32 (of_z w32 b)
 
-abbrev pub raised_gap : ℤ → ℤ → ℤ
-raised_gap a b = to_z w32 (of_z w32 (gap a b)) +ℤ pos 67108864
-
 module _ (a b : ℤ) (h : nat_abs a ≤ 2 * limit) (k : nat_abs b ≤ 2 * limit) where
-  gap_small : nat_abs (a -ℤ b) ≤ 4 * limit
-  gap_small = omega (arith, nat_abs_difference a b)
-
   gap_is : gap a b ≡ a -ℤ b
   gap_is = ap₂ ◌-ℤ◌ (to_z-of_z (near_fits a h)) (to_z-of_z (near_fits b k))
 
@@ -85,29 +63,6 @@ module _ (a b : ℤ) (h : nat_abs a ≤ 2 * limit) (k : nat_abs b ≤ 2 * limit)
 
   raised_of : (r : ℕ) → pos r ≡ gap a b +ℤ pos 67108864 → Raised r (a -ℤ b)
   raised_of r e = e ∙ ap (λ (z : ℤ). z +ℤ pos 67108864) gap_is
-
-  pub gap_fits : SFits w32 (gap a b)
-  gap_fits = rw gap_is (half_fits (a -ℤ b) (omega (arith, gap_small)))
-
-  most : lift (a -ℤ b) < 134217728
-  most = omega (arith, lift_most (a -ℤ b), gap_small)
-
-  raised_is : raised_gap a b ≡ pos (lift (a -ℤ b))
-  raised_is =
-      ap (λ (z : ℤ). z +ℤ pos 67108864) (to_z-of_z gap_fits ∙ gap_is) ∙ sym (lift_is (a -ℤ b) (omega (arith, gap_small)))
-
-  pub raised_fits : SFits w32 (raised_gap a b)
-  raised_fits = rw raised_is (half_fits (pos (lift (a -ℤ b))) (omega (arith, most)))
-
-  raised_back : to_z w32 (of_z w32 (raised_gap a b)) ≡ pos (lift (a -ℤ b))
-  raised_back = to_z-of_z raised_fits ∙ raised_is
-
-  pub raised_casts : T (non_neg (to_z w32 (of_z w32 (raised_gap a b)))) × Fits w32 (nat_abs (to_z w32 (of_z w32 (raised_gap a b))))
-  raised_casts = rw raised_back (tt, record { fits = omega (arith, most) })
-
-  pub raised_gives :
-      Raised (nat_abs (to_z w32 (of_z w32 (raised_gap a b)))) (a -ℤ b) × (nat_abs (to_z w32 (of_z w32 (raised_gap a b))) < 134217728)
-  raised_gives = rw raised_back (lift_is (a -ℤ b) (omega (arith, gap_small)), most)
 
 module _ (p q : Point) (hp : T (within (2 * limit) p)) (hq : T (within (2 * limit) q)) where
   pub raised_asks_x : (nat_abs (to_z w32 (of_z w32 p.x)) ≤ 2 * limit) × (nat_abs (to_z w32 (of_z w32 q.x)) ≤ 2 * limit)
@@ -147,41 +102,6 @@ module _ (a b c : Point) (u v w z : ℕ)
       (ap₂ ◌+ℤ◌ (ap₂ ◌*ℤ◌ hw hz) (ap (λ (x : ℤ). x *ℤ pos 67108864) (ap₂ ◌+ℤ◌ hu hv)))
       ∙ raise_sums (b.x -ℤ a.x) (c.y -ℤ a.y) (b.y -ℤ a.y) (c.x -ℤ a.x) (pos 67108864))
 
--- which of two sums is more
-module _ (m n : ℕ) where
-  balance : P (pos m -ℤ pos n) + n ≡ N (pos m -ℤ pos n) + m
-  balance = omega (arith, sub_balanceℤ (pos m) (pos n), pos_P m, pos_N m, pos_P n, pos_N n)
-
-  pub first_more : n < m → 2 ≡ turn_code (turn_of (pos m -ℤ pos n))
-  first_more h = ap turn_code (left_turn (pos m -ℤ pos n) (record { above = omega (arith, balance) }))
-
-  pub second_more : m < n → 0 ≡ turn_code (turn_of (pos m -ℤ pos n))
-  second_more h = ap turn_code (right_turn (pos m -ℤ pos n) (record { below = omega (arith, balance) }))
-
-  pub none_more : m ≡ n → 1 ≡ turn_code (turn_of (pos m -ℤ pos n))
-  none_more e = ap turn_code (no_turn (pos m -ℤ pos n) (ap (λ (k : ℕ). pos k -ℤ pos n) e ∙ solve (pos n ∷ []) (var 0 :- var 0) (con (pos 0)) tt))
-
--- ---- a turn by its number
-pub coded_left : (t : Turn) → 1 < turn_code t → Left ≡ t
-coded_left Left h = refl
-coded_left Straight h = absurd (omega (arith, h))
-coded_left Right h = absurd (omega (arith, h))
-
-pub coded_right : (t : Turn) → turn_code t < 1 → Right ≡ t
-coded_right Left h = absurd (omega (arith, h))
-coded_right Straight h = absurd (omega (arith, h))
-coded_right Right h = refl
-
-pub coded_straight : (t : Turn) → turn_code t ≤ 1 → 1 ≤ turn_code t → Straight ≡ t
-coded_straight Left h k = absurd (omega (arith, h))
-coded_straight Straight h k = refl
-coded_straight Right h k = absurd (omega (arith, k))
-
-pub coded_in_line : (t : Turn) → eqb (turn_code t) 1 ≡ is_straight t
-coded_in_line Left = refl
-coded_in_line Straight = refl
-coded_in_line Right = refl
-
 -- a point is read back from its bits
 pub point_back : (p : Point) → Held p → at (to_z w32 (of_z w32 p.x)) (to_z w32 (of_z w32 p.y)) ≡ p
 point_back p h = ap₂ at (to_z-of_z h.x_fits) (to_z-of_z h.y_fits)
@@ -199,15 +119,6 @@ told_under t e = record { over = λ q. absurd (clash q); under = λ q. sym e }
     clash : Under ≡ Over → ⊥
     clash q = let z : ◌≡◌ {A = ℕ} 0 1 = cc in omega arith
 
-pub told_nothing : (t : Turn) → Told Neither t
-told_nothing t = record { over = λ q. absurd (not_over q); under = λ q. absurd (not_under q) }
-  where
-    not_over : Neither ≡ Over → ⊥
-    not_over q = let z : ◌≡◌ {A = ℕ} 0 1 = cc in omega arith
-
-    not_under : Neither ≡ Under → ⊥
-    not_under q = let z : ◌≡◌ {A = ℕ} 0 1 = cc in omega arith
-
 -- ---- over and under the box of a and b: the side value is a sum of two products of one sign
 weighed : {p q r t : ℤ} → NonNeg p → NonNeg q → Pos (p +ℤ q) → Pos r → Pos t → Pos (p *ℤ r +ℤ q *ℤ t)
 weighed {p} {q} {r} {t} hp hq h hr ht = go (weak hp)
@@ -219,9 +130,9 @@ weighed {p} {q} {r} {t} hp hq h hr ht = go (weak hp)
     go (weak_zero e) = nonneg_add_pos (nonneg_mul hp (pos_nonneg hr)) (pos_mul (rest e) ht)
     go (weak_plus k) = pos_add_nonneg (pos_mul k hr) (nonneg_mul hq (pos_nonneg ht))
 
-module _ (a b c : Point) (spanned : T (lt_z a.x b.x && (le_z a.x c.x && le_z c.x b.x))) where
+module _ (a b c : Point) (spanned : (lt_z a.x b.x && (le_z a.x c.x && le_z c.x b.x)) ≡ true) where
   between : T (le_z a.x c.x && le_z c.x b.x)
-  between = and_right (lt_z a.x b.x) (le_z a.x c.x && le_z c.x b.x) spanned
+  between = and_right (lt_z a.x b.x) (le_z a.x c.x && le_z c.x b.x) (is_true _ spanned)
 
   after : NonNeg (c.x -ℤ a.x)
   after = le_z_nonneg a.x c.x (and_left (le_z a.x c.x) (le_z c.x b.x) between)
@@ -232,23 +143,23 @@ module _ (a b c : Point) (spanned : T (lt_z a.x b.x && (le_z a.x c.x && le_z c.x
   wide : Pos (b.x -ℤ c.x +ℤ (c.x -ℤ a.x))
   wide =
       subst Pos (solve (a.x ∷ b.x ∷ c.x ∷ []) (var 1 :- var 0) (var 1 :- var 2 :+ (var 2 :- var 0)) tt)
-      (lt_z_pos a.x b.x (and_left (lt_z a.x b.x) (le_z a.x c.x && le_z c.x b.x) spanned))
+      (lt_z_pos a.x b.x (and_left (lt_z a.x b.x) (le_z a.x c.x && le_z c.x b.x) (is_true _ spanned)))
 
-  pub over_box : T (lt_z a.y c.y && lt_z b.y c.y) → Left ≡ turn a b c
+  pub over_box : lt_z a.y c.y ≡ true → lt_z b.y c.y ≡ true → Left ≡ turn a b c
   unfolding turn side
-  over_box h =
+  over_box h k =
       left_turn (side a b c)
       (subst Pos
       (solve (a.x ∷ a.y ∷ b.x ∷ b.y ∷ c.x ∷ c.y ∷ [])
       ((var 2 :- var 4) :* (var 5 :- var 1) :+ (var 4 :- var 0) :* (var 5 :- var 3))
       ((var 2 :- var 0) :* (var 5 :- var 1) :- (var 3 :- var 1) :* (var 4 :- var 0)) tt)
       (weighed upto after wide
-      (lt_z_pos a.y c.y (and_left (lt_z a.y c.y) (lt_z b.y c.y) h))
-      (lt_z_pos b.y c.y (and_right (lt_z a.y c.y) (lt_z b.y c.y) h))))
+      (lt_z_pos a.y c.y (is_true _ h))
+      (lt_z_pos b.y c.y (is_true _ k))))
 
-  pub under_box : T (lt_z c.y a.y && lt_z c.y b.y) → Right ≡ turn a b c
+  pub under_box : lt_z c.y a.y ≡ true → lt_z c.y b.y ≡ true → Right ≡ turn a b c
   unfolding turn side
-  under_box h =
+  under_box h k =
       right_turn (side a b c)
       (neg_of_pos (side a b c)
       (subst Pos
@@ -256,8 +167,8 @@ module _ (a b c : Point) (spanned : T (lt_z a.x b.x && (le_z a.x c.x && le_z c.x
       ((var 2 :- var 4) :* (var 1 :- var 5) :+ (var 4 :- var 0) :* (var 3 :- var 5))
       (opp ((var 2 :- var 0) :* (var 5 :- var 1) :- (var 3 :- var 1) :* (var 4 :- var 0))) tt)
       (weighed upto after wide
-      (lt_z_pos c.y a.y (and_left (lt_z c.y a.y) (lt_z c.y b.y) h))
-      (lt_z_pos c.y b.y (and_right (lt_z c.y a.y) (lt_z c.y b.y) h)))))
+      (lt_z_pos c.y a.y (is_true _ h))
+      (lt_z_pos c.y b.y (is_true _ k)))))
 
 -- ---- one of the two ends
 module _ (a b c : Point) where
@@ -265,37 +176,18 @@ module _ (a b c : Point) where
   abbrev side_by : ℤ → ℤ → ℤ
   side_by x y = (b.x -ℤ a.x) *ℤ (y -ℤ a.y) -ℤ (b.y -ℤ a.y) *ℤ (x -ℤ a.x)
 
-  at_point : (e : Point) → T (is_same_point e c) → side_by e.x e.y ≡ pos 0 → Straight ≡ turn a b c
-  unfolding turn side is_same_point
-  at_point e h q =
-      no_turn (side a b c)
-      (sym (ap₂ side_by
-      (eq_z_read e.x c.x (and_left (eq_z e.x c.x) (eq_z e.y c.y) h))
-      (eq_z_read e.y c.y (and_right (eq_z e.x c.x) (eq_z e.y c.y) h)))
-      ∙ q)
+  at_point : (e : Point) → e.x ≡ c.x → e.y ≡ c.y → side_by e.x e.y ≡ pos 0 → Straight ≡ turn a b c
+  unfolding turn side
+  at_point e h k q = no_turn (side a b c) (sym (ap₂ side_by h k) ∙ q)
 
-  pub at_second : T (is_same_point b c) → Straight ≡ turn a b c
-  at_second h =
-      at_point b h
+  pub at_second : b.x ≡ c.x → b.y ≡ c.y → Straight ≡ turn a b c
+  at_second h k =
+      at_point b h k
       (solve (a.x ∷ a.y ∷ b.x ∷ b.y ∷ [])
       ((var 2 :- var 0) :* (var 3 :- var 1) :- (var 3 :- var 1) :* (var 2 :- var 0)) (con (pos 0)) tt)
 
-  pub at_first : T (is_same_point a c) → Straight ≡ turn a b c
-  at_first h =
-      at_point a h
+  pub at_first : a.x ≡ c.x → a.y ≡ c.y → Straight ≡ turn a b c
+  at_first h k =
+      at_point a h k
       (solve (a.x ∷ a.y ∷ b.x ∷ b.y ∷ [])
       ((var 2 :- var 0) :* (var 1 :- var 1) :- (var 3 :- var 1) :* (var 0 :- var 0)) (con (pos 0)) tt)
-
--- ---- two tests of numbers that the machine reads from their bits, one after the other
-pub both : {a b a' b' : Bool} → a' ≡ a → b' ≡ b → a' ≡ true → b' ≡ (a && b)
-both {a} {b} p q e = q ∙ ap (λ (x : Bool). x && b) (sym e ∙ p)
-
-pub first_not : {a a' : Bool} (b : Bool) → a' ≡ a → a' ≡ false → a' ≡ (a && b)
-first_not b p e = e ∙ ap (λ (x : Bool). x && b) (sym e ∙ p)
-
-module _ {a b : ℤ} (f : SFits w32 a) (g : SFits w32 b) where
-  pub below_read : lt_z (to_z w32 (of_z w32 a)) (to_z w32 (of_z w32 b)) ≡ lt_z a b
-  below_read = ap₂ lt_z (to_z-of_z f) (to_z-of_z g)
-
-  pub upto_read : le_z (to_z w32 (of_z w32 a)) (to_z w32 (of_z w32 b)) ≡ le_z a b
-  upto_read = ap₂ le_z (to_z-of_z f) (to_z-of_z g)

@@ -51,12 +51,17 @@ turn_of (negsuc n) = Right
 unfoldable pub turn : Point → Point → Point → Turn
 turn a b c = turn_of (side a b c)
 
--- a turn as a number, and a point by its coordinates, for the inside of the side test
-abbrev pub turn_code : Turn → ℕ
-turn_code Right = 0
-turn_code Straight = 1
-turn_code Left = 2
+-- is a side value that of such a turn?
+abbrev pub turned : Turn → ℤ → Bool
+turned Left z = lt_z (pos 0) z
+turned Straight z = eq_z z (pos 0)
+turned Right z = lt_z z (pos 0)
 
+-- what is asked of three points for their side value: coordinates up to twice the limit, as those of midpoints are, which are held doubled
+abbrev pub InDoubledRange : Point → Point → Point → Type 0
+InDoubledRange a b c = T (within (2 * limit) a) × T (within (2 * limit) b) × T (within (2 * limit) c)
+
+-- a point by its coordinates, for the inside of the side test
 abbrev pub at : ℤ → ℤ → Point
 at x y = record { x = x; y = y }
 

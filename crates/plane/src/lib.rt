@@ -1,73 +1,87 @@
 // The plane of document 01, exactly: its types, and the tests on points and turns, each proved equal to its definition in specs/Plane.antt.
 // The tests on segments are those of `plane_segments`.
-// Every sign of a side value is read off `turn_code`.
+// Every sign of a side value is read off `turn_at`.
 #![tactic(auto)]
 
 ghost use Rattle.std.specs.Prelude.{◌≡◌, ◌&&◌, ◌+◌, ◌*◌, ◌<◌, ◌≤◌, T, leb, pos, nat_abs, ◌+ℤ◌, ◌-ℤ◌};
 ghost use Rattle.std.specs.Int.Signed.{lt_z, le_z};
 ghost use Rattle.whole.specs.Count.{eq_z};
-ghost use Rattle.plane.specs.Plane.{limit, within, in_range, before, is_same_point, is_same_segment, side, at, turn_of, turn, turn_code, Told};
+ghost use Rattle.plane.specs.Plane.{limit, within, in_range, before, is_same_point, is_same_segment, side, at, turn_of, turn, turned, InDoubledRange, Told};
+
+use std::cmp::Ordering;
 
 // The largest coordinate, and minus the smallest.
 pub const LIMIT: i32 = 10_000_000;
 
 // A grid point.
-#[derive(Clone, Copy)]
+#[derive(Clone, Copy, PartialEq, Eq, PartialOrd, Ord)]
 pub struct Point {
     pub x: i32,
     pub y: i32,
 }
 
 // A segment, its left end strictly before its right end.
-#[derive(Clone, Copy)]
+#[derive(Clone, Copy, PartialEq, Eq)]
 pub struct Segment {
     pub left: Point,
     pub right: Point,
 }
 
 // One of the two halfsegments of a segment: the left one has d = 1 in a scene's bytes.
-#[derive(Clone, Copy)]
+#[derive(Clone, Copy, PartialEq, Eq)]
 pub struct Halfsegment {
     pub segment: Segment,
     pub is_left: bool,
 }
 
 // The way that the path from a point through a second to a third turns at the second.
-#[derive(Clone, Copy)]
+#[derive(Clone, Copy, PartialEq, Eq)]
 pub enum Turn {
     Left,
     Straight,
     Right,
 }
 
-pub fn is_coordinate(v: i32) -> bool
-    ensures { result ≡ leb (nat_abs v) limit }
+// Is v at most `most` in size?
+pub fn is_coordinate(v: i32, most: u32) -> bool
+    ensures { result ≡ leb (nat_abs v) most }
 {
-    -LIMIT <= v && v <= LIMIT
+    v.unsigned_abs() <= most
+}
+
+// Are both coordinates? A scene's limit is one such number, an estimate's another.
+#[tactic(auto, unfolding(crate::specs::Plane::within))]
+pub fn is_within(p: Point, most: u32) -> bool
+    ensures { result ≡ within most p }
+{
+    is_coordinate(p.x, most) && is_coordinate(p.y, most)
 }
 
 pub fn is_in_range(p: Point) -> bool
     ensures { result ≡ in_range p }
 {
-    is_coordinate(p.x) && is_coordinate(p.y)
+    is_within(p, LIMIT as u32)
 }
 
+#[tactic(auto, unfolding(crate::specs::Plane::before))]
 pub fn is_before(p: Point, q: Point) -> bool
     ensures { result ≡ before p q }
 {
-    if p.x == q.x { p.y < q.y } else { p.x < q.x }
+    p < q
 }
 
+#[tactic(auto, unfolding(crate::specs::Plane::is_same_point))]
 pub fn is_same_point(p: Point, q: Point) -> bool
     ensures { result ≡ is_same_point p q }
 {
-    p.x == q.x && p.y == q.y
+    p == q
 }
 
+#[tactic(auto, using(crate::proofs::Compared::same_segments))]
 pub fn is_same_segment(s: Segment, t: Segment) -> bool
     ensures { result ≡ is_same_segment s t }
 {
-    is_same_point(s.left, t.left) && is_same_point(s.right, t.right)
+    s == t
 }
 
 fn difference(a: i32, b: i32) -> i64
@@ -78,7 +92,7 @@ fn difference(a: i32, b: i32) -> i64
 
 // The side value. It fits for points with doubled coordinates too.
 pub fn side(a: Point, b: Point, c: Point) -> i64
-    requires { T (within (2 * limit) a) × T (within (2 * limit) b) × T (within (2 * limit) c) }
+    requires { InDoubledRange a b c }
     ensures { result ≡ side a b c }
 {
     difference(b.x, a.x) * difference(c.y, a.y) - difference(b.y, a.y) * difference(c.x, a.x)
@@ -120,20 +134,17 @@ fn product(u: u32, v: u32) -> u64
     (high << 32) + (middle << 16) + low
 }
 
-// The turn by the products of raised differences, as a number. With each difference raised by the same, the side value is what the first sum has above
-// the second.
-fn turn_by_products(u: u32, v: u32, w: u32, z: u32) -> u32
+// The turn by the products of raised differences. With each difference raised by the same, the side value is what the first sum has above the second.
+fn turn_by_products(u: u32, v: u32, w: u32, z: u32) -> Turn
     requires { (u < 134217728) × (v < 134217728) × (w < 134217728) × (z < 134217728) }
-    ensures { result ≡ turn_code (turn_of (pos (u * v + (w + z) * 67108864) -ℤ pos (w * z + (u + v) * 67108864))) }
+    ensures { result ≡ turn_of (pos (u * v + (w + z) * 67108864) -ℤ pos (w * z + (u + v) * 67108864)) }
 {
     let first = product(u, v) + ((w as u64 + z as u64) << 26);
     let second = product(w, z) + ((u as u64 + v as u64) << 26);
-    if second < first {
-        2
-    } else if first < second {
-        0
-    } else {
-        1
+    match first.cmp(&second) {
+        Ordering::Greater => Turn::Left,
+        Ordering::Equal => Turn::Straight,
+        Ordering::Less => Turn::Right,
     }
 }
 
@@ -151,7 +162,7 @@ fn spans(m: i32, n: i32, x: i32) -> bool
 }
 
 // Where c is beside the box of a and b: over it or under it, and within its width. Most turns of a walk are told by that, and need no product.
-#[derive(Clone, Copy)]
+#[derive(Clone, Copy, PartialEq, Eq)]
 pub enum Beside {
     Over,
     Under,
@@ -162,30 +173,27 @@ pub enum Beside {
 pub fn beside_box(ax: i32, ay: i32, bx: i32, by: i32, cx: i32, cy: i32) -> Beside
     ensures { Told result (turn (at ax ay) (at bx by) (at cx cy)) }
 {
-    if spans(ax, bx, cx) {
-        if cy < ay {
-            if cy < by {
-                return Beside::Under;
-            }
-        } else if by < cy {
-            if ay < cy {
-                return Beside::Over;
-            }
-        }
+    if !spans(ax, bx, cx) {
+        Beside::Neither
+    } else if cy < ay && cy < by {
+        Beside::Under
+    } else if ay < cy && by < cy {
+        Beside::Over
+    } else {
+        Beside::Neither
     }
-    Beside::Neither
 }
 
-// The turn where c may be one of the two, as a number.
-fn turn_by_ends(ax: i32, ay: i32, bx: i32, by: i32, cx: i32, cy: i32) -> u32
-    requires { T (within (2 * limit) (at ax ay)) × T (within (2 * limit) (at bx by)) × T (within (2 * limit) (at cx cy)) }
-    ensures { result ≡ turn_code (turn (at ax ay) (at bx by) (at cx cy)) }
+// The turn where c may be one of the two.
+fn turn_by_ends(ax: i32, ay: i32, bx: i32, by: i32, cx: i32, cy: i32) -> Turn
+    requires { InDoubledRange (at ax ay) (at bx by) (at cx cy) }
+    ensures { result ≡ turn (at ax ay) (at bx by) (at cx cy) }
 {
-    if is_same_point(Point { x: bx, y: by }, Point { x: cx, y: cy }) {
-        return 1;
+    if bx == cx && by == cy {
+        return Turn::Straight;
     }
-    if is_same_point(Point { x: ax, y: ay }, Point { x: cx, y: cy }) {
-        return 1;
+    if ax == cx && ay == cy {
+        return Turn::Straight;
     }
     turn_by_products(
         raised(bx, ax),
@@ -195,37 +203,38 @@ fn turn_by_ends(ax: i32, ay: i32, bx: i32, by: i32, cx: i32, cy: i32) -> u32
     )
 }
 
-// The turn at b of the path from a through b to c, as a number.
-fn turn_code(ax: i32, ay: i32, bx: i32, by: i32, cx: i32, cy: i32) -> u32
-    requires { T (within (2 * limit) (at ax ay)) × T (within (2 * limit) (at bx by)) × T (within (2 * limit) (at cx cy)) }
-    ensures { result ≡ turn_code (turn (at ax ay) (at bx by) (at cx cy)) }
+// The turn by coordinates, for the same reason.
+fn turn_at(ax: i32, ay: i32, bx: i32, by: i32, cx: i32, cy: i32) -> Turn
+    requires { InDoubledRange (at ax ay) (at bx by) (at cx cy) }
+    ensures { result ≡ turn (at ax ay) (at bx by) (at cx cy) }
 {
     match beside_box(ax, ay, bx, by, cx, cy) {
-        Beside::Over => 2,
-        Beside::Under => 0,
+        Beside::Over => Turn::Left,
+        Beside::Under => Turn::Right,
         Beside::Neither => turn_by_ends(ax, ay, bx, by, cx, cy),
     }
 }
 
 // The turn at b of the path from a through b to c.
 pub fn turn_from(a: Point, b: Point, c: Point) -> Turn
-    requires { T (within (2 * limit) a) × T (within (2 * limit) b) × T (within (2 * limit) c) }
+    requires { InDoubledRange a b c }
     ensures { result ≡ turn a b c }
 {
-    let code = turn_code(a.x, a.y, b.x, b.y, c.x, c.y);
-    if 1 < code {
-        Turn::Left
-    } else if code < 1 {
-        Turn::Right
-    } else {
-        Turn::Straight
-    }
+    turn_at(a.x, a.y, b.x, b.y, c.x, c.y)
+}
+
+// Does it turn that way there?
+pub fn turns(a: Point, b: Point, c: Point, way: Turn) -> bool
+    requires { InDoubledRange a b c }
+    ensures { result ≡ turned way (side a b c) }
+{
+    turn_from(a, b, c) == way
 }
 
 // Is c on the line through a and b?
 pub fn is_in_line(a: Point, b: Point, c: Point) -> bool
-    requires { T (within (2 * limit) a) × T (within (2 * limit) b) × T (within (2 * limit) c) }
+    requires { InDoubledRange a b c }
     ensures { result ≡ eq_z (side a b c) (pos 0) }
 {
-    turn_code(a.x, a.y, b.x, b.y, c.x, c.y) == 1
+    turns(a, b, c, Turn::Straight)
 }

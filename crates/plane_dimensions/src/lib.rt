@@ -6,7 +6,7 @@ ghost use Rattle.std.specs.Prelude.{◌≡◌};
 ghost use Rattle.plane_dimensions.specs.Dimensions.{sign};
 
 // Written F, 0, 1 and 2.
-#[derive(Clone, Copy)]
+#[derive(Clone, Copy, PartialEq, Eq)]
 pub enum Dimension {
     Empty,
     Points,
@@ -14,13 +14,21 @@ pub enum Dimension {
     Area,
 }
 
+impl From<Dimension> for u8 {
+    ghost from_gives = { λ dimension byte. byte ≡ sign dimension };
+
+    fn from(dimension: Dimension) -> u8 {
+        match dimension {
+            Dimension::Empty => b'F',
+            Dimension::Points => b'0',
+            Dimension::Length => b'1',
+            Dimension::Area => b'2',
+        }
+    }
+}
+
 pub fn sign(d: Dimension) -> u8
     ensures { result ≡ sign d }
 {
-    match d {
-        Dimension::Empty => b'F',
-        Dimension::Points => b'0',
-        Dimension::Length => b'1',
-        Dimension::Area => b'2',
-    }
+    u8::from(d)
 }

@@ -4,34 +4,27 @@
 
 ghost use Rattle.std.specs.Prelude.{◌≡◌, ◌||◌, ◌*◌, T, pos, ◌+ℤ◌};
 ghost use Rattle.std.specs.Int.Signed.{lt_z};
-ghost use Rattle.plane.specs.Plane.{limit, within, in_range, segment_in_range, side, dominating, far_end, comes_before};
+ghost use Rattle.plane.specs.Plane.{limit, within, in_range, segment_in_range, side, InDoubledRange, dominating, far_end, comes_before};
 ghost use Rattle.plane.specs.Plane.{grid, halved, midpoint, on, is_end, counts_below, counts_below_left, opposite, cross, end_within, touch};
 
 use plane::{Halfsegment, Point, Segment, Turn};
 
 // Is c strictly to the left of the ray from a through b?
 pub fn is_left_of(a: Point, b: Point, c: Point) -> bool
-    requires { T (within (2 * limit) a) × T (within (2 * limit) b) × T (within (2 * limit) c) }
+    requires { InDoubledRange a b c }
     ensures { result ≡ lt_z (pos 0) (side a b c) }
 {
-    match plane::turn_from(a, b, c) {
-        Turn::Left => true,
-        Turn::Straight => false,
-        Turn::Right => false,
-    }
+    plane::turns(a, b, c, Turn::Left)
 }
 
 pub fn is_right_of(a: Point, b: Point, c: Point) -> bool
-    requires { T (within (2 * limit) a) × T (within (2 * limit) b) × T (within (2 * limit) c) }
+    requires { InDoubledRange a b c }
     ensures { result ≡ lt_z (side a b c) (pos 0) }
 {
-    match plane::turn_from(a, b, c) {
-        Turn::Left => false,
-        Turn::Straight => false,
-        Turn::Right => true,
-    }
+    plane::turns(a, b, c, Turn::Right)
 }
 
+#[tactic(auto, unfolding(plane::specs::Plane::dominating))]
 pub fn dominating_point(h: Halfsegment) -> Point
     ensures { result ≡ dominating h }
 {
@@ -42,14 +35,15 @@ pub fn dominating_point(h: Halfsegment) -> Point
     }
 }
 
+// It dominates the other halfsegment.
+#[tactic(auto, unfolding(plane::specs::Plane::dominating, plane::specs::Plane::far_end))]
 pub fn far_end(h: Halfsegment) -> Point
     ensures { result ≡ far_end h }
 {
-    if h.is_left {
-        h.segment.right
-    } else {
-        h.segment.left
-    }
+    dominating_point(Halfsegment {
+        is_left: !h.is_left,
+        ..h
+    })
 }
 
 pub fn comes_before(h: Halfsegment, k: Halfsegment) -> bool
@@ -58,12 +52,12 @@ pub fn comes_before(h: Halfsegment, k: Halfsegment) -> bool
 {
     let p = dominating_point(h);
     let q = dominating_point(k);
-    if !plane::is_same_point(p, q) {
-        plane::is_before(p, q)
+    if p != q {
+        p < q
     } else if h.is_left != k.is_left {
         k.is_left
     } else {
-        is_left_of(p, far_end(h), far_end(k))
+        plane::turns(p, far_end(h), far_end(k), Turn::Left)
     }
 }
 
@@ -71,17 +65,14 @@ pub fn is_on(s: Segment, p: Point) -> bool
     requires { T (segment_in_range s) × T (in_range p) }
     ensures { result ≡ on s (grid p) }
 {
-    match plane::turn_from(s.left, s.right, p) {
-        Turn::Left => false,
-        Turn::Straight => !plane::is_before(p, s.left) && !plane::is_before(s.right, p),
-        Turn::Right => false,
-    }
+    plane::turns(s.left, s.right, p, Turn::Straight) && s.left <= p && p <= s.right
 }
 
+#[tactic(auto, using(plane::proofs::Compared::same_points, plane::proofs::Grid::end_grid))]
 pub fn is_end(s: Segment, p: Point) -> bool
     ensures { result ≡ is_end s (grid p) }
 {
-    plane::is_same_point(s.left, p) || plane::is_same_point(s.right, p)
+    s.left == p || s.right == p
 }
 
 fn sum(p: Point, q: Point) -> Point
@@ -111,22 +102,24 @@ pub fn doubled_midpoint(s: Segment) -> Point
 }
 
 // Does s count below the point whose doubled coordinates are m's?
+// Kept beside `counts_below_left`: they differ in which of the two ends' tests takes an equal x, and one function with a flag would say no more.
 pub fn counts_below(s: Segment, m: Point) -> bool
     requires { T (segment_in_range s) × T (within (2 * limit) m) }
     ensures { result ≡ counts_below (halved m) s }
 {
     let left = doubled(s.left);
     let right = doubled(s.right);
-    left.x <= m.x && m.x < right.x && is_left_of(left, right, m)
+    left.x <= m.x && m.x < right.x && plane::turns(left, right, m, Turn::Left)
 }
 
+// Does it count below the points just left of that one?
 pub fn counts_below_left(s: Segment, m: Point) -> bool
     requires { T (segment_in_range s) × T (within (2 * limit) m) }
     ensures { result ≡ counts_below_left (halved m) s }
 {
     let left = doubled(s.left);
     let right = doubled(s.right);
-    left.x < m.x && m.x <= right.x && is_left_of(left, right, m)
+    left.x < m.x && m.x <= right.x && plane::turns(left, right, m, Turn::Left)
 }
 
 // Does the line through s have p and q strictly on opposite sides?
@@ -135,12 +128,13 @@ fn separates(s: Segment, p: Point, q: Point) -> bool
     ensures { result ≡ opposite (side s.left s.right p) (side s.left s.right q) }
 {
     match plane::turn_from(s.left, s.right, p) {
-        Turn::Left => is_right_of(s.left, s.right, q),
+        Turn::Left => plane::turns(s.left, s.right, q, Turn::Right),
         Turn::Straight => false,
-        Turn::Right => is_left_of(s.left, s.right, q),
+        Turn::Right => plane::turns(s.left, s.right, q, Turn::Left),
     }
 }
 
+#[tactic(auto, unfolding(plane::specs::Plane::cross))]
 fn crosses(s: Segment, t: Segment) -> bool
     requires { T (segment_in_range s) × T (segment_in_range t) }
     ensures { result ≡ cross s t }
@@ -149,6 +143,7 @@ fn crosses(s: Segment, t: Segment) -> bool
 }
 
 // Is p on s and no end of it?
+#[tactic(auto, unfolding(plane::specs::Plane::end_within))]
 fn has_within(s: Segment, p: Point) -> bool
     requires { T (segment_in_range s) × T (in_range p) }
     ensures { result ≡ end_within s p }
@@ -164,12 +159,10 @@ fn has_end_within(s: Segment, t: Segment) -> bool
 }
 
 // Do s and t, if they are not the same, share a point that is not an end of both?
+#[tactic(auto, unfolding(plane::specs::Plane::touch), using(plane::proofs::Compared::same_segments))]
 pub fn touches(s: Segment, t: Segment) -> bool
     requires { T (segment_in_range s) × T (segment_in_range t) }
     ensures { result ≡ touch s t }
 {
-    if plane::is_same_segment(s, t) {
-        return false;
-    }
-    crosses(s, t) || has_end_within(s, t) || has_end_within(t, s)
+    s != t && (crosses(s, t) || has_end_within(s, t) || has_end_within(t, s))
 }

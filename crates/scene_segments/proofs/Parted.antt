@@ -3,15 +3,13 @@
 use native.Mathlib.Omega.{arith}
 use mathlib.Core.Path.{◌≡◌, sym, ap, ap₂, subst, ◌∙◌}
 use mathlib.Core.Logic.{⊎_elim}
-use mathlib.Core.Bool.{true, false, ◌&&◌}
+use mathlib.Core.Bool.{false, ◌&&◌}
 use mathlib.Core.List.{[], ◌∷◌}
 use lib.Dec.{T, T_not, le→leb}
-use lib.Signed.{lt_z, le_z}
 use lib.IntN.{ℤ, pos, neg_ℤ, ◌+ℤ◌, ◌-ℤ◌, ◌*ℤ◌, +ℤ_invr}
 use Rattle.whole.proofs.Solver.{var, con, opp, ◌:+◌, ◌:-◌, ◌:*◌, solve}
-use Rattle.whole.proofs.Sign.{Pos, NonNeg, Neg, Sign, minus, nought, plus, sign, pos_nonneg, zero_nonneg, neg_pos, pos_neg, nonneg_clash, nonneg_add, nonneg_mul, pos_mul, mul_zero_left, mul_zero_right, cancel_zero, cancel_zero_right, cancel_nonneg, pos_lit, lit_pos, lt_z_pos, le_z_nonneg, nonneg_le_z, lt_z_le_z}
-use borrow.Author.Tests.{not-false}
-use Rattle.whole.proofs.Logic.{and_make, is_true, true_is, refute}
+use Rattle.whole.proofs.Sign.{Pos, NonNeg, Neg, Sign, minus, nought, plus, sign, zero_nonneg, neg_pos, pos_neg, nonneg_clash, nonneg_add, nonneg_mul, pos_mul, mul_zero_left, mul_zero_right, cancel_zero, cancel_zero_right, cancel_nonneg, pos_lit, lit_pos, le_z_nonneg}
+use Rattle.whole.proofs.Logic.{and_make, true_is, refute}
 use Rattle.plane.specs.declared.Point.{Point}
 use Rattle.plane.specs.declared.Segment.{Segment}
 use Rattle.plane.specs.Plane.{HPoint, grid, fractions, is_same_segment, ordered, side, side_at, is_end, SharePoint, touch}
@@ -99,16 +97,6 @@ module _ (t u : Segment) (o : T (ordered t)) (o' : T (ordered u)) where
   pub parted_up : (c d : ℤ) → Pos (d -ℤ c)
       → NonNeg (c -ℤ t.left.y) → NonNeg (c -ℤ t.right.y) → NonNeg (u.left.y -ℤ d) → NonNeg (u.right.y -ℤ d) → (touch t u ≡ false) × (touch u t ≡ false)
   parted_up c d gap tl tr ul ur = no_touch (parted (λ q. q.Y) (λ e. e.y) (λ s p h. ap (λ q. q.Y) h.mean) t u c d o o' gap tl tr ul ur)
-
--- comparisons
-pub same_at_most : (a : ℤ) → T (le_z a a)
-same_at_most a = nonneg_le_z a a (zero_nonneg (+ℤ_invr a))
-
-pub less_at_most : (a b : ℤ) → lt_z a b ≡ true → T (le_z a b)
-less_at_most a b e = nonneg_le_z a b (pos_nonneg (lt_z_pos a b (is_true (lt_z a b) e)))
-
-pub not_less_at_most : (a b : ℤ) → lt_z a b ≡ false → T (le_z b a)
-not_less_at_most a b e = is_true (le_z b a) (not-false (le_z b a) (sym (lt_z_le_z a b) ∙ e))
 
 -- ---- by the line of one of them
 

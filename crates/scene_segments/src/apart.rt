@@ -10,21 +10,13 @@ use plane::{Point, Segment, Turn};
 fn low(t: Segment) -> i32
     ensures { T (le_z result t.left.y) × T (le_z result t.right.y) }
 {
-    if t.left.y < t.right.y {
-        t.left.y
-    } else {
-        t.right.y
-    }
+    t.left.y.min(t.right.y)
 }
 
 fn high(t: Segment) -> i32
     ensures { T (le_z t.left.y result) × T (le_z t.right.y result) }
 {
-    if t.left.y < t.right.y {
-        t.right.y
-    } else {
-        t.left.y
-    }
+    t.left.y.max(t.right.y)
 }
 
 // Do the upright boxes round them part t and u, which does not begin right of t?
@@ -32,13 +24,7 @@ fn are_boxes_apart(t: Segment, u: Segment) -> bool
     requires { T (ordered t) × T (ordered u) }
     ensures { result ≡ true → touch t u ≡ false }
 {
-    if u.right.x < t.left.x {
-        return true;
-    }
-    if high(t) < low(u) {
-        return true;
-    }
-    high(u) < low(t)
+    u.right.x < t.left.x || high(t) < low(u) || high(u) < low(t)
 }
 
 // Do both ends of u lie strictly on one side of the line through t?
@@ -46,11 +32,8 @@ fn is_beside(t: Segment, u: Segment) -> bool
     requires { T (segment_in_range t) × T (ordered t) × T (segment_in_range u) × T (ordered u) }
     ensures { result ≡ true → (touch t u ≡ false) × (touch u t ≡ false) }
 {
-    match plane::turn_from(t.left, t.right, u.left) {
-        Turn::Left => plane_segments::is_left_of(t.left, t.right, u.right),
-        Turn::Straight => false,
-        Turn::Right => plane_segments::is_right_of(t.left, t.right, u.right),
-    }
+    let way = plane::turn_from(t.left, t.right, u.left);
+    way != Turn::Straight && plane::turns(t.left, t.right, u.right, way)
 }
 
 // Is p off the line through t?
@@ -58,11 +41,7 @@ fn is_off(t: Segment, p: Point) -> bool
     requires { T (segment_in_range t) × T (in_range p) }
     ensures { result ≡ not (eq_z (side t.left t.right p) (pos 0)) }
 {
-    match plane::turn_from(t.left, t.right, p) {
-        Turn::Left => true,
-        Turn::Straight => false,
-        Turn::Right => true,
-    }
+    !plane::turns(t.left, t.right, p, Turn::Straight)
 }
 
 // Is one end of u an end of t, and the other off the line through t?
@@ -80,14 +59,5 @@ pub fn are_apart(t: Segment, u: Segment) -> bool
     requires { T (segment_in_range t) × T (ordered t) × T (segment_in_range u) × T (ordered u) }
     ensures { result ≡ true → touch t u ≡ false }
 {
-    if are_boxes_apart(t, u) {
-        return true;
-    }
-    if is_beside(t, u) {
-        return true;
-    }
-    if is_hinged(t, u) {
-        return true;
-    }
-    is_beside(u, t)
+    are_boxes_apart(t, u) || is_beside(t, u) || is_hinged(t, u) || is_beside(u, t)
 }
