@@ -1,6 +1,6 @@
 -- The parts of an accepted object's summary, and the answer by the scene that the object and an empty one form.
 use Rattle.check_verdict.specs.Refusals.{Verdict}
-use Rattle.flags_vectors.specs.Vectors.{SceneAnswer}
+use Rattle.flags_vectors.specs.Vectors.{SceneAnswer, with_vectors}
 use Prim.Native.Nat.{ℕ, ◌≤◌}
 use Rattle.std.specs.Prelude.{Result, Ok, Err}
 use native.Mathlib.Omega.{arith}
@@ -18,7 +18,8 @@ use Rattle.scene.specs.declared.Scene.{Scene}
 use Rattle.scene.specs.declared.Refusal.{Refusal}
 use Rattle.scene.specs.Read.{descends, read_alone}
 use Rattle.scene.specs.Conditions.{check_scene, check_object}
-use Rattle.scene.proofs.Taken.{longest, taken_alone, object_short, never_taken, same_scene}
+use Rattle.scene.proofs.Taken.{longest, taken_alone, object_short}
+use Rattle.scene.proofs.Outcomes.{never_taken, same_taken}
 use Rattle.scene.proofs.Given.{object_checked}
 use Rattle.check_verdict.specs.Refusals.{settle, object_verdict}
 use Rattle.check_verdict.proofs.Verdicts.{object_read}
@@ -117,7 +118,7 @@ module _ (s : List ℕ) (l : Layout) (read : read_alone s ≡ Ok l) where
     where
       go : (v : Verdict) → settle Err v (Ok (scene s l k read)) ≡ Ok sc
           → (settle Err v (Ok l) ≡ Ok l) × (scene s l k read ≡ sc)
-      go (Ok tt) q = (refl, same_scene q)
+      go (Ok tt) q = (refl, same_taken q)
       go (Err x) q = absurd (never_taken q)
 
   -- the answer to the scene, for the object
@@ -125,7 +126,7 @@ module _ (s : List ℕ) (l : Layout) (read : read_alone s ≡ Ok l) where
     pub refused_alone : (r : Refusal) → a ≡ Err r → check_object s ≡ Err r
     refused_alone r e = refused_beside r (was_refused Wanted.All all_tidy (s ++ empty_of k) is r e)
 
-    pub taken_so : (sc : Scene) (v : Vectors) → a ≡ Ok sc v → (check_object s ≡ Ok l) × (v.f ≡ beside_empty (summary_in s l))
+    pub taken_so : (sc : Scene) (v : Vectors) → a ≡ Ok (with_vectors sc v) → (check_object s ≡ Ok l) × (v.f ≡ beside_empty (summary_in s l))
     taken_so sc v e = (taken.0, ap (λ (v : Vectors). v.f) (all.1 ∙ ap (λ (x : Scene). vectors_in (s ++ empty_of k) x Wanted.All) (sym taken.1) ∙ sym told) ∙ vector)
       where
         all : (check_scene (s ++ empty_of k) ≡ Ok sc) × (v ≡ vectors_in (s ++ empty_of k) sc Wanted.All)
@@ -157,9 +158,9 @@ module _ (s : List ℕ) where
   abbrev Answered : Result Summary Refusal → Type 0
   Answered a = (a ≡ summary_answer_of s) × CheckedObjectMeans s (check_object s)
 
-  pub refused_answer : (r : Refusal) → check_object s ≡ Err r → Answered (Err r)
+  pub refused_answer : (r : Refusal) → check_object s ≡ Err r → {a : Result Summary Refusal} → a ≡ Err r → Answered a
   unfolding summary_answer_of
-  refused_answer r e = (sym (ap (summarized s) e), checked_object_means s)
+  refused_answer r e q = (q ∙ sym (ap (summarized s) e), checked_object_means s)
 
   pub made_answer : (l : Layout) → check_object s ≡ Ok l → {m : Summary} → m ≡ summary_in s l → Answered (Ok m)
   unfolding summary_answer_of

@@ -5,8 +5,8 @@ ghost use Rattle.flags_vectors.specs.Vectors.{answer_of};
 ghost use Rattle.summary_making.specs.Making.{empty_of};
 
 use flags_masks::Wanted;
-use flags_vectors::{SceneAnswer, question};
-use scene::{Shape, records};
+use flags_vectors::{SceneVectors, question};
+use scene::{Refusal, Shape, records};
 
 // The object, then an empty one, into a buffer that has room for both; and how many bytes they are.
 fn lay(s: &[u8], k: Shape, room: &mut [u8]) -> usize
@@ -19,7 +19,7 @@ fn lay(s: &[u8], k: Shape, room: &mut [u8]) -> usize
     n + 3
 }
 
-pub fn answer(s: &[u8], k: Shape) -> SceneAnswer
+pub fn answer(s: &[u8], k: Shape) -> Result<SceneVectors, Refusal>
     requires { length s.now ≤ longest }
     ensures { result ≡ answer_of (s.now ++ empty_of k) Wanted.All }
 {

@@ -3,7 +3,7 @@
 // object's boundary has a point: so the checks, and the rule of the boundary, are those of the vectors question.
 #![tactic(auto)]
 
-ghost use Rattle.std.specs.Prelude.{◌≡◌, not, []};
+ghost use Rattle.std.specs.Prelude.{◌≡◌, not, [], Ok};
 ghost use Rattle.scene.specs.Conditions.{check_object};
 ghost use Rattle.check_verdict.specs.SharedPoints.{CheckedObjectMeans};
 ghost use Rattle.flags.specs.Flags.{Elements, pack};
@@ -11,9 +11,8 @@ ghost use Rattle.summary.specs.Summary.{flags_f, shape_of, has_boundary, is_empt
 ghost use Rattle.summary_objects.specs.Objects.{summary_in};
 ghost use Rattle.summary_making.specs.Making.{beside_empty, summary_answer_of};
 
-use flags_vectors::SceneAnswer;
 use plane::Point;
-use scene::{CheckedObject, Layout, Refusal, Shape};
+use scene::{Layout, Refusal, Shape};
 use summary::{Bounds, Summary};
 
 pub mod beside;
@@ -71,11 +70,7 @@ fn made(s: &[u8], l: Layout, v: u16) -> Summary
 pub fn summarize(s: &[u8]) -> Result<Summary, Refusal>
     ensures { (result ≡ summary_answer_of s.now) × CheckedObjectMeans s.now (check_object s.now) }
 {
-    match scene_reading::read_alone(s) {
-        CheckedObject::Refused(r) => Err(r),
-        CheckedObject::Taken(l) => match beside::answer(s, l.shape) {
-            SceneAnswer::Refused(r) => Err(r),
-            SceneAnswer::Taken { scene: _, vectors } => Ok(made(s, l, vectors.f)),
-        },
-    }
+    let l = scene_reading::read_alone(s)?;
+    let answer = beside::answer(s, l.shape)?;
+    Ok(made(s, l, answer.vectors.f))
 }
