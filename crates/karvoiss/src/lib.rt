@@ -17,16 +17,17 @@ ghost use Rattle.karvoiss.specs.Answer.{vectors_for_c, row_signs, signs, cells_f
 ghost use Rattle.estimate.specs.Estimate.{estimated, EstimateHolds};
 ghost use Rattle.summary_window.specs.Window.{answer_of, BadRight, HitsRight};
 
-use cells::CellsAnswer;
-use cells_pattern::RelateAnswer;
-use flags_vectors::{VectorsAnswer, question};
+use areas::sums::Sums;
+use cells::Explored;
+use flags_vectors::{Vectors, question};
 use plane::Point;
 use plane_dimensions::{Dimension, sign};
-use summary::Answer;
-use summary_making::SummaryAnswer;
+use scene::Refusal;
+use summary::Summary;
 use summary_record::writing;
-use summary_window::Window;
+use summary_window::{InWindow, Window};
 
+// Each struct that C gets is made from the answer of its question: number 0 and the values, or a refusal's number and place with zeros beside them.
 #[repr(C)]
 #[derive(Clone, Copy)]
 pub struct KarvoissVectors {
@@ -36,6 +37,27 @@ pub struct KarvoissVectors {
     pub g: u16,
 }
 
+impl From<Result<Vectors, Refusal>> for KarvoissVectors {
+    ghost from_gives = { λ answer c. c ≡ vectors_for_c answer };
+
+    fn from(answer: Result<Vectors, Refusal>) -> KarvoissVectors {
+        match answer {
+            Ok(v) => KarvoissVectors {
+                number: 0,
+                place: 0,
+                f: v.f,
+                g: v.g,
+            },
+            Err(r) => KarvoissVectors {
+                number: r.number as u32,
+                place: r.place,
+                f: 0,
+                g: 0,
+            },
+        }
+    }
+}
+
 // The vectors question: for every byte string and every two masks the whole answer; no flag is wrong; and what the verdict says in points.
 #[unsafe(no_mangle)]
 pub extern "C" fn karvoiss_vectors(scene: &[u8], want_f: u16, want_g: u16) -> KarvoissVectors
@@ -43,20 +65,7 @@ pub extern "C" fn karvoiss_vectors(scene: &[u8], want_f: u16, want_g: u16) -> Ka
         × NoFlagWrong scene.now want_f want_g result.f result.g
         × CheckedMeans scene.now (check_vectors scene.now (these want_f want_g)) }
 {
-    match question::vectors(scene, want_f, want_g) {
-        VectorsAnswer::Taken(v) => KarvoissVectors {
-            number: 0,
-            place: 0,
-            f: v.f,
-            g: v.g,
-        },
-        VectorsAnswer::Refused(r) => KarvoissVectors {
-            number: r.number as u32,
-            place: r.place,
-            f: 0,
-            g: 0,
-        },
-    }
+    question::vectors(scene, want_f, want_g).into()
 }
 
 #[repr(C)]
@@ -80,14 +89,23 @@ fn signs(m: [[Dimension; 3]; 3]) -> [[u8; 3]; 3]
     [row_signs(m[0]), row_signs(m[1]), row_signs(m[2])]
 }
 
-// The answer as C gets it.
-fn handed(number: u32, place: usize, cell: [[u8; 3]; 3]) -> KarvoissCells
-    ensures { result ≡ record { number = number; place = place; cell = cell } }
-{
-    KarvoissCells {
-        number,
-        place,
-        cell,
+impl From<Result<Explored, Refusal>> for KarvoissCells {
+    ghost from_gives = { λ answer c. c ≡ cells_for_c answer };
+
+    fn from(answer: Result<Explored, Refusal>) -> KarvoissCells {
+        let cell = signs(cells::question::cells(answer));
+        match answer {
+            Ok(_) => KarvoissCells {
+                number: 0,
+                place: 0,
+                cell,
+            },
+            Err(r) => KarvoissCells {
+                number: r.number as u32,
+                place: r.place,
+                cell,
+            },
+        }
     }
 }
 
@@ -98,12 +116,7 @@ pub extern "C" fn karvoiss_cells(scene: &[u8]) -> KarvoissCells
         × NoSignWrong scene.now result.cell
         × CheckedMeans scene.now (check_scene scene.now) }
 {
-    let answer = cells::question::explore(scene);
-    let cell = signs(cells::question::cells(answer));
-    match answer {
-        CellsAnswer::Taken(_) => handed(0, 0, cell),
-        CellsAnswer::Refused(r) => handed(r.number as u32, r.place, cell),
-    }
+    cells::question::explore(scene).into()
 }
 
 #[repr(C)]
@@ -114,13 +127,22 @@ pub struct KarvoissRelate {
     pub holds: bool,
 }
 
-fn related(number: u32, place: usize, holds: bool) -> KarvoissRelate
-    ensures { result ≡ record { number = number; place = place; holds = holds } }
-{
-    KarvoissRelate {
-        number,
-        place,
-        holds,
+impl From<Result<bool, Refusal>> for KarvoissRelate {
+    ghost from_gives = { λ answer c. c ≡ relate_for_c answer };
+
+    fn from(answer: Result<bool, Refusal>) -> KarvoissRelate {
+        match answer {
+            Ok(holds) => KarvoissRelate {
+                number: 0,
+                place: 0,
+                holds,
+            },
+            Err(r) => KarvoissRelate {
+                number: r.number as u32,
+                place: r.place,
+                holds: false,
+            },
+        }
     }
 }
 
@@ -131,10 +153,7 @@ pub extern "C" fn karvoiss_relate(scene: &[u8], pattern: &[u8]) -> KarvoissRelat
         × NoPatternWrong scene.now pattern.now result.holds
         × CheckedMeans scene.now (check_relate scene.now pattern.now) }
 {
-    match cells_pattern::question::relate(scene, pattern) {
-        RelateAnswer::Taken(holds) => related(0, 0, holds),
-        RelateAnswer::Refused(r) => related(r.number as u32, r.place, false),
-    }
+    cells_pattern::question::relate(scene, pattern).into()
 }
 
 #[repr(C)]
@@ -145,6 +164,25 @@ pub struct KarvoissOverlap {
     pub count: usize,
 }
 
+impl From<Result<usize, Refusal>> for KarvoissOverlap {
+    ghost from_gives = { λ answer c. c ≡ overlap_for_c answer };
+
+    fn from(answer: Result<usize, Refusal>) -> KarvoissOverlap {
+        match answer {
+            Ok(count) => KarvoissOverlap {
+                number: 0,
+                place: 0,
+                count,
+            },
+            Err(r) => KarvoissOverlap {
+                number: r.number as u32,
+                place: r.place,
+                count: 0,
+            },
+        }
+    }
+}
+
 // The overlap list question, into a lent buffer.
 #[unsafe(no_mangle)]
 pub extern "C" fn karvoiss_overlap(scene: &[u8], list: &mut [u8]) -> KarvoissOverlap
@@ -152,12 +190,7 @@ pub extern "C" fn karvoiss_overlap(scene: &[u8], list: &mut [u8]) -> KarvoissOve
         × (list.new ≡ buffer_after scene.now list.old)
         × CheckedMeans scene.now (check_list scene.now (length list.old)) }
 {
-    let answer = overlap::overlap_list(scene, list);
-    KarvoissOverlap {
-        number: answer.number as u32,
-        place: answer.place,
-        count: answer.count,
-    }
+    overlap::overlap_list(scene, list).into()
 }
 
 #[repr(C)]
@@ -170,6 +203,29 @@ pub struct KarvoissAreas {
     pub g_only: i64,
 }
 
+impl From<Result<Sums, Refusal>> for KarvoissAreas {
+    ghost from_gives = { λ answer c. c ≡ areas_for_c answer };
+
+    fn from(answer: Result<Sums, Refusal>) -> KarvoissAreas {
+        match answer {
+            Ok(sums) => KarvoissAreas {
+                number: 0,
+                place: 0,
+                both: sums.both,
+                f_only: sums.f_only,
+                g_only: sums.g_only,
+            },
+            Err(r) => KarvoissAreas {
+                number: r.number as u32,
+                place: r.place,
+                both: 0,
+                f_only: 0,
+                g_only: 0,
+            },
+        }
+    }
+}
+
 // The areas question: for every byte string the whole answer; two of the areas make up each region; and what the verdict says in points.
 #[unsafe(no_mangle)]
 pub extern "C" fn karvoiss_areas(scene: &[u8]) -> KarvoissAreas
@@ -177,14 +233,7 @@ pub extern "C" fn karvoiss_areas(scene: &[u8]) -> KarvoissAreas
         × PartsMakeWhole scene.now result.both result.f_only result.g_only
         × CheckedMeans scene.now (check_regions scene.now) }
 {
-    let answer = areas::areas_of(scene);
-    KarvoissAreas {
-        number: answer.number as u32,
-        place: answer.place,
-        both: answer.both,
-        f_only: answer.f_only,
-        g_only: answer.g_only,
-    }
+    areas::areas_of(scene).into()
 }
 
 #[repr(C)]
@@ -195,14 +244,22 @@ pub struct KarvoissSummary {
     pub record: [u8; 20],
 }
 
-// The record of a summary by value, and twenty zeros beside a refusal.
-fn recorded(number: u32, place: usize, record: [u8; 20]) -> KarvoissSummary
-    ensures { result ≡ record { number = number; place = place; «record» = «record» } }
-{
-    KarvoissSummary {
-        number,
-        place,
-        record,
+impl From<Result<Summary, Refusal>> for KarvoissSummary {
+    ghost from_gives = { λ answer c. c ≡ summary_for_c answer };
+
+    fn from(answer: Result<Summary, Refusal>) -> KarvoissSummary {
+        match answer {
+            Ok(summary) => KarvoissSummary {
+                number: 0,
+                place: 0,
+                record: writing::written(summary),
+            },
+            Err(r) => KarvoissSummary {
+                number: r.number as u32,
+                place: r.place,
+                record: [0; 20],
+            },
+        }
     }
 }
 
@@ -212,10 +269,7 @@ pub extern "C" fn karvoiss_summary(object: &[u8]) -> KarvoissSummary
     ensures { (result ≡ summary_for_c (summary_answer_of object.now))
         × CheckedObjectMeans object.now (check_object object.now) }
 {
-    match summary_making::summarize(object) {
-        SummaryAnswer::Made(m) => recorded(0, 0, writing::written(m)),
-        SummaryAnswer::Refused(r) => recorded(r.number as u32, r.place, [0u8; 20]),
-    }
+    summary_making::summarize(object).into()
 }
 
 #[repr(C)]
@@ -228,15 +282,33 @@ pub struct KarvoissFar {
     pub g: u16,
 }
 
-fn told(number: u32, place: usize, look: bool, f: u16, g: u16) -> KarvoissFar
-    ensures { result ≡ record { number = number; place = place; look = look; f = f; g = g } }
-{
-    KarvoissFar {
-        number,
-        place,
-        look,
-        f,
-        g,
+impl From<Result<Option<Vectors>, Refusal>> for KarvoissFar {
+    ghost from_gives = { λ answer c. c ≡ far_for_c answer };
+
+    fn from(answer: Result<Option<Vectors>, Refusal>) -> KarvoissFar {
+        match answer {
+            Ok(Some(v)) => KarvoissFar {
+                number: 0,
+                place: 0,
+                look: false,
+                f: v.f,
+                g: v.g,
+            },
+            Ok(None) => KarvoissFar {
+                number: 0,
+                place: 0,
+                look: true,
+                f: 0,
+                g: 0,
+            },
+            Err(r) => KarvoissFar {
+                number: r.number as u32,
+                place: r.place,
+                look: false,
+                f: 0,
+                g: 0,
+            },
+        }
     }
 }
 
@@ -249,11 +321,7 @@ pub extern "C" fn karvoiss_far(first: &[u8], second: &[u8]) -> KarvoissFar
         × ToldInFull first.now second.now (asked_of first.now second.now)
         × LookExactlyIfNear first.now second.now (asked_of first.now second.now) }
 {
-    match summary_far::far(first, second) {
-        Answer::Told(v) => told(0, 0, false, v.f, v.g),
-        Answer::Look => told(0, 0, true, 0, 0),
-        Answer::Refused(r) => told(r.number as u32, r.place, false, 0, 0),
-    }
+    summary_far::far(first, second).into()
 }
 
 #[repr(C)]
@@ -296,6 +364,27 @@ pub struct KarvoissInWindow {
     pub hits: u32,
 }
 
+impl From<Result<InWindow, Refusal>> for KarvoissInWindow {
+    ghost from_gives = { λ answer c. c ≡ in_window_for_c answer };
+
+    fn from(answer: Result<InWindow, Refusal>) -> KarvoissInWindow {
+        match answer {
+            Ok(seen) => KarvoissInWindow {
+                number: 0,
+                place: 0,
+                word: seen.word,
+                hits: seen.hits,
+            },
+            Err(r) => KarvoissInWindow {
+                number: r.number as u32,
+                place: r.place,
+                word: 0,
+                hits: 0,
+            },
+        }
+    }
+}
+
 // Which of these are in the window: for every window and every byte string the whole answer, the first bad summary, and the hits in points.
 #[unsafe(no_mangle)]
 pub extern "C" fn karvoiss_in_window(window: Window, summaries: &[u8]) -> KarvoissInWindow
@@ -303,11 +392,5 @@ pub extern "C" fn karvoiss_in_window(window: Window, summaries: &[u8]) -> Karvoi
         × BadRight summaries.now (from_c result)
         × HitsRight window summaries.now (from_c result) }
 {
-    let answer = summary_window::in_window(window, summaries);
-    KarvoissInWindow {
-        number: answer.number,
-        place: answer.place,
-        word: answer.word,
-        hits: answer.hits,
-    }
+    summary_window::in_window(window, summaries).into()
 }

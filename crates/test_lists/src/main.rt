@@ -22,11 +22,14 @@ fn write_list(out: &mut Output<Stdout>, list: &[u8]) {
 }
 
 fn ask(out: &mut Output<Stdout>, name: &[u8], scene: &[u8], list: &mut [u8]) {
-    let answer = overlap::overlap_list(scene, list);
+    let (number, place, count) = match overlap::overlap_list(scene, list) {
+        Ok(count) => (0, 0, count),
+        Err(r) => (r.number, r.place, 0),
+    };
     out.write(name);
-    write_field(out, answer.number as usize);
-    write_field(out, answer.place);
-    write_field(out, answer.count);
+    write_field(out, number as usize);
+    write_field(out, place);
+    write_field(out, count);
     write_list(out, list);
 }
 

@@ -4,7 +4,6 @@
 
 ghost use Rattle.std.specs.Prelude.{◌<◌, ◌≤◌, length};
 
-use scene::{CheckedObject, CheckedScene};
 use std::io;
 use std::io::Stdout;
 use streams::Output;
@@ -20,15 +19,15 @@ fn report(out: &mut Output<Stdout>, label: &[u8], number: u8, place: usize) {
 
 fn check_scene(out: &mut Output<Stdout>, label: &[u8], bytes: &[u8]) {
     match check_verdict::check_scene(bytes) {
-        CheckedScene::Taken(_) => report(out, label, 0, 0),
-        CheckedScene::Refused(r) => report(out, label, r.number, r.place),
+        Ok(_) => report(out, label, 0, 0),
+        Err(r) => report(out, label, r.number, r.place),
     }
 }
 
 fn check_object(out: &mut Output<Stdout>, label: &[u8], bytes: &[u8]) {
     match check_verdict::check_object(bytes) {
-        CheckedObject::Taken(_) => report(out, label, 0, 0),
-        CheckedObject::Refused(r) => report(out, label, r.number, r.place),
+        Ok(_) => report(out, label, 0, 0),
+        Err(r) => report(out, label, r.number, r.place),
     }
 }
 

@@ -4,7 +4,7 @@
 
 ghost use Rattle.std.specs.Prelude.{◌<◌, ◌≤◌, length};
 
-use flags_vectors::{VectorsAnswer, question};
+use flags_vectors::question;
 use std::io;
 use std::io::Stdout;
 use streams::Output;
@@ -22,8 +22,8 @@ fn answer(out: &mut Output<Stdout>, label: &[u8], want_f: u16, want_g: u16, text
     let mut space = [0u8; 16384];
     let n = test_notation::write(&mut space, text);
     match question::vectors(&space[..n], want_f, want_g) {
-        VectorsAnswer::Taken(v) => report(out, label, b": ", v.f as u64, v.g as u64),
-        VectorsAnswer::Refused(r) => report(out, label, b": no ", r.number as u64, r.place as u64),
+        Ok(v) => report(out, label, b": ", v.f as u64, v.g as u64),
+        Err(r) => report(out, label, b": no ", r.number as u64, r.place as u64),
     }
 }
 
