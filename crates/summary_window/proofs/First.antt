@@ -1,11 +1,12 @@
 -- The first number that fails a test: what is before it passes.
-use Prim.Native.Nat.{ℕ, zero, suc, ◌+◌, ◌-◌, ◌≤◌, ◌<◌}
+use Prim.Native.Nat.{ℕ, zero, suc, ◌+◌, ◌≤◌, ◌<◌}
 use native.Mathlib.Nat.{eq-or-lt_of_le}
 use native.Mathlib.Omega.{arith}
-use mathlib.Core.Path.{◌≡◌, refl, sym, ap, subst, ◌∙◌}
+use mathlib.Core.Path.{◌≡◌, refl, sym, subst}
 use mathlib.Core.Logic.{◌⊎◌, inl, inr}
 use mathlib.Core.Bool.{Bool, true, false, cond}
 use lib.Dec.{T}
+use Rattle.whole.proofs.Logic.{less_or_not}
 use Rattle.summary_window.specs.Window.{first_bad}
 
 module _ (good : ℕ → Bool) where
@@ -37,21 +38,30 @@ module _ (good : ℕ → Bool) where
           passes j (inr h) l = rest.before j h l
       go false e rest = record { from = omega arith; to = omega arith; before = λ j h l. absurd (omega arith); fails = λ h. e }
 
-  -- one number further, and at the end
-  pub passed : (n k m : ℕ) → k < n → good k ≡ true → first_bad good (n - k) k ≡ m → first_bad good (n - (k + 1)) (k + 1) ≡ m
-  passed n k m h e is = step (n - k) (n - (k + 1)) (omega arith) (omega arith) is
+  -- a number that fails, after none that does, is the first; and there is none where none fails
+  pub first_is : (n m : ℕ) → m < n → ((j : ℕ) → j < m → T (good j)) → good m ≡ false → first_bad good n 0 ≡ m
+  first_is n m h before fails = go (less_or_not x m) (less_or_not m x)
     where
-      step : (a b : ℕ) → a ≡ suc b → k + 1 ≡ suc k → first_bad good a k ≡ m → first_bad good b (k + 1) ≡ m
-      step a b p q is = ap (first_bad good b) q ∙ sym (ap (λ (t : Bool). cond t (first_bad good b (suc k)) k) e) ∙ sym (ap (λ (x : ℕ). first_bad good x k) p) ∙ is
+      x : ℕ
+      x = first_bad good n 0
 
-  pub failed : (n k m : ℕ) → k < n → good k ≡ false → first_bad good (n - k) k ≡ m → k ≡ m
-  failed n k m h e is = step (n - k) (n - (k + 1)) (omega arith) is
-    where
-      step : (a b : ℕ) → a ≡ suc b → first_bad good a k ≡ m → k ≡ m
-      step a b p is = sym (ap (λ (t : Bool). cond t (first_bad good b (suc k)) k) e) ∙ sym (ap (λ (x : ℕ). first_bad good x k) p) ∙ is
+      f : First n 0 x
+      f = first n 0
 
-  pub ended : (n k m : ℕ) → n ≤ k → first_bad good (n - k) k ≡ m → k ≡ m
-  ended n k m h is = sym (ap (λ (x : ℕ). first_bad good x k) (none n k h)) ∙ is
+      go : (x < m) ⊎ (m ≤ x) → (m < x) ⊎ (x ≤ m) → x ≡ m
+      go (inl l) _ = absurd (subst T (f.fails (omega arith)) (before x l))
+      go (inr l) (inl k) = absurd (subst T fails (f.before m (omega arith) k))
+      go (inr l) (inr k) = omega arith
+
+  pub none_fails : (n : ℕ) → ((j : ℕ) → j < n → T (good j)) → first_bad good n 0 ≡ n
+  none_fails n before = go (less_or_not x n)
     where
-      none : (n k : ℕ) → n ≤ k → n - k ≡ 0
-      none n k h = omega arith
+      x : ℕ
+      x = first_bad good n 0
+
+      f : First n 0 x
+      f = first n 0
+
+      go : (x < n) ⊎ (n ≤ x) → x ≡ n
+      go (inl l) = absurd (subst T (f.fails (omega arith)) (before x l))
+      go (inr l) = omega (arith, f.to)

@@ -5,7 +5,7 @@ use mathlib.Core.Path.{◌≡◌, sym, ap₂, subst, ◌∙◌}
 use mathlib.Core.Logic.{◌↔◌}
 use mathlib.Core.Bool.{Bool, false, not, ◌&&◌}
 use mathlib.Core.List.{List}
-use lib.Dec.{T, leb, leb→le, le→leb}
+use lib.Dec.{T, leb, le→leb}
 use lib.ListN.{length}
 use lib.IntN.{ℤ, pos, nat_abs, *ℤ_comm}
 use lib.Signed.{le_z}
@@ -142,10 +142,6 @@ good_box_lem s at t =
     let r = summary_at s at in
     and_left (good_box r.bounds) (good_for r.shape r.empty r.bounds r.boundary)
     (and_right (fields_good_at s at) (is_good r) (and_right (leb (at + size) (length s)) (good_at s at) t))
-
-pub good_room : (s : List ℕ) (at : ℕ) → T (good_from s at) → at + size ≤ length s
-unfolding good_from
-good_room s at t = leb→le (at + size) (length s) (and_left (leb (at + size) (length s)) (good_at s at) t)
 
 pub hit : (w : Window) (s : List ℕ) (at : ℕ) → T (is_window w) → T (good_from s at)
     → T (hit_at w s at) ↔ ((summary_at s at).empty ≡ false) × ((p : FractionPoint) × InBox (summary_at s at).bounds p × InView w p)

@@ -1,12 +1,12 @@
 -- Tests in a row as the bits of a word: bit k is that of test k, and the ones are those that pass.
-use Prim.Native.Nat.{ℕ, zero, suc, ◌+◌, ◌-◌, ◌*◌, ◌/◌, ◌%◌, ◌^◌, ◌≤◌, ◌<◌}
-use native.Mathlib.Nat.{lt_of_lt_of_le}
+use Prim.Native.Nat.{ℕ, zero, suc, ◌+◌, ◌*◌, ◌/◌, ◌%◌, ◌^◌, ◌≤◌, ◌<◌}
+use Rattle.std.proofs.Common.{add-zero, zero-add, add-one}
+use Rattle.std.proofs.Math.Nat.{pow-suc}
 use native.Mathlib.Omega.{arith}
 use mathlib.Core.Path.{◌≡◌, refl, sym, ap, ap₂, subst, ◌∙◌}
 use mathlib.Core.Bool.{Bool, true, false}
 use mathlib.Core.List.{List, [], ◌∷◌}
 use lib.Count.{ones, ones_step}
-use lib.Pow.{pow_mono}
 use lib.ListN.{length, get_or}
 use Rattle.whole.specs.Count.{bit, count}
 use Rattle.flags.specs.Flags.{pack, has_bit}
@@ -64,25 +64,27 @@ module _ (f : ℕ → Bool) where
   count_tests zero k = refl
   count_tests (suc n) k = ap (λ (x : ℕ). bit (f k) + x) (count_tests n (suc k))
 
-  -- ---- the word from the last test down: one test more, in front
-  pub one_more : (n k : ℕ) → 0 < k → k ≤ n → pack (tests f (n - (k - 1)) (k - 1)) ≡ bit (f (k - 1)) + 2 * pack (tests f (n - k) k)
-  one_more n k h l = step (n - (k - 1)) (n - k) (k - 1) k (omega arith) (omega arith)
+  -- ---- the word from the first test up: one test more, at the end
+  pushed_from : (n k : ℕ) → pack (tests f (suc n) k) ≡ pack (tests f n k) + bit (f (n + k)) * 2 ^ n
+  pushed_from zero k = first (f k) (ap (λ j. bit (f j)) (zero-add k))
     where
-      step : (a b i j : ℕ) → a ≡ suc b → j ≡ suc i → pack (tests f a i) ≡ bit (f i) + 2 * pack (tests f b j)
-      step a b i j p q = ap (λ (x : ℕ). pack (tests f x i)) p ∙ ap (λ (x : ℕ). bit (f i) + 2 * pack (tests f b x)) (sym q)
+      first : (b : Bool) {x : ℕ} → x ≡ bit b → bit b + 0 ≡ 0 + x * 1
+      first b e = omega arith
+  pushed_from (suc n) k =
+      step (bit (f k)) (pack (tests f (suc n) (suc k))) (pack (tests f n (suc k))) (bit (f (n + suc k))) (bit (f (suc n + k))) (2 ^ n) (2 ^ suc n)
+      (pushed_from n (suc k)) (ap (λ j. bit (f j)) (same n k)) (pow-suc 2 n)
+    where
+      same : (n k : ℕ) → n + suc k ≡ suc n + k
+      same n k = omega arith
 
-  pub half_room : (n k : ℕ) → 0 < k → n ≤ 64 → pack (tests f (n - k) k) < 2 ^ 63
-  half_room n k h l =
-      lt_of_lt_of_le (subst (λ (x : ℕ). pack (tests f (n - k) k) < 2 ^ x) (tests_length (n - k) k) (pack_lt (tests f (n - k) k))) (pow_mono (few n k h l))
-    where
-      few : (n k : ℕ) → 0 < k → n ≤ 64 → n - k ≤ 63
-      few n k h l = omega arith
+      step : (b w v x y p q : ℕ) → w ≡ v + x * p → x ≡ y → q ≡ p * 2 → b + 2 * w ≡ b + 2 * v + y * q
+      step b w v x y p q is same double = rw (is, same, double) (omega arith)
 
-  pub whole_row : (n k : ℕ) → k ≡ 0 → pack (tests f (n - k) k) ≡ pack (tests f n 0)
-  whole_row n k e = ap₂ (λ (a b : ℕ). pack (tests f a b)) (ap (λ (x : ℕ). n - x) e ∙ all n) e
-    where
-      all : (n : ℕ) → n - 0 ≡ n
-      all n = omega arith
+  pub pushed : (n : ℕ) → pack (tests f (n + 1) 0) ≡ pack (tests f n 0) + bit (f n) * 2 ^ n
+  pushed n = ap (λ m. pack (tests f m 0)) (add-one n) ∙ pushed_from n 0 ∙ ap (λ j. pack (tests f n 0) + bit (f j) * 2 ^ n) (add-zero n)
+
+  pub small : (n : ℕ) → pack (tests f n 0) < 2 ^ n
+  small n = subst (λ (x : ℕ). pack (tests f n 0) < 2 ^ x) (tests_length n 0) (pack_lt (tests f n 0))
 
 count_same : (f g : ℕ → Bool) (n k : ℕ) → ((i : ℕ) → i < k + n → f i ≡ g i) → count f (indices n k) ≡ count g (indices n k)
 count_same f g zero k h = refl

@@ -1,5 +1,6 @@
 -- What an answer says in words: the first bad summary under 18, and which bits are set where it is a word.
 use Prim.Native.Nat.{ℕ, ◌*◌, ◌≤◌, ◌<◌}
+use Rattle.std.specs.Prelude.{Result}
 use native.Mathlib.Omega.{arith}
 use mathlib.Core.Path.{◌≡◌, refl, sym, subst}
 use mathlib.Core.Logic.{◌↔◌, ◌⊎◌, inl, inr}
@@ -8,6 +9,7 @@ use mathlib.Core.List.{List}
 use borrow.Author.Tests.{ltb-true, ltb-false}
 use lib.Dec.{T, leb, ltb}
 use Rattle.whole.proofs.Logic.{less_or_not, is_true}
+use Rattle.scene.specs.declared.Refusal.{Refusal}
 use Rattle.flags.specs.Flags.{has_bit}
 use Rattle.summary_window.specs.declared.Window.{Window}
 use Rattle.summary_window.specs.declared.InWindow.{InWindow}
@@ -31,14 +33,11 @@ module _ (w : Window) (s : List ℕ) where
       there t (inl h) = let r = (hit w s (20 * k) ok (good k h)).0 (subst T (bit_of_word (hit_one w s) (sent s) k h) t) in (h, r.0, r.1)
       there t (inr h) = absurd (subst T (no_bit_of_word (hit_one w s) (sent s) k h) t)
 
-  abbrev no : ℕ → ℕ → Type 0
-  no m n = m ≡ n
-
-  abbrev Right : InWindow → Type 0
+  abbrev Right : Result InWindow Refusal → Type 0
   Right r = BadRight s r × HitsRight w s r
 
   refused_right : (n : ℕ) → 18 < n → Right (refusal n 0)
-  refused_right n h = ((λ (e : n ≡ 18). absurd (omega arith), λ (e : n ≡ 0). absurd (omega arith)), λ (e : n ≡ 0). absurd (omega arith))
+  refused_right n h = (λ (e : n ≡ 18). absurd (omega arith), tt)
 
   judged_right : T (is_window w) → Right (judged w s)
   unfolding judged
@@ -47,10 +46,10 @@ module _ (w : Window) (s : List ℕ) where
       go : (b : Bool) → ltb (first_of s) (sent s) ≡ b → Right (cond b (refusal 18 (first_of s)) (found w s))
       go true e =
           let h = ltb-true (first_of s) (sent s) e in
-          ((λ _. (h, f.fails (omega arith), before_first (first_of s) (omega arith)), λ (z : no 18 0). absurd (omega arith)), λ (z : no 18 0). absurd (omega arith))
+          (λ _. (h, f.fails (omega arith), before_first (first_of s) (omega arith)), tt)
       go false e =
           let good = before_first (sent s) (ltb-false (first_of s) (sent s) e) in
-          ((λ (z : no 0 18). absurd (omega arith), λ _. good), λ _. (shown ok good, refl, ones_counted (hit_one w s) (sent s)))
+          (good, (shown ok good, refl, ones_counted (hit_one w s) (sent s)))
 
   pub right : Right (answer_of w s)
   unfolding answer_of

@@ -1,5 +1,5 @@
 -- Document 02, Paper 11: the window, the summaries that were sent, and which of them share a point with it. A quotation names the sentence that a definition renders.
-use Rattle.std.specs.Prelude.{ℕ, zero, suc, ◌+◌, ◌*◌, ◌/◌, ◌<◌, ◌≡◌, ◌↔◌, Bool, false, not, ◌&&◌, cond, List, [], ◌∷◌, T, leb, ltb, length, ℤ, Float}
+use Rattle.std.specs.Prelude.{ℕ, zero, suc, ◌+◌, ◌*◌, ◌/◌, ◌<◌, ◌≡◌, ◌↔◌, Bool, false, not, ◌&&◌, cond, Result, Ok, Err, List, [], ◌∷◌, T, leb, ltb, length, ℤ, Float}
 use Rattle.std.specs.Int.Count.{ones}
 use Rattle.std.specs.Float.{binary32}
 use Rattle.std.specs.Float.Ieee.{of_int, le}
@@ -7,6 +7,7 @@ use Rattle.std.specs.Float.Ieee.Scale.{finite}
 use Rattle.whole.specs.Count.{count}
 use Rattle.plane.specs.Plane.{FractionPoint}
 use Rattle.floats.specs.Value.{value_of, over_one, InStretch}
+use Rattle.scene.specs.declared.Refusal.{Refusal}
 use Rattle.flags.specs.Flags.{pack, has_bit}
 use Rattle.summary.specs.declared.Bounds.{Bounds}
 use Rattle.summary.specs.Summary.{size, summary_at, good_at}
@@ -75,31 +76,30 @@ word_of w s = pack (tests (hit_one w s) (sent s) 0)
 
 -- ---- the answer
 
-abbrev pub refusal : ℕ → ℕ → InWindow
-refusal number place = record { number = number; place = place; word = 0; hits = 0 }
+abbrev pub refusal : {A : Type 0} → ℕ → ℕ → Result A Refusal
+refusal number place = Err (record { number = number; place = place })
 
 -- "and the number of hits": the ones of the word
-abbrev pub found : Window → List ℕ → InWindow
-found w s = record { number = 0; place = 0; word = word_of w s; hits = ones (word_of w s) }
+abbrev pub found : Window → List ℕ → Result InWindow Refusal
+found w s = Ok (record { word = word_of w s; hits = ones (word_of w s) })
 
 -- "It refuses in this order 27 at place 0 if a number is not finite or a least exceeds its greatest, 28 at place 0 for more than 64 summaries, a cut one counting,
 -- and 18 at the first bad summary's index."
 abbrev pub first_of : List ℕ → ℕ
 first_of s = first_bad (good_one s) (sent s) 0
 
-unfoldable pub judged : Window → List ℕ → InWindow
+unfoldable pub judged : Window → List ℕ → Result InWindow Refusal
 judged w s = cond (ltb (first_of s) (sent s)) (refusal 18 (first_of s)) (found w s)
 
-unfoldable pub answer_of : Window → List ℕ → InWindow
+unfoldable pub answer_of : Window → List ℕ → Result InWindow Refusal
 answer_of w s = cond (is_window w) (cond (leb (sent s) most) (judged w s) (refusal 28 0)) (refusal 27 0)
 
 -- ---- in words
 
 -- under 18 the place is the index of a bad summary, and none before it is bad; where the answer is a word every summary is good
-abbrev pub BadRight : List ℕ → InWindow → Type 0
-BadRight s r =
-    (r.number ≡ 18 → (r.place < sent s) × (good_one s r.place ≡ false) × AllGood s r.place)
-    × (r.number ≡ 0 → AllGood s (sent s))
+abbrev pub BadRight : List ℕ → Result InWindow Refusal → Type 0
+BadRight s (Ok h) = AllGood s (sent s)
+BadRight s (Err r) = r.number ≡ 18 → (r.place < sent s) × (good_one s r.place ≡ false) × AllGood s r.place
 
 -- a point with fraction coordinates lies in a box, and in a window: each number of the window stands for its exact value
 abbrev pub InBox : Bounds → FractionPoint → Type 0
@@ -122,7 +122,7 @@ indices zero k = []
 indices (suc n) k = k ∷ indices n (suc k)
 
 -- bit k of the word is set exactly for those; the hits are the ones of the word, and the number of such summaries
-abbrev pub HitsRight : Window → List ℕ → InWindow → Type 0
-HitsRight w s r =
-    r.number ≡ 0
-    → ((k : ℕ) → T (has_bit r.word k) ↔ Shown w s k) × (r.hits ≡ ones r.word) × (r.hits ≡ count (has_bit r.word) (indices (sent s) 0))
+abbrev pub HitsRight : Window → List ℕ → Result InWindow Refusal → Type 0
+HitsRight w s (Ok h) =
+    ((k : ℕ) → T (has_bit h.word k) ↔ Shown w s k) × (h.hits ≡ ones h.word) × (h.hits ≡ count (has_bit h.word) (indices (sent s) 0))
+HitsRight w s (Err r) = Unit {0}
