@@ -1,4 +1,5 @@
 -- Laws of the line: which of the two it is, how long it is, and that no line of a program's numbers is longer than 33 bytes.
+use Rattle.scene.specs.Read.{number_of}
 use Rattle.std.specs.Prelude.{Err, Ok}
 use Rattle.scene.specs.Read.{CheckedScene}
 use Rattle.cells.specs.Explored.{CellsAnswer}
@@ -25,9 +26,9 @@ pub taken_line : (e : Explored) {f g : ℕ} {m : List (List Dimension)} → f �
 unfolding line_of
 taken_line e f g m = λ i. ok_line (f i) (g i) e.v e.w (m i)
 
-pub refused_line : (r : Refusal) → 0 < r.number → no_line r.number r.place ≡ line_of (cells_values (Err r))
+pub refused_line : (r : Refusal) → 0 < number_of r.reason → no_line (number_of r.reason) r.place ≡ line_of (cells_values (Err r))
 unfolding line_of
-refused_line r h = rw (ne_eqb r.number 0 (λ e. omega arith))
+refused_line r h = rw (ne_eqb (number_of r.reason) 0 (λ e. omega arith))
 
 pub scene_line : (s : List ℕ) {a : CellsAnswer} → a ≡ cells_answer_of s → line_of (cells_values a) ≡ line_of_scene s
 unfolding line_of_scene

@@ -1,5 +1,6 @@
 -- The one line that answers a scene, document 01's section "The twelve scenes", as the list of its bytes in ASCII; and what it is to write bytes
 -- into a lent buffer.
+use Rattle.scene.specs.Read.{number_of}
 use Rattle.std.specs.Prelude.{Err, Ok}
 use Rattle.cells.specs.Explored.{CellsAnswer}
 use Rattle.std.specs.Prelude.{ℕ, zero, suc, ◌+◌, ◌-◌, ◌*◌, ◌/◌, ◌%◌, ◌≤◌, ◌<◌, ◌≡◌, true, false, cond, List, [], ◌∷◌, ◌++◌, map, eqb, ltb, length, get_or, take, drop}
@@ -86,7 +87,7 @@ OnlyFirstBytes = (s : List ℕ) → line_of_scene s ≡ line_of_scene (take 3891
 -- no refusal has the number of a scene that is taken
 abbrev pub Numbered : CellsAnswer → Type 0
 Numbered (Ok e) = Unit {0}
-Numbered (Err r) = 0 < r.number
+Numbered (Err r) = 0 < number_of r.reason
 
 -- ---- writing into a lent buffer
 

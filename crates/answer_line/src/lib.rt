@@ -52,7 +52,7 @@ fn write_answer(out: &mut [u8], answer: Result<Explored, Refusal>) -> usize
             let g = records::shape_number(of_g);
             write_ok(out, f, g, e.v, e.w, table::matrix(e))
         }
-        Err(r) => write_no(out, r.number, r.place),
+        Err(r) => write_no(out, r.reason.number(), r.place),
     }
 }
 

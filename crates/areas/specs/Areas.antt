@@ -5,7 +5,7 @@ use Rattle.plane.specs.declared.Segment.{Segment}
 use Rattle.scene.specs.declared.Layout.{Layout}
 use Rattle.scene.specs.declared.Scene.{Scene}
 use Rattle.scene.specs.declared.Refusal.{Refusal}
-use Rattle.scene.specs.Read.{CheckedScene, given_first, given_second}
+use Rattle.scene.specs.Read.{number_of, CheckedScene, given_first, given_second}
 use Rattle.flags.specs.Elements.{edges}
 use Rattle.overlap.specs.declared.adjoining.Sides.{Sides}
 use Rattle.overlap.specs.Rules.{check_regions}
@@ -36,7 +36,7 @@ pub record AreasValues : Type 0 where
   pub g_only : ℤ
 
 abbrev pub areas_values : AreasAnswer → AreasValues
-areas_values (Err r) = record { number = r.number; place = r.place; both = pos 0; f_only = pos 0; g_only = pos 0 }
+areas_values (Err r) = record { number = number_of r.reason; place = r.place; both = pos 0; f_only = pos 0; g_only = pos 0 }
 areas_values (Ok a) = record { number = 0; place = 0; both = a.both; f_only = a.f_only; g_only = a.g_only }
 
 abbrev pub areas_of : List ℕ → AreasAnswer

@@ -6,7 +6,7 @@ use Rattle.plane_dimensions.specs.Dimensions.{Value, not_empty}
 use Rattle.scene.specs.declared.Layout.{Layout}
 use Rattle.scene.specs.declared.Scene.{Scene}
 use Rattle.scene.specs.declared.Refusal.{Refusal}
-use Rattle.scene.specs.Read.{CheckedScene, shape_number, given_first, given_second}
+use Rattle.scene.specs.Read.{number_of, CheckedScene, shape_number, given_first, given_second}
 use Rattle.scene.specs.Conditions.{object, check_scene}
 use Rattle.flags_masks.specs.declared.Wanted.{Wanted}
 use Rattle.flags_vectors.specs.declared.Vectors.{Vectors}
@@ -68,7 +68,7 @@ pub record CellsValues : Type 0 where
 abbrev pub cells_values : CellsAnswer → CellsValues
 cells_values (Ok e) =
     record { number = 0; place = 0; f = shape_number e.f; g = shape_number e.g; v = e.v; w = e.w; cells = matrix_from e }
-cells_values (Err r) = record { number = r.number; place = r.place; f = 0; g = 0; v = 0; w = 0; cells = no_cells }
+cells_values (Err r) = record { number = number_of r.reason; place = r.place; f = 0; g = 0; v = 0; w = 0; cells = no_cells }
 
 -- ---- what it means
 

@@ -1,4 +1,5 @@
 -- The check of a scene and a pattern: that of the scene, then 22 and 23 of the pattern.
+use Rattle.scene.specs.declared.Reason.TheVariants.{NotNine, NoCharacter}
 use Rattle.std.specs.Prelude.{Err, None, Ok, Some}
 use Rattle.scene.specs.Read.{CheckedScene, Fault}
 use Rattle.check_verdict.specs.Refusals.{Verdict}
@@ -29,15 +30,15 @@ pub sound_nine : (p : List ℕ) → pattern_verdict p ≡ (Ok tt) → length p �
 unfolding pattern_verdict
 sound_nine p e = eqb-true (length p) 9 (go (eqb (length p) 9) e)
   where
-    go : (b : Bool) → decide {A = Verdict} Err 22 (unless b 0) (decide Err 23 (first_other p 0) (Ok tt)) ≡ Ok tt → b ≡ true
+    go : (b : Bool) → decide {A = Verdict} Err NotNine (unless b 0) (decide Err NoCharacter (first_other p 0) (Ok tt)) ≡ Ok tt → b ≡ true
     go true e = refl
     go false e = absurd (never_taken e)
 
-pub not_nine_lem : (p : List ℕ) → eqb (length p) 9 ≡ false → Err (record { number = 22; place = 0 }) ≡ pattern_verdict p
+pub not_nine_lem : (p : List ℕ) → eqb (length p) 9 ≡ false → Err (record { reason = NotNine; place = 0 }) ≡ pattern_verdict p
 unfolding pattern_verdict
 not_nine_lem p e = rw e
 
-pub nine : (p : List ℕ) → eqb (length p) 9 ≡ true → decide Err 23 (first_other p 0) (Ok tt) ≡ pattern_verdict p
+pub nine : (p : List ℕ) → eqb (length p) 9 ≡ true → decide Err NoCharacter (first_other p 0) (Ok tt) ≡ pattern_verdict p
 unfolding pattern_verdict
 nine p e = rw e
 
@@ -53,14 +54,14 @@ module _ (s p : List ℕ) where
   after_scene_lem = by_reading (read_scene s) refl
     where
       in_turn : (a b : Fault) (sc : Scene)
-          → decide Err 22 a (decide Err 23 b (Ok sc))
-          ≡ settle Err (decide Err 22 a (decide Err 23 b (Ok tt))) (Ok sc)
+          → decide Err NotNine a (decide Err NoCharacter b (Ok sc))
+          ≡ settle Err (decide Err NotNine a (decide Err NoCharacter b (Ok tt))) (Ok sc)
       in_turn (Some x) b sc = refl
       in_turn None (Some x) sc = refl
       in_turn None None sc = refl
 
       judged : (v : Verdict) (sc : Scene)
-          → settle Err v (decide Err 22 (not_nine p) (decide Err 23 (first_other p 0) (Ok sc)))
+          → settle Err v (decide Err NotNine (not_nine p) (decide Err NoCharacter (first_other p 0) (Ok sc)))
           ≡ after_scene p (settle Err v (Ok sc))
       judged (Err r) sc = refl
       judged (Ok tt) sc = in_turn (not_nine p) (first_other p 0) sc

@@ -1,5 +1,6 @@
 -- An OGC relate pattern: document 02's Paper 7, "a scene and an OGC relate pattern of nine characters, row by row: T for a cell that must be yes, F for no, * for
 -- either. The answer is yes exactly when all nine cells fit"; and its Paper 8, "In patterns T means any but F, the digits 0, 1 and 2 may stand".
+use Rattle.scene.specs.declared.Reason.TheVariants.{NotNine, NoCharacter}
 use Rattle.std.specs.Prelude.{None, Some}
 use Rattle.scene.specs.Read.{Fault}
 use Rattle.std.specs.Prelude.{ℕ, suc, ◌+◌, ◌*◌, ◌≡◌, Bool, true, ◌||◌, cond, List, [], ◌∷◌, eqb, length, get_or}
@@ -64,4 +65,4 @@ abbrev pub not_nine : List ℕ → Fault
 not_nine p = unless (eqb (length p) 9) 0
 
 abbrev pub pattern_conditions : List ℕ → List Condition
-pattern_conditions p = condition 22 (not_nine p) ∷ condition 23 (first_other p 0) ∷ []
+pattern_conditions p = condition NotNine (not_nine p) ∷ condition NoCharacter (first_other p 0) ∷ []

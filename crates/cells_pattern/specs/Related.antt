@@ -1,8 +1,9 @@
 -- The pattern question over a scene's bytes and a pattern's bytes: what is answered, for every two byte strings, and what the answer means in points.
+use Rattle.scene.specs.declared.Reason.TheVariants.{NotNine, NoCharacter}
 use Rattle.std.specs.Prelude.{Result, Ok, Err, ℕ, ◌≡◌, ◌↔◌, Bool, false, List, [], ◌∷◌, T}
 use Rattle.scene.specs.declared.Scene.{Scene}
 use Rattle.scene.specs.declared.Refusal.{Refusal}
-use Rattle.scene.specs.Read.{CheckedScene}
+use Rattle.scene.specs.Read.{number_of, CheckedScene}
 use Rattle.scene.specs.Conditions.{Rule, rule, scene_rules, check_scene_by}
 use Rattle.cells_matrix.specs.Matrix.{Part}
 use Rattle.cells.specs.Explored.{explored_in, matrix_from, InCell}
@@ -10,7 +11,7 @@ use Rattle.cells_pattern.specs.Pattern.{Demands, character_for, fits_all, first_
 
 -- "It refuses, after the scene's own refusals, with 22 .. and 23"
 abbrev pub pattern_rules : List ℕ → List (Rule Scene)
-pattern_rules p = rule 22 (λ s sc. not_nine p) ∷ rule 23 (λ s sc. first_other p 0) ∷ []
+pattern_rules p = rule NotNine (λ s sc. not_nine p) ∷ rule NoCharacter (λ s sc. first_other p 0) ∷ []
 
 unfoldable pub check_relate : List ℕ → List ℕ → CheckedScene
 check_relate s p = check_scene_by (scene_rules [] (pattern_rules p)) s
@@ -36,7 +37,7 @@ pub record RelateValues : Type 0 where
 
 abbrev pub relate_values : RelateAnswer → RelateValues
 relate_values (Ok holds) = record { number = 0; place = 0; holds = holds }
-relate_values (Err r) = record { number = r.number; place = r.place; holds = false }
+relate_values (Err r) = record { number = number_of r.reason; place = r.place; holds = false }
 
 -- ---- what it means
 

@@ -5,7 +5,7 @@ ghost use Rattle.cells_pattern.specs.Pattern.{is_sign, fits, is_character, fits_
 ghost use Rattle.cells_pattern.specs.Asked.{pattern_verdict, asks, named_row, asked_cells, wanted_cells};
 
 use plane_dimensions::{Dimension, sign};
-use scene::Refusal;
+use scene::{Reason, Refusal};
 
 fn is_sign(c: u8) -> bool
     ensures { result ≡ is_sign c }
@@ -37,12 +37,15 @@ pub fn verdict(p: &[u8]) -> Result<(), Refusal>
 {
     if p.len() != 9 {
         return Err(Refusal {
-            number: 22,
+            reason: Reason::NotNine,
             place: 0,
         });
     }
     match first_other(p) {
-        Some(place) => Err(Refusal { number: 23, place }),
+        Some(place) => Err(Refusal {
+            reason: Reason::NoCharacter,
+            place,
+        }),
         None => Ok(()),
     }
 }

@@ -9,7 +9,10 @@ use mathlib.Core.List.{List, [], ◌∷◌, ◌++◌, map, append-nil}
 use Rattle.scene.specs.declared.Layout.{Layout}
 use Rattle.scene.specs.declared.Scene.{Scene}
 use Rattle.scene.specs.declared.Refusal.{Refusal}
-use Rattle.scene.specs.Read.{judge, given_first, given_second, read_scene, read_alone, IsObject, IsScene}
+use Rattle.scene.specs.declared.Reason.{Reason}
+use Rattle.scene.specs.declared.Reason.TheVariants.{Flawed}
+use Rattle.scene.specs.declared.Flaw.TheVariants.{TouchingAcross}
+use Rattle.scene.specs.Read.{number_of, judge, given_first, given_second, read_scene, read_alone, IsObject, IsScene}
 use Rattle.scene.specs.Conditions.{segments, out_of_order, unpaired, touching_itself, Rule, rule, conditions, object_rules, or_else, over_both, touching_across, scene_rules, checked_scene, check_scene_by, check_scene, checked_object, check_object}
 use Rattle.scene.proofs.Taken.{taken_alone, taken_scene}
 use Rattle.check_verdict.specs.SharedPoints.{FaultMeans, OnlyEndsIn, EarliestIn, OnlyEndsInEach, EarliestInEither, OnlyEndsAcross, EarliestAcross, RefusalSays, CheckedMeans, CheckedObjectMeans}
@@ -51,18 +54,18 @@ module _ {condition : ℕ} {Earliest : ℕ → Type 0} {None : Type 0} where
 -- ---- one condition after another: what each says where it refuses, and where it does not what follows says
 
 module _ {A B : Type 0} (s : List ℕ) (a : A) (refuse : Refusal → B) (taken : B) (Means : B → Type 0)
-    (Says : ℕ → ℕ → Type 0) (refused : (n p : ℕ) → Says n p → Means (refuse (record { number = n; place = p }))) where
+    (Says : ℕ → ℕ → Type 0) (refused : (n : Reason) (p : ℕ) → Says (number_of n) p → Means (refuse (record { reason = n; place = p }))) where
   record Answer (rules : List (Rule A)) : Type 0 where
     means : Means (judge refuse taken (conditions rules s a))
 
-  next : {r : Rule A} {rules : List (Rule A)} → ((p : ℕ) → r.fault s a ≡ Some p → Says r.number p) → (r.fault s a ≡ None → Answer rules) → Answer (r ∷ rules)
+  next : {r : Rule A} {rules : List (Rule A)} → ((p : ℕ) → r.fault s a ≡ Some p → Says (number_of r.reason) p) → (r.fault s a ≡ None → Answer rules) → Answer (r ∷ rules)
   next {r} {rules} at otherwise =
-      record { means = decided refuse Means Says refused r.number (r.fault s a) (judge refuse taken (conditions rules s a)) at (λ e. (otherwise e).means) }
+      record { means = decided refuse Means (λ n p. Says (number_of n) p) refused r.reason (r.fault s a) (judge refuse taken (conditions rules s a)) at (λ e. (otherwise e).means) }
 
   -- conditions whose numbers say it
   all : (P : ℕ → Type 0) → ((n p : ℕ) → P n → Says n p) → (rules more : List (Rule A)) → Numbers P (conditions rules s a) → Answer more → Answer (rules ++ more)
   all P says [] more h rest = rest
-  all P says (r ∷ rules) more h rest = next (λ p _. says r.number p h.0) (λ _. all P says rules more h.1 rest)
+  all P says (r ∷ rules) more h rest = next (λ p _. says (number_of r.reason) p h.0) (λ _. all P says rules more h.1 rest)
 
 -- ---- a scene that was read
 
@@ -76,13 +79,13 @@ module _ (s : List ℕ) (sc : Scene) (read : IsScene s sc) where
   abbrev Says : ℕ → ℕ → Type 0
   Says n p = RefusalSays 12 (EarliestInEither s sc) (OnlyEndsInEach s sc) n p × RefusalSays 15 (EarliestAcross s sc) (OnlyEndsAcross s sc) n p
 
-  refused : (n p : ℕ) → Says n p → CheckedMeans s (Err (record { number = n; place = p }))
+  refused : (n : Reason) (p : ℕ) → Says (number_of n) p → CheckedMeans s (Err (record { reason = n; place = p }))
   refused n p w h = (sc, read, w.0, w.1)
 
   abbrev SceneAnswer : List (Rule Scene) → Type 0
   SceneAnswer = Answer s sc Err (Ok sc) (CheckedMeans s) Says refused
 
-  step : {r : Rule Scene} {rules : List (Rule Scene)} → ((p : ℕ) → r.fault s sc ≡ Some p → Says r.number p) → (r.fault s sc ≡ None → SceneAnswer rules) → SceneAnswer (r ∷ rules)
+  step : {r : Rule Scene} {rules : List (Rule Scene)} → ((p : ℕ) → r.fault s sc ≡ Some p → Says (number_of r.reason) p) → (r.fault s sc ≡ None → SceneAnswer rules) → SceneAnswer (r ∷ rules)
   step = next s sc Err (Ok sc) (CheckedMeans s) Says refused
 
   several : (P : ℕ → Type 0) → ((n p : ℕ) → P n → Says n p) → (rules more : List (Rule Scene)) → Numbers P (conditions rules s sc) → SceneAnswer more → SceneAnswer (rules ++ more)
@@ -118,7 +121,7 @@ module _ (s : List ℕ) (sc : Scene) (read : IsScene s sc) where
 
     by_rules : SceneAnswer (scene_rules nine rest)
     by_rules =
-        several (λ n. n < 12) early nine (map over_both object_rules ++ (rule 15 touching_across ∷ rest)) before
+        several (λ n. n < 12) early nine (map over_both object_rules ++ (rule (Flawed TouchingAcross) touching_across ∷ rest)) before
         (step (λ p _. early 10 p (omega arith)) (λ order.
         step (λ p _. early 11 p (omega arith)) (λ paired.
         step (λ p e. (own p (earliest_in_either order paired p e), earlier 12 p (omega arith))) (λ apart.
@@ -140,13 +143,13 @@ module _ (s : List ℕ) (l : Layout) (read : read_alone s ≡ Ok l) where
   abbrev ObjectSays : ℕ → ℕ → Type 0
   ObjectSays = RefusalSays 12 (EarliestIn s l) (OnlyEndsIn s l)
 
-  object_refused : (n p : ℕ) → ObjectSays n p → CheckedObjectMeans s (Err (record { number = n; place = p }))
+  object_refused : (n : Reason) (p : ℕ) → ObjectSays (number_of n) p → CheckedObjectMeans s (Err (record { reason = n; place = p }))
   object_refused n p w h = (l, read, w)
 
   abbrev ObjectAnswer : List (Rule Layout) → Type 0
   ObjectAnswer = Answer s l Err (Ok l) (CheckedObjectMeans s) ObjectSays object_refused
 
-  object_step : {r : Rule Layout} {rules : List (Rule Layout)} → ((p : ℕ) → r.fault s l ≡ Some p → ObjectSays r.number p)
+  object_step : {r : Rule Layout} {rules : List (Rule Layout)} → ((p : ℕ) → r.fault s l ≡ Some p → ObjectSays (number_of r.reason) p)
       → (r.fault s l ≡ None → ObjectAnswer rules) → ObjectAnswer (r ∷ rules)
   object_step = next s l Err (Ok l) (CheckedObjectMeans s) ObjectSays object_refused
 

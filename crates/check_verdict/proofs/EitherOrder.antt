@@ -1,5 +1,7 @@
 -- Two objects' bytes one after the other, and the other way round: a condition finds a fault in the one scene exactly where it finds one in the other, so both
 -- are taken, or both are refused under one number.
+use Rattle.scene.specs.declared.Reason.TheVariants.{Flawed}
+use Rattle.scene.specs.declared.Flaw.TheVariants.{Misplaced, Unpaired, Touching, OddEnd, WrongIa, TouchingAcross}
 use Rattle.std.specs.Prelude.{Err, None, Ok, Some}
 use Rattle.scene.specs.Read.{CheckedScene, Fault}
 use Rattle.check_verdict.specs.Refusals.{Verdict}
@@ -15,7 +17,7 @@ use Rattle.plane.specs.declared.Segment.{Segment}
 use Rattle.plane.specs.Plane.{is_end, fractions, SharePoint}
 use Rattle.scene.specs.declared.Layout.{Layout}
 use Rattle.scene.specs.declared.Scene.{Scene}
-use Rattle.scene.specs.Read.{decide, given_first, given_second, read_alone, IsScene}
+use Rattle.scene.specs.Read.{number_of, decide, given_first, given_second, read_alone, IsScene}
 use Rattle.scene.specs.Conditions.{segments, Rule, rule, conditions, or_else, over_both, object_rules, touching_across, check_scene}
 use Rattle.scene.proofs.Taken.{Arranged, taken_alone, taken_scene}
 use Rattle.scene.proofs.Indices.{not_nothing}
@@ -35,21 +37,21 @@ pub record Alike (f g : Fault) : Type 0 where
   pub there : f ≡ None → g ≡ None
   pub back : g ≡ None → f ≡ None
 
-abbrev number_of : Verdict → ℕ
-number_of (Ok tt) = 0
-number_of (Err r) = r.number
+abbrev verdict_number : Verdict → ℕ
+verdict_number (Ok tt) = 0
+verdict_number (Err r) = number_of r.reason
 
 module _ (s t : List ℕ) (a b : Scene) where
   abbrev AllAlike : List (Rule Scene) → Type 0
   AllAlike [] = Unit {0}
   AllAlike (r ∷ rules) = Alike (r.fault s a) (r.fault t b) × AllAlike rules
 
-  same_number : (rules : List (Rule Scene)) → AllAlike rules → number_of (verdict (conditions rules s a)) ≡ number_of (verdict (conditions rules t b))
+  same_number : (rules : List (Rule Scene)) → AllAlike rules → verdict_number (verdict (conditions rules s a)) ≡ verdict_number (verdict (conditions rules t b))
   same_number [] h = refl
   same_number (r ∷ rules) h = go (r.fault s a) (r.fault t b) h.0 (same_number rules h.1)
     where
-      go : (f g : Fault) → Alike f g → number_of (verdict (conditions rules s a)) ≡ number_of (verdict (conditions rules t b))
-          → number_of (decide Err r.number f (verdict (conditions rules s a))) ≡ number_of (decide Err r.number g (verdict (conditions rules t b)))
+      go : (f g : Fault) → Alike f g → verdict_number (verdict (conditions rules s a)) ≡ verdict_number (verdict (conditions rules t b))
+          → verdict_number (decide Err r.reason f (verdict (conditions rules s a))) ≡ verdict_number (decide Err r.reason g (verdict (conditions rules t b)))
       go (Some p) (Some q) k e = refl
       go (Some p) None k e = absurd (not_nothing (k.back refl))
       go None (Some q) k e = absurd (not_nothing (k.there refl))
@@ -134,28 +136,28 @@ module _ (a b : List ℕ) (l m : Layout) (first : read_alone a ≡ Ok l) (second
       let y = across_none b a m l second first in
       record { there = λ e. y.1 (ends_swap (x.0 e)); back = λ e. x.1 (ends_swap (y.0 e)) }
 
-  same_verdict_number : number_of (geometry_verdict (a ++ b) ab) ≡ number_of (geometry_verdict (b ++ a) ba)
+  same_verdict_number : verdict_number (geometry_verdict (a ++ b) ab) ≡ verdict_number (geometry_verdict (b ++ a) ba)
   unfolding geometry_verdict
   same_verdict_number =
       same_number (a ++ b) (b ++ a) ab ba geometry_rules
       (alike_rules object_rules (moved_faults (first_stands a b l (taken_alone a l first).read)) (moved_faults (second_stands a b m (taken_alone b m second).read))
-      (moved_faults (first_stands b a m (taken_alone b m second).read)) (moved_faults (second_stands b a l (taken_alone a l first).read)) (rule 15 touching_across ∷ []) (alike_across, tt))
+      (moved_faults (first_stands b a m (taken_alone b m second).read)) (moved_faults (second_stands b a l (taken_alone a l first).read)) (rule (Flawed TouchingAcross) touching_across ∷ []) (alike_across, tt))
 
 -- ---- the check
 
 abbrev pub checked_number : CheckedScene → ℕ
 checked_number (Ok sc) = 0
-checked_number (Err r) = r.number
+checked_number (Err r) = number_of r.reason
 
 module _ (s : List ℕ) (sc : Scene) (is : IsScene s sc) where
   pub checked : check_scene s ≡ settle Err (geometry_verdict s sc) (Ok sc)
   unfolding check_scene
   checked = check_read [] [] s sc is
 
-  number_is : checked_number (check_scene s) ≡ number_of (geometry_verdict s sc)
+  number_is : checked_number (check_scene s) ≡ verdict_number (geometry_verdict s sc)
   number_is = ap checked_number checked ∙ go (geometry_verdict s sc)
     where
-      go : (v : Verdict) → checked_number (settle Err v (Ok sc)) ≡ number_of v
+      go : (v : Verdict) → checked_number (settle Err v (Ok sc)) ≡ verdict_number v
       go (Ok tt) = refl
       go (Err r) = refl
 
@@ -163,7 +165,7 @@ module _ (s : List ℕ) (sc : Scene) (is : IsScene s sc) where
   pub zero_taken : checked_number (check_scene s) ≡ 0 → check_scene s ≡ Ok sc
   zero_taken e = checked ∙ go (geometry_verdict s sc) refl (sym number_is ∙ e)
     where
-      go : (v : Verdict) → geometry_verdict s sc ≡ v → number_of v ≡ 0 → settle Err v (Ok sc) ≡ Ok sc
+      go : (v : Verdict) → geometry_verdict s sc ≡ v → verdict_number v ≡ 0 → settle Err v (Ok sc) ≡ Ok sc
       go (Ok tt) q z = refl
       go (Err r) q z = absurd (omega (arith, z, subst Numbered (checked ∙ ap (λ (v : Verdict). settle Err v (Ok sc)) q) (numbered s)))
 

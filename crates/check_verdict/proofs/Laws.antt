@@ -1,5 +1,7 @@
 -- What a taken scene or object gives, in the form that the plane's lemmas take: elements in range and in strict order, partners, segments that are
 -- split, even ends and right ia for regions, and no touch across the two objects.
+use Rattle.scene.specs.declared.Reason.TheVariants.{Flawed}
+use Rattle.scene.specs.declared.Flaw.TheVariants.{TouchingAcross}
 use Rattle.std.specs.Prelude.{None, Ok}
 use Prim.Native.Nat.{ℕ, ◌≤◌}
 use mathlib.Core.Path.{◌≡◌}
@@ -43,8 +45,8 @@ sound_scene nine later s sc e = record { taken = c.0; f_sound = both.0; g_sound 
     c : TakenScene s sc × NoFault s sc (scene_rules nine later)
     c = checked_scene_lem (scene_rules nine later) s sc e
 
-    n : NoFault s sc (map over_both object_rules ++ (rule 15 touching_across ∷ later))
-    n = no_fault_after s sc nine (map over_both object_rules ++ (rule 15 touching_across ∷ later)) c.1
+    n : NoFault s sc (map over_both object_rules ++ (rule (Flawed TouchingAcross) touching_across ∷ later))
+    n = no_fault_after s sc nine (map over_both object_rules ++ (rule (Flawed TouchingAcross) touching_across ∷ later)) c.1
 
     each : NoFault s (given_first sc) object_rules × NoFault s (given_second sc) object_rules
     each = in_neither s sc object_rules (n.0, (n.1.0, (n.1.1.0, (n.1.1.1.0, (n.1.1.1.1.0, tt)))))

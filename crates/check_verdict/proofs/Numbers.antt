@@ -11,27 +11,28 @@ use Rattle.scene.specs.declared.Kind.{Kind}
 use Rattle.scene.specs.declared.Layout.{Layout}
 use Rattle.scene.specs.declared.Scene.{Scene}
 use Rattle.scene.specs.declared.Refusal.{Refusal}
-use Rattle.scene.specs.Read.{Condition, decide, judge, byte, kind_at, shape_of, starts_object, stands_in, is_end, record_conditions, record_at, end_place, after, most, one_more, next, elements_from, begun, read_object, ends_with, arranged, scene_with_second, scene_with_first, read_scene, alone, read_alone}
+use Rattle.scene.specs.declared.Reason.{Reason}
+use Rattle.scene.specs.Read.{number_of, Condition, decide, judge, byte, kind_at, shape_of, starts_object, stands_in, is_end, record_conditions, record_at, end_place, after, most, one_more, next, elements_from, begun, read_object, ends_with, arranged, scene_with_second, scene_with_first, read_scene, alone, read_alone}
 use Rattle.scene.specs.Conditions.{Rule, conditions, scene_rules, checked_scene, check_scene_by, check_scene}
 
 -- ---- a list of conditions
 
-module _ {B : Type 0} (refuse : Refusal → B) (Means : B → Type 0) (Says : ℕ → ℕ → Type 0)
-    (refused : (n p : ℕ) → Says n p → Means (refuse (record { number = n; place = p }))) where
-  pub decided : (n : ℕ) (f : Fault) (rest : B) → ((p : ℕ) → f ≡ Some p → Says n p) → (f ≡ None → Means rest) → Means (decide refuse n f rest)
+module _ {B : Type 0} (refuse : Refusal → B) (Means : B → Type 0) (Says : Reason → ℕ → Type 0)
+    (refused : (n : Reason) (p : ℕ) → Says n p → Means (refuse (record { reason = n; place = p }))) where
+  pub decided : (n : Reason) (f : Fault) (rest : B) → ((p : ℕ) → f ≡ Some p → Says n p) → (f ≡ None → Means rest) → Means (decide refuse n f rest)
   decided n (Some p) rest at otherwise = refused n p (at p refl)
   decided n None rest at otherwise = otherwise refl
 
 -- whose numbers are so
 abbrev pub Numbers : (ℕ → Type 0) → List Condition → Type 0
 Numbers P [] = Unit {0}
-Numbers P (c ∷ cs) = P c.number × Numbers P cs
+Numbers P (c ∷ cs) = P (number_of c.reason) × Numbers P cs
 
-module _ {B : Type 0} (P : ℕ → Type 0) (refuse : Refusal → B) (Means : B → Type 0) (refused : (r : Refusal) → P r.number → Means (refuse r)) where
+module _ {B : Type 0} (P : ℕ → Type 0) (refuse : Refusal → B) (Means : B → Type 0) (refused : (r : Refusal) → P (number_of r.reason) → Means (refuse r)) where
   judged : (b : B) → Means b → (cs : List Condition) → Numbers P cs → Means (judge refuse b cs)
   judged b q [] h = q
   judged b q (c ∷ cs) h =
-      decided refuse Means (λ n p. P n) (λ n p. refused (record { number = n; place = p })) c.number c.fault (judge refuse b cs) (λ p e. h.0)
+      decided refuse Means (λ n p. P (number_of n)) (λ n p. refused (record { reason = n; place = p })) c.reason c.fault (judge refuse b cs) (λ p e. h.0)
       (λ e. judged b q cs h.1)
 
 -- ---- reading
@@ -41,15 +42,15 @@ Small n = (0 < n) × (n ≤ 7)
 
 abbrev SmallRecord : Record → Type 0
 SmallRecord (Ok k) = Unit {0}
-SmallRecord (Err r) = Small r.number
+SmallRecord (Err r) = Small (number_of r.reason)
 
 abbrev pub SmallObject : CheckedObject → Type 0
 SmallObject (Ok l) = Unit {0}
-SmallObject (Err r) = Small r.number
+SmallObject (Err r) = Small (number_of r.reason)
 
 abbrev pub SmallScene : CheckedScene → Type 0
 SmallScene (Ok sc) = Unit {0}
-SmallScene (Err r) = Small r.number
+SmallScene (Err r) = Small (number_of r.reason)
 
 module _ (s : List ℕ) where
   small_record : (at : ℕ) (allowed : Kind → Bool) (full : Bool) → SmallRecord (record_at s at allowed full)
@@ -106,7 +107,7 @@ module _ (s : List ℕ) where
 
 abbrev pub Numbered : CheckedScene → Type 0
 Numbered (Ok sc) = Unit {0}
-Numbered (Err r) = 0 < r.number
+Numbered (Err r) = 0 < number_of r.reason
 
 module _ (rules : List (Rule Scene)) (s : List ℕ) (above : (sc : Scene) → Numbers (λ n. 0 < n) (conditions rules s sc)) where
   pub numbered_by : Numbered (check_scene_by rules s)

@@ -9,33 +9,32 @@ use mathlib.Core.List.{List, [], ◌∷◌, ◌++◌, map}
 use Rattle.scene.specs.declared.Layout.{Layout}
 use Rattle.scene.specs.declared.Scene.{Scene}
 use Rattle.scene.specs.declared.Refusal.{Refusal}
+use Rattle.scene.specs.declared.Flaw.{Flaw}
+use Rattle.scene.specs.declared.Flaw.TheVariants.{Misplaced, Unpaired, Touching, OddEnd, WrongIa, TouchingAcross}
+use Rattle.scene.specs.declared.Reason.{Reason}
+use Rattle.scene.specs.declared.Reason.TheVariants.{Flawed}
 use Rattle.scene.specs.Read.{Condition, condition, decide, judge, given_first, given_second, read_scene, read_alone, IsObject, IsScene}
 use Rattle.scene.specs.Conditions.{out_of_order, unpaired, touching_itself, odd_end, wrong_ia, or_else, touching_across, Rule, conditions, scene_rules, checked_scene, check_scene_by, checked_object, check_object, object_rules}
 use native.Mathlib.Omega.{arith}
 use Rattle.sweep_laws.specs.Swept.{object_of, InOrder, Passes}
 use Rattle.check_conditions.specs.Faults.{fault_under}
-use Rattle.check_verdict.specs.Refusals.{scene_fault_under, numbered, Verdict, verdict, settle, object_verdict, geometry_rules, geometry_verdict}
+use Rattle.check_verdict.specs.Refusals.{scene_fault_under, flawed, object_flaws, scene_flaws, Verdict, verdict, settle, object_verdict, geometry_rules, geometry_verdict}
 use Rattle.scene.proofs.Outcomes.{never_taken}
 use Rattle.scene.proofs.Taken.{both_of_given, given_of_both}
 use Rattle.scene.proofs.Given.{neither}
-use Rattle.scene_segments.proofs.Walk.{between_next, between_none}
 use Rattle.check_conditions.proofs.Earliest.{fault_11, fault_12, fault_13, fault_14, fault_15}
 
--- ---- by number
+-- ---- flaw by flaw
 
-module _ (fault : ℕ → Fault) where
-  module _ (i n : ℕ) where
-    pub refuses : i < n → (p : ℕ) → fault i ≡ Some p → verdict (numbered fault i n) ≡ Err (record { number = i; place = p })
-    refuses h p e = rw (between_next i n h, e)
+module _ (found : Flaw → Fault) (f : Flaw) (flaws : List Flaw) where
+  pub refuses : (p : ℕ) → found f ≡ Some p → verdict (flawed found (f ∷ flaws)) ≡ Err (record { reason = Flawed f; place = p })
+  refuses p e = rw e
 
-    pub passes : i < n → fault i ≡ None → verdict (numbered fault i n) ≡ verdict (numbered fault (i + 1) n)
-    passes h e = rw (between_next i n h, e)
-
-    pub sound : n ≤ i → verdict (numbered fault i n) ≡ (Ok tt)
-    sound h = rw (between_none i n h)
+  pub passes : found f ≡ None → verdict (flawed found (f ∷ flaws)) ≡ verdict (flawed found flaws)
+  passes e = rw e
 
 -- equal faults refuse alike, and where there is none what follows decides
-decide_alike : (n : ℕ) (f g : Fault) (a b : Verdict) → f ≡ g → (f ≡ None → a ≡ b) → decide Err n f a ≡ decide Err n g b
+decide_alike : (n : Reason) (f g : Fault) (a b : Verdict) → f ≡ g → (f ≡ None → a ≡ b) → decide Err n f a ≡ decide Err n g b
 decide_alike n f g a b e then = go f refl ∙ ap (λ (h : Fault). decide Err n h b) e
   where
     go : (h : Fault) → f ≡ h → decide Err n h a ≡ decide Err n h b
@@ -43,27 +42,27 @@ decide_alike n f g a b e then = go f refl ∙ ap (λ (h : Fault). decide Err n h
     go None q = then q
 
 -- each test rests on the conditions before it
-pub object_numbered : (s : List ℕ) (l : Layout) → IsObject s l → object_verdict s l ≡ verdict (numbered (fault_under s l l) 10 15)
+pub object_flawed : (s : List ℕ) (l : Layout) → IsObject s l → object_verdict s l ≡ verdict (flawed (fault_under s l l) object_flaws)
 unfolding object_verdict out_of_order
-object_numbered s l is =
-    decide_alike 10 (out_of_order s l) (fault_under s l l 10) _ _ refl (λ order.
-    decide_alike 11 (unpaired s l) (fault_under s l l 11) _ _ (sym (fault_11 s l is order)) (λ paired.
-    decide_alike 12 (touching_itself s l) (fault_under s l l 12) _ _ (sym (fault_12 s l is order)) (λ _.
-    decide_alike 13 (odd_end s l) (fault_under s l l 13) _ _ (sym (fault_13 s l)) (λ _.
-    decide_alike 14 (wrong_ia s l) (fault_under s l l 14) _ _ (sym (fault_14 s l is order paired)) (λ _. refl)))))
+object_flawed s l is =
+    decide_alike (Flawed Misplaced) (out_of_order s l) (fault_under s l l Misplaced) _ _ refl (λ order.
+    decide_alike (Flawed Unpaired) (unpaired s l) (fault_under s l l Unpaired) _ _ (sym (fault_11 s l is order)) (λ paired.
+    decide_alike (Flawed Touching) (touching_itself s l) (fault_under s l l Touching) _ _ (sym (fault_12 s l is order)) (λ _.
+    decide_alike (Flawed OddEnd) (odd_end s l) (fault_under s l l OddEnd) _ _ (sym (fault_13 s l)) (λ _.
+    decide_alike (Flawed WrongIa) (wrong_ia s l) (fault_under s l l WrongIa) _ _ (sym (fault_14 s l is order paired)) (λ _. refl)))))
 
-pub geometry_numbered : (s : List ℕ) (sc : Scene) → IsObject s (given_first sc) → IsObject s (given_second sc)
-    → geometry_verdict s sc ≡ verdict (numbered (scene_fault_under s sc) 10 16)
+pub geometry_flawed : (s : List ℕ) (sc : Scene) → IsObject s (given_first sc) → IsObject s (given_second sc)
+    → geometry_verdict s sc ≡ verdict (flawed (scene_fault_under s sc) scene_flaws)
 unfolding geometry_verdict out_of_order
-geometry_numbered s sc is_first_lem is_second =
-    decide_alike 10 (or_else (out_of_order s (given_first sc)) (out_of_order s (given_second sc))) (scene_fault_under s sc 10) _ _ refl (λ order.
+geometry_flawed s sc is_first_lem is_second =
+    decide_alike (Flawed Misplaced) (or_else (out_of_order s (given_first sc)) (out_of_order s (given_second sc))) (scene_fault_under s sc Misplaced) _ _ refl (λ order.
     let o = neither (out_of_order s (given_first sc)) (out_of_order s (given_second sc)) order in
-    decide_alike 11 (or_else (unpaired s (given_first sc)) (unpaired s (given_second sc))) (scene_fault_under s sc 11) _ _ (ap₂ or_else (sym (fault_11 s (given_first sc) is_first_lem o.0)) (sym (fault_11 s (given_second sc) is_second o.1))) (λ paired.
+    decide_alike (Flawed Unpaired) (or_else (unpaired s (given_first sc)) (unpaired s (given_second sc))) (scene_fault_under s sc Unpaired) _ _ (ap₂ or_else (sym (fault_11 s (given_first sc) is_first_lem o.0)) (sym (fault_11 s (given_second sc) is_second o.1))) (λ paired.
     let p = neither (unpaired s (given_first sc)) (unpaired s (given_second sc)) paired in
-    decide_alike 12 (or_else (touching_itself s (given_first sc)) (touching_itself s (given_second sc))) (scene_fault_under s sc 12) _ _ (ap₂ or_else (sym (fault_12 s (given_first sc) is_first_lem o.0)) (sym (fault_12 s (given_second sc) is_second o.1))) (λ _.
-    decide_alike 13 (or_else (odd_end s (given_first sc)) (odd_end s (given_second sc))) (scene_fault_under s sc 13) _ _ (ap₂ or_else (sym (fault_13 s (given_first sc))) (sym (fault_13 s (given_second sc)))) (λ _.
-    decide_alike 14 (or_else (wrong_ia s (given_first sc)) (wrong_ia s (given_second sc))) (scene_fault_under s sc 14) _ _ (ap₂ or_else (sym (fault_14 s (given_first sc) is_first_lem o.0 p.0)) (sym (fault_14 s (given_second sc) is_second o.1 p.1))) (λ _.
-    decide_alike 15 (touching_across s sc) (scene_fault_under s sc 15) _ _ (sym (fault_15 s (given_second sc) is_second o.1 (given_first sc) is_first_lem)) (λ _. refl))))))
+    decide_alike (Flawed Touching) (or_else (touching_itself s (given_first sc)) (touching_itself s (given_second sc))) (scene_fault_under s sc Touching) _ _ (ap₂ or_else (sym (fault_12 s (given_first sc) is_first_lem o.0)) (sym (fault_12 s (given_second sc) is_second o.1))) (λ _.
+    decide_alike (Flawed OddEnd) (or_else (odd_end s (given_first sc)) (odd_end s (given_second sc))) (scene_fault_under s sc OddEnd) _ _ (ap₂ or_else (sym (fault_13 s (given_first sc))) (sym (fault_13 s (given_second sc)))) (λ _.
+    decide_alike (Flawed WrongIa) (or_else (wrong_ia s (given_first sc)) (wrong_ia s (given_second sc))) (scene_fault_under s sc WrongIa) _ _ (ap₂ or_else (sym (fault_14 s (given_first sc) is_first_lem o.0 p.0)) (sym (fault_14 s (given_second sc) is_second o.1 p.1))) (λ _.
+    decide_alike (Flawed TouchingAcross) (touching_across s sc) (scene_fault_under s sc TouchingAcross) _ _ (sym (fault_15 s (given_second sc) is_second o.1 (given_first sc) is_first_lem)) (λ _. refl))))))
 
 -- ---- 10 to 15 refuse no scene in which they find no fault
 
@@ -81,25 +80,25 @@ passes_sound s sc order p =
     given f q = given_of_both (λ (l : Layout). f s l ≡ None) sc (q true) (q false)
 
 -- and in one that they do not refuse they find none
-sound_first : (n : ℕ) (f : Fault) (rest : Verdict) → decide Err n f rest ≡ (Ok tt) → (f ≡ None) × (rest ≡ (Ok tt))
+sound_first : (n : Reason) (f : Fault) (rest : Verdict) → decide Err n f rest ≡ (Ok tt) → (f ≡ None) × (rest ≡ (Ok tt))
 sound_first n (Some p) rest e = absurd (never_taken e)
 sound_first n None rest e = (refl, e)
 
 pub sound_passes : (s : List ℕ) (sc : Scene) → geometry_verdict s sc ≡ (Ok tt) → InOrder s sc × Passes s sc
 unfolding geometry_verdict
 sound_passes s sc e =
-    let a = sound_first 10 (either out_of_order) _ e in
-    let b = sound_first 11 (either unpaired) _ a.1 in
-    let c = sound_first 12 (either touching_itself) _ b.1 in
-    let d = sound_first 13 (either odd_end) _ c.1 in
-    let i = sound_first 14 (either wrong_ia) _ d.1 in (
+    let a = sound_first (Flawed Misplaced) (either out_of_order) _ e in
+    let b = sound_first (Flawed Unpaired) (either unpaired) _ a.1 in
+    let c = sound_first (Flawed Touching) (either touching_itself) _ b.1 in
+    let d = sound_first (Flawed OddEnd) (either odd_end) _ c.1 in
+    let i = sound_first (Flawed WrongIa) (either wrong_ia) _ d.1 in (
       of_both_lem out_of_order a.0,
       record {
         paired = of_both_lem unpaired b.0;
         apart = of_both_lem touching_itself c.0;
         even = of_both_lem odd_end d.0;
         right_ia = of_both_lem wrong_ia i.0;
-        across = (sound_first 15 (touching_across s sc) (Ok tt) i.1).0;
+        across = (sound_first (Flawed TouchingAcross) (touching_across s sc) (Ok tt) i.1).0;
       },
     )
   where
@@ -124,14 +123,14 @@ module _ {A : Type 0} (refuse : Refusal → A) (taken : A) where
   judge_append (c ∷ cs) ds = go c.fault (judge_append cs ds)
     where
       go : (f : Fault) → judge refuse taken (cs ++ ds) ≡ settle refuse (verdict cs) (judge refuse taken ds)
-          → decide refuse c.number f (judge refuse taken (cs ++ ds)) ≡ settle refuse (decide Err c.number f (verdict cs)) (judge refuse taken ds)
+          → decide refuse c.reason f (judge refuse taken (cs ++ ds)) ≡ settle refuse (decide Err c.reason f (verdict cs)) (judge refuse taken ds)
       go (Some p) e = refl
       go None e = e
 
   module _ {B : Type 0} (s : List ℕ) (b : B) where
     conditions_append : (rules more : List (Rule B)) → conditions (rules ++ more) s b ≡ conditions rules s b ++ conditions more s b
     conditions_append [] more = refl
-    conditions_append (r ∷ rules) more = ap (λ (cs : List Condition). condition r.number (r.fault s b) ∷ cs) (conditions_append rules more)
+    conditions_append (r ∷ rules) more = ap (λ (cs : List Condition). condition r.reason (r.fault s b) ∷ cs) (conditions_append rules more)
 
     pub judge_rules : (rules more : List (Rule B))
         → judge refuse taken (conditions (rules ++ more) s b) ≡ settle refuse (verdict (conditions rules s b)) (judge refuse taken (conditions more s b))

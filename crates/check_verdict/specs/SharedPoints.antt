@@ -1,7 +1,7 @@
 -- The conditions 12 and 15 in points of the plane: what the verdict on bytes says of the points that segments share. `SharePoint` is the document's
 -- sentence, of any point with fraction coordinates; the numbers and places are those of its table and of the paragraph below the table.
 use Rattle.std.specs.Prelude.{Err, None, Ok, Some}
-use Rattle.scene.specs.Read.{CheckedObject, CheckedScene, Fault}
+use Rattle.scene.specs.Read.{number_of, CheckedObject, CheckedScene, Fault}
 use Rattle.std.specs.Prelude.{ℕ, ◌<◌, ◌≡◌, ◌⊎◌, List, T}
 use Rattle.whole.specs.Count.{◌∈◌}
 use Rattle.plane.specs.declared.Segment.{Segment}
@@ -83,14 +83,14 @@ pub record RefusalSays (condition : ℕ) (Earliest : ℕ → Type 0) (None : Typ
 abbrev pub CheckedMeans : List ℕ → CheckedScene → Type 0
 CheckedMeans s (Ok sc) = IsScene s sc × OnlyEndsInEach s sc × OnlyEndsAcross s sc
 CheckedMeans s (Err r) =
-    7 < r.number
+    7 < number_of r.reason
     → (sc : Scene) × IsScene s sc
-    × RefusalSays 12 (EarliestInEither s sc) (OnlyEndsInEach s sc) r.number r.place
-    × RefusalSays 15 (EarliestAcross s sc) (OnlyEndsAcross s sc) r.number r.place
+    × RefusalSays 12 (EarliestInEither s sc) (OnlyEndsInEach s sc) (number_of r.reason) r.place
+    × RefusalSays 15 (EarliestAcross s sc) (OnlyEndsAcross s sc) (number_of r.reason) r.place
 
 -- Of one object's bytes: "A call on one object takes 1 to 7 and 10 to 14 over its bytes alone"
 abbrev pub CheckedObjectMeans : List ℕ → CheckedObject → Type 0
 CheckedObjectMeans s (Ok l) = (read_alone s ≡ Ok l) × OnlyEndsIn s l
 CheckedObjectMeans s (Err r) =
-    7 < r.number
-    → (l : Layout) × (read_alone s ≡ Ok l) × RefusalSays 12 (EarliestIn s l) (OnlyEndsIn s l) r.number r.place
+    7 < number_of r.reason
+    → (l : Layout) × (read_alone s ≡ Ok l) × RefusalSays 12 (EarliestIn s l) (OnlyEndsIn s l) (number_of r.reason) r.place

@@ -2,39 +2,72 @@
 // A question with conditions of its own calls them in their order: its 9, `geometry_verdict` or `noted_verdict`, then its 16 and 17.
 #![tactic(auto)]
 
-ghost use Rattle.std.specs.Prelude.{◌≡◌, ℕ, ◌≤◌, T, length, Ok};
+ghost use Rattle.std.specs.Prelude.{◌≡◌, ◌≤◌, T, length, Ok};
+ghost use Rattle.scene.specs.declared.Flaw.{Flaw};
 ghost use Rattle.whole.specs.Decides.{Decides};
 ghost use Rattle.scene.specs.Read.{Fault, given_first, given_second, IsObject, IsScene};
-ghost use Rattle.scene.specs.Conditions.{check_scene, check_object};
+ghost use Rattle.scene.specs.Conditions.{or_else, check_scene, check_object};
+ghost use Rattle.check_conditions.specs.Faults.{fault_under};
 ghost use Rattle.sweep_laws.specs.Swept.{InOrder};
 ghost use Rattle.sweep_laws.specs.Noted.{Noted};
-ghost use Rattle.check_verdict.specs.Refusals.{scene_fault_under, numbered, verdict, Finds, object_verdict, geometry_verdict};
+ghost use Rattle.check_verdict.specs.Refusals.{scene_fault_under, flawed, verdict, Finds, object_verdict, geometry_verdict};
 ghost use Rattle.check_verdict.specs.SharedPoints.{CheckedMeans, CheckedObjectMeans};
 
-use scene::{Layout, Refusal, Scene, order};
+use scene::{Flaw, Layout, Reason, Refusal, Scene, order};
 
-// The earliest record of a scene at fault under one of the conditions 10 to 15.
-fn scene_fault(s: &[u8], scene: Scene, number: u8) -> Option<usize>
+// The flaws of one object and those of a scene, in the order of their conditions.
+const OBJECT_FLAWS: [Flaw; 5] = [
+    Flaw::Misplaced,
+    Flaw::Unpaired,
+    Flaw::Touching,
+    Flaw::OddEnd,
+    Flaw::WrongIa,
+];
+
+const SCENE_FLAWS: [Flaw; 6] = [
+    Flaw::Misplaced,
+    Flaw::Unpaired,
+    Flaw::Touching,
+    Flaw::OddEnd,
+    Flaw::WrongIa,
+    Flaw::TouchingAcross,
+];
+
+// The earliest record of one of two objects that has a flaw: of the first, or else of the second.
+fn fault_in_either(s: &[u8], first: Layout, second: Layout, flaw: Flaw) -> Option<usize>
+    requires { IsObject s.now first × IsObject s.now second }
+    ensures { result ≡ or_else (fault_under s.now first second flaw) (fault_under s.now second first flaw) }
+{
+    match check_conditions::fault_under(s, first, second, flaw) {
+        Some(place) => Some(place),
+        None => check_conditions::fault_under(s, second, first, flaw),
+    }
+}
+
+// The earliest record of a scene that has a flaw.
+fn scene_fault(s: &[u8], scene: Scene, flaw: Flaw) -> Option<usize>
     requires { IsObject s.now (given_first scene) × IsObject s.now (given_second scene) }
-    ensures { result ≡ scene_fault_under s.now scene number }
+    ensures { result ≡ scene_fault_under s.now scene flaw }
 {
     let first = order::given_first(scene);
     let second = order::given_second(scene);
-    let fault = check_conditions::fault_under(s, first, second, number);
-    if number == 15 || fault.is_some() {
-        return fault;
+    match flaw {
+        Flaw::TouchingAcross => check_conditions::fault_under(s, first, second, flaw),
+        _ => fault_in_either(s, first, second, flaw),
     }
-    check_conditions::fault_under(s, second, first, number)
 }
 
-// The first refusal under the conditions from 10 up to an end, by the earliest record at fault under each.
-fn first_refusal<F: Fn(u8) -> Option<usize>>(end: u8, fault: F) -> Result<(), Refusal>
+// The first refusal for one of several flaws, by the earliest record that has each.
+fn first_refusal<F: Fn(Flaw) -> Option<usize>>(flaws: &[Flaw], fault: F) -> Result<(), Refusal>
     requires { F.IsAlwaysCallable fault }
-    ensures { (found : ℕ → Fault) → Finds (F.post fault) found → result ≡ verdict (numbered found 10 end) }
+    ensures { (found : Flaw → Fault) → Finds (F.post fault) found → result ≡ verdict (flawed found flaws.now) }
 {
-    for number in 10..end {
-        if let Some(place) = fault(number) {
-            return Err(Refusal { number, place });
+    for &flaw in flaws {
+        if let Some(place) = fault(flaw) {
+            return Err(Refusal {
+                reason: Reason::Flawed(flaw),
+                place,
+            });
         }
     }
     Ok(())
@@ -45,7 +78,7 @@ pub fn object_verdict(s: &[u8], l: Layout) -> Result<(), Refusal>
     requires { IsObject s.now l }
     ensures { result ≡ object_verdict s.now l }
 {
-    first_refusal(15, |number| check_conditions::fault_under(s, l, l, number))
+    first_refusal(&OBJECT_FLAWS, |flaw| check_conditions::fault_under(s, l, l, flaw))
 }
 
 // The first refusal under 10 to 15 of a scene, condition by condition.
@@ -53,7 +86,7 @@ fn plain_verdict(s: &[u8], scene: Scene) -> Result<(), Refusal>
     requires { IsObject s.now (given_first scene) × IsObject s.now (given_second scene) }
     ensures { result ≡ geometry_verdict s.now scene }
 {
-    first_refusal(16, |number| scene_fault(s, scene, number))
+    first_refusal(&SCENE_FLAWS, |flaw| scene_fault(s, scene, flaw))
 }
 
 // Does each element of either object come strictly after the one before?

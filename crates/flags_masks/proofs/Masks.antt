@@ -57,7 +57,7 @@ module _ (all : ℕ) (flags : List Bool) (ones : all ≡ 2 ^ length flags - 1) w
   whole : only all (pack flags) ≡ pack flags
   whole = ap (bit_and (pack flags)) ones ∙ and_mask (pack flags) (length flags) ∙ mod-eq_of_lt (pack_lt flags)
 
--- ---- refusal 9, and the vectors
+-- ---- refusal StrayFlag, and the vectors
 
 -- a mask that wants nothing leaves nothing of a vector
 pub none_wanted : (mask v : ℕ) → mask ≡ 0 → 0 ≡ only mask v

@@ -1,4 +1,5 @@
 -- The answer of the vectors question by the verdicts that lead to it; and what a scene that is taken gives the walks.
+use Rattle.scene.specs.declared.Reason.TheVariants.{StrayFlag}
 use Rattle.std.specs.Prelude.{Err, Ok}
 use Prim.Native.Nat.{ℕ}
 use native.Mathlib.Omega.{arith}
@@ -77,18 +78,18 @@ module _ (s : List ℕ) (sc : Scene) (is : IsScene s sc) where
   sound g = rw (check_read [] [] s sc is, g)
 
   module _ (wanted : Wanted) where
-    pub stray : stray_in sc (masks_for wanted sc) ≡ true → answer_of s wanted ≡ Err (record { number = 9; place = 0 })
+    pub stray : stray_in sc (masks_for wanted sc) ≡ true → answer_of s wanted ≡ Err (record { reason = StrayFlag; place = 0 })
     unfolding answer_of
-    stray e = rw (check_read (rule 9 (stray_wanted wanted) ∷ []) [] s sc is, e)
+    stray e = rw (check_read (rule StrayFlag (stray_wanted wanted) ∷ []) [] s sc is, e)
 
     module _ (tidy : stray_in sc (masks_for wanted sc) ≡ false) where
       pub at_fault : (r : Refusal) → geometry_verdict s sc ≡ Err r → answer_of s wanted ≡ Err r
       unfolding answer_of
-      at_fault r g = rw (check_read (rule 9 (stray_wanted wanted) ∷ []) [] s sc is, tidy, g)
+      at_fault r g = rw (check_read (rule StrayFlag (stray_wanted wanted) ∷ []) [] s sc is, tidy, g)
 
       pub taken : geometry_verdict s sc ≡ Ok tt → {v : Vectors} → v ≡ vectors_in s sc wanted → answer_of s wanted ≡ Ok (with_vectors sc v)
       unfolding answer_of
-      taken g e = rw (check_read (rule 9 (stray_wanted wanted) ∷ []) [] s sc is, tidy, g, e)
+      taken g e = rw (check_read (rule StrayFlag (stray_wanted wanted) ∷ []) [] s sc is, tidy, g, e)
 
 -- ---- where 9 finds nothing, whatever the scene
 
@@ -104,7 +105,7 @@ module _ (wanted : Wanted) (tidy : (sc : Scene) → stray_in sc (masks_for wante
     where
       go : (k : CheckedScene) → read_scene s ≡ k → check_vectors s wanted ≡ check_scene_by (scene_rules [] []) s
       go (Err r) e = check_refused (vectors_rules wanted) s r e ∙ sym (check_refused (scene_rules [] []) s r e)
-      go (Ok sc) e = rw (check_read (rule 9 (stray_wanted wanted) ∷ []) [] s sc e, check_read [] [] s sc e, tidy sc)
+      go (Ok sc) e = rw (check_read (rule StrayFlag (stray_wanted wanted) ∷ []) [] s sc e, check_read [] [] s sc e, tidy sc)
 
   module _ {a : SceneAnswer} (is : a ≡ answer_of s wanted) where
     by_check : a ≡ answered s wanted (check_scene s)

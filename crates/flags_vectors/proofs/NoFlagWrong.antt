@@ -1,5 +1,6 @@
 -- Demand 2 over bytes: no flag of the vectors question's answer is wrong, and what its verdict says of the points that segments share; and that the flags of
 -- two masks are a part of those with all flags wanted.
+use Rattle.scene.specs.declared.Reason.TheVariants.{StrayFlag}
 use Rattle.std.specs.Prelude.{Err, Ok}
 use Rattle.scene.specs.Read.{CheckedScene}
 use Rattle.check_verdict.specs.Refusals.{Verdict}
@@ -60,7 +61,7 @@ module _ (s : List ℕ) (wantF wantG : ℕ) where
       (sym e) (given_right sc)
 
   vectors_mean : CheckedMeans s (check_vectors s (these wantF wantG))
-  vectors_mean = checked_means_by (rule 9 (stray_wanted (these wantF wantG)) ∷ []) [] s (λ _. (omega arith, tt)) (λ _. tt)
+  vectors_mean = checked_means_by (rule StrayFlag (stray_wanted (these wantF wantG)) ∷ []) [] s (λ _. (omega arith, tt)) (λ _. tt)
 
   -- as the contract says it of its result
   pub with_meaning : {r : VectorsAnswer} → r ≡ vectors_of s wantF wantG
@@ -85,7 +86,7 @@ without_nine s wanted sc e = by_reading (read_scene s) refl
     by_reading (Err r) q = absurd (never_taken (sym (check_refused (vectors_rules wanted) s r q) ∙ e))
     by_reading (Ok k) q =
         check_read [] [] s k q
-        ∙ settled (verdict (conditions (rule 9 (stray_wanted wanted) ∷ []) s k)) (geometry_verdict s k) k (sym (check_read (rule 9 (stray_wanted wanted) ∷ []) [] s k q) ∙ e)
+        ∙ settled (verdict (conditions (rule StrayFlag (stray_wanted wanted) ∷ []) s k)) (geometry_verdict s k) k (sym (check_read (rule StrayFlag (stray_wanted wanted) ∷ []) [] s k q) ∙ e)
 
 pub masked_from_all : (s : List ℕ) (masks : FlagMasks) → MaskedFromAll s masks
 unfolding masks_for

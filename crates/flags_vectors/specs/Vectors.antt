@@ -1,8 +1,9 @@
 -- The vectors question: "scene and two 16-bit wanted masks; two 16-bit vectors"; and what a flag of the answer means for a scene that is taken.
+use Rattle.scene.specs.declared.Reason.TheVariants.{StrayFlag}
 use Rattle.std.specs.Prelude.{Result, Ok, Err, ℕ, ◌≡◌, ◌↔◌, Bool, not, cond, List, [], ◌∷◌, T}
 use Rattle.scene.specs.declared.Scene.{Scene}
 use Rattle.scene.specs.declared.Refusal.{Refusal}
-use Rattle.scene.specs.Read.{CheckedScene, Fault, shape_number, unless, turned, as_given}
+use Rattle.scene.specs.Read.{number_of, CheckedScene, Fault, shape_number, unless, turned, as_given}
 use Rattle.scene.specs.Conditions.{Rule, rule, scene_rules, check_scene_by}
 use Rattle.flags_vectors.specs.declared.Vectors.{Vectors}
 use Rattle.flags_vectors.specs.declared.SceneVectors.{SceneVectors}
@@ -37,7 +38,7 @@ stray_wanted wanted s sc = unless (not (stray_in sc (masks_for wanted sc))) 0
 
 -- "Then 8 to 17 in order": 9 before 10. "Number 9 belongs to the vectors question only."
 abbrev pub vectors_rules : Wanted → List (Rule Scene)
-vectors_rules wanted = scene_rules (rule 9 (stray_wanted wanted) ∷ []) []
+vectors_rules wanted = scene_rules (rule StrayFlag (stray_wanted wanted) ∷ []) []
 
 abbrev pub check_vectors : List ℕ → Wanted → CheckedScene
 check_vectors s wanted = check_scene_by (vectors_rules wanted) s
@@ -80,7 +81,7 @@ pub record VectorsValues : Type 0 where
 
 abbrev pub vectors_values : VectorsAnswer → VectorsValues
 vectors_values (Ok v) = record { number = 0; place = 0; f = v.f; g = v.g }
-vectors_values (Err r) = record { number = r.number; place = r.place; f = 0; g = 0 }
+vectors_values (Err r) = record { number = number_of r.reason; place = r.place; f = 0; g = 0 }
 
 -- ---- demand 2
 

@@ -16,7 +16,7 @@ use flags_classes::{Classes, ClassesOfBoth};
 use flags_masks::{FlagMasks, Wanted};
 use flags_meetings::Meetings;
 use flags_table::walks;
-use scene::{Refusal, Scene, Shape, order};
+use scene::{Reason, Refusal, Scene, Shape, order};
 
 // How the elements of a scene meet at points, where a wanted flag is read off that.
 fn wanted_meetings(s: &[u8], scene: Scene, masks: FlagMasks, notes: &[u8]) -> Meetings
@@ -109,7 +109,7 @@ pub fn answer(s: &[u8], wanted: Wanted) -> Result<SceneVectors, Refusal>
     let masks = flags_masks::masks_for(wanted, scene);
     if flags_masks::any_stray(scene, masks.f, masks.g) {
         return Err(Refusal {
-            number: 9,
+            reason: Reason::StrayFlag,
             place: 0,
         });
     }

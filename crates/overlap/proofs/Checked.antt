@@ -1,4 +1,5 @@
 -- The check of two regions: the verdicts that lead to it, with 16 last; the check before the list, with 17 after it; and what a scene gives that passes all.
+use Rattle.scene.specs.declared.Reason.TheVariants.{NotRegions, ShortBuffer}
 use Rattle.std.specs.Prelude.{Err, None, Ok, Some}
 use Rattle.scene.specs.Read.{CheckedScene, Fault}
 use Rattle.check_verdict.specs.Refusals.{Verdict}
@@ -31,7 +32,7 @@ use Rattle.overlap.specs.Rules.{list_of, not_regions, shorter, region_rules, jud
 -- ---- 16 comes last
 
 module _ (s : List ℕ) (sc : Scene) where
-  pub sixteen : (p : ℕ) → not_regions s sc ≡ Some p → judged s sc ≡ Err (record { number = 16; place = p })
+  pub sixteen : (p : ℕ) → not_regions s sc ≡ Some p → judged s sc ≡ Err (record { reason = NotRegions; place = p })
   sixteen p q = rw q
 
   pub passed : not_regions s sc ≡ None → judged s sc ≡ Ok sc
@@ -41,7 +42,7 @@ module _ (s : List ℕ) (sc : Scene) where
   judged_same : (o : Scene) → judged s sc ≡ Ok o → sc ≡ o
   judged_same o = go (not_regions s sc)
     where
-      go : (a : Fault) → decide Err 16 a (Ok sc) ≡ Ok o → sc ≡ o
+      go : (a : Fault) → decide Err NotRegions a (Ok sc) ≡ Ok o → sc ≡ o
       go (Some p) e = absurd (never_taken e)
       go None e = same_taken e
 
@@ -74,14 +75,14 @@ module _ (s : List ℕ) where
 module _ (s : List ℕ) (room : ℕ) where
   abbrev with_room : CheckedScene → CheckedScene
   with_room (Err r) = Err r
-  with_room (Ok sc) = decide Err 17 (shorter room s sc) (Ok sc)
+  with_room (Ok sc) = decide Err ShortBuffer (shorter room s sc) (Ok sc)
 
   list_after : check_list s room ≡ with_room (check_regions s)
   unfolding check_list check_regions
   list_after = go (read_scene s) refl
     where
       judged_after : (sc : Scene) (a : Fault)
-          → decide Err 16 a (decide Err 17 (shorter room s sc) (Ok sc)) ≡ with_room (decide Err 16 a (Ok sc))
+          → decide Err NotRegions a (decide Err ShortBuffer (shorter room s sc) (Ok sc)) ≡ with_room (decide Err NotRegions a (Ok sc))
       judged_after sc (Some p) = refl
       judged_after sc None = refl
 
@@ -98,7 +99,7 @@ module _ (s : List ℕ) (room : ℕ) where
   no_regions r e = list_after ∙ ap with_room e
 
   module _ (sc : Scene) (regions : check_regions s ≡ Ok sc) where
-    pub seventeen : room < length (list_of s sc) → check_list s room ≡ Err (record { number = 17; place = 0 })
+    pub seventeen : room < length (list_of s sc) → check_list s room ≡ Err (record { reason = ShortBuffer; place = 0 })
     seventeen h = list_after ∙ ap with_room regions ∙ rw (lt-leb (length (list_of s sc)) room h)
 
     pub roomy : length (list_of s sc) ≤ room → check_list s room ≡ Ok sc
@@ -143,7 +144,7 @@ pub record Listable (s : List ℕ) (room : ℕ) (sc : Scene) : Type 0 where
 pub listable : (s : List ℕ) (room : ℕ) (sc : Scene) → check_list s room ≡ Ok sc → Listable s room sc
 listable s room sc e = go (check_regions s) refl (sym (list_after s room) ∙ e)
   where
-    by_room : (o : Scene) (a : Fault) → shorter room s o ≡ a → decide Err 17 a (Ok o) ≡ Ok sc → (o ≡ sc) × (shorter room s o ≡ None)
+    by_room : (o : Scene) (a : Fault) → shorter room s o ≡ a → decide Err ShortBuffer a (Ok o) ≡ Ok sc → (o ≡ sc) × (shorter room s o ≡ None)
     by_room o (Some p) q h = absurd (never_taken h)
     by_room o None q h = (same_taken h, q)
 

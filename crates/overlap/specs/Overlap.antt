@@ -2,7 +2,7 @@
 -- untouched."
 use Rattle.std.specs.Prelude.{Result, Ok, Err, ℕ, List, ◌++◌, length, drop}
 use Rattle.scene.specs.declared.Refusal.{Refusal}
-use Rattle.scene.specs.Read.{CheckedScene}
+use Rattle.scene.specs.Read.{number_of, CheckedScene}
 use Rattle.overlap.specs.Rules.{list_of, check_list}
 
 -- the count, or the refusal
@@ -20,7 +20,7 @@ pub record OverlapValues : Type 0 where
   pub count : ℕ
 
 abbrev pub overlap_values : OverlapAnswer → OverlapValues
-overlap_values (Err r) = record { number = r.number; place = r.place; count = 0 }
+overlap_values (Err r) = record { number = number_of r.reason; place = r.place; count = 0 }
 overlap_values (Ok n) = record { number = 0; place = 0; count = n }
 
 -- what the lent buffer then holds

@@ -1,5 +1,6 @@
 -- What a question about two regions turns away after all others, 16, and the overlap list question after that, 17; and what the check of a scene promises
 -- of the sweep's notes.
+use Rattle.scene.specs.declared.Reason.TheVariants.{NotRegions, ShortBuffer}
 use Rattle.std.specs.Prelude.{Ok, Err, ℕ, ◌≡◌, List, [], ◌∷◌, length, leb}
 use Rattle.scene.specs.declared.Scene.{Scene}
 use Rattle.scene.specs.Read.{CheckedScene, Fault, unless, judge, given_first, given_second}
@@ -17,7 +18,7 @@ not_regions s sc =
     or_else (unless (is_region (given_first sc).shape) (given_first sc).start) (unless (is_region (given_second sc).shape) (given_second sc).start)
 
 abbrev pub region_rules : List (Rule Scene)
-region_rules = rule 16 not_regions ∷ []
+region_rules = rule NotRegions not_regions ∷ []
 
 -- of a scene that passes all others
 abbrev pub judged : List ℕ → Scene → CheckedScene
@@ -32,7 +33,7 @@ abbrev pub shorter : ℕ → List ℕ → Scene → Fault
 shorter room s sc = unless (leb (length (list_of s sc)) room) 0
 
 abbrev pub list_rules : ℕ → List (Rule Scene)
-list_rules room = rule 16 not_regions ∷ rule 17 (shorter room) ∷ []
+list_rules room = rule NotRegions not_regions ∷ rule ShortBuffer (shorter room) ∷ []
 
 unfoldable pub check_list : List ℕ → ℕ → CheckedScene
 check_list s room = check_scene_by (scene_rules [] (list_rules room)) s

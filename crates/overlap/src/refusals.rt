@@ -3,7 +3,7 @@ ghost use Rattle.std.specs.Prelude.{◌≡◌, List, ℕ, ◌≤◌, length};
 ghost use Rattle.overlap.specs.Rules.{not_regions, judged, check_regions, check_list, NotedWhere};
 
 use crate::walk;
-use scene::{Refusal, Scene, order};
+use scene::{Reason, Refusal, Scene, order};
 
 // 16: the first type record that is not 3.
 fn regions_fault(scene: Scene) -> Option<usize>
@@ -26,7 +26,10 @@ fn judge(scene: Scene) -> Result<Scene, Refusal>
     ensures { (s : List ℕ) → result ≡ judged s scene }
 {
     match regions_fault(scene) {
-        Some(place) => Err(Refusal { number: 16, place }),
+        Some(place) => Err(Refusal {
+            reason: Reason::NotRegions,
+            place,
+        }),
         None => Ok(scene),
     }
 }
@@ -49,7 +52,7 @@ pub fn check_list(s: &[u8], room: usize, notes: &mut [u8]) -> Result<Scene, Refu
     let scene = check_regions(s, notes)?;
     if room < walk::count(s, scene.f, scene.g) {
         return Err(Refusal {
-            number: 17,
+            reason: Reason::ShortBuffer,
             place: 0,
         });
     }

@@ -36,9 +36,9 @@ module _ {A : Type 0} (s : List ℕ) (a : A) where
     no_fault [] b e = (e, tt)
     no_fault (r ∷ rules) b e = go (r.fault s a) refl e (no_fault rules b)
       where
-        go : (f : Fault) → r.fault s a ≡ f → decide refuse r.number f (judge refuse b (conditions rules s a)) ≡ taken
+        go : (f : Fault) → r.fault s a ≡ f → decide refuse r.reason f (judge refuse b (conditions rules s a)) ≡ taken
             → (judge refuse b (conditions rules s a) ≡ taken → (b ≡ taken) × NoFault rules) → (b ≡ taken) × NoFault (r ∷ rules)
-        go (Some p) q x later = absurd (never (record { number = r.number; place = p }) x)
+        go (Some p) q x later = absurd (never (record { reason = r.reason; place = p }) x)
         go None q x later = ((later x).0, (q, (later x).1))
 
   -- a list with no fault

@@ -11,6 +11,7 @@ use lib.ListN.{length}
 use lib.Dec.{eqb}
 use borrow.Author.Tests.{eqb-true, eqb-false, not-true}
 use Rattle.plane.specs.Plane.{in_range, segment_in_range, ordered}
+use Rattle.scene.specs.declared.Reason.TheVariants.{WrongKind, WrongField, OutOfRange, EndsReversed, TooMany}
 use Rattle.scene.specs.declared.Shape.{Shape}
 use Rattle.scene.specs.declared.Shape.TheVariants.{Points, Line, Region}
 use Rattle.scene.specs.declared.Kind.{Kind}
@@ -36,7 +37,7 @@ module _ (d : ℕ) where
   moved_fault None = None
 
   abbrev pub moved_refusal : Refusal → Refusal
-  moved_refusal r = refusal r.number (r.place + d)
+  moved_refusal r = refusal r.reason (r.place + d)
 
   abbrev pub moved_record : Record → Record
   moved_record (Ok k) = Ok k
@@ -60,7 +61,7 @@ unmoved_fault None = refl
 
 pub unmoved_object : (o : CheckedObject) → moved_object 0 o ≡ o
 unmoved_object (Ok l) = ap Ok (unmoved l)
-unmoved_object (Err r) = ap (λ (p : ℕ). Err (refusal r.number p)) (add-zero r.place)
+unmoved_object (Err r) = ap (λ (p : ℕ). Err (refusal r.reason p)) (add-zero r.place)
 
 -- ---- bytes that agree
 
@@ -94,7 +95,7 @@ module _ {d n : ℕ} {s t : List ℕ} (g : Agree d n s t) where
 -- the three tests on a record's fields, at p
 abbrev field_tests : Kind → ℕ → Bool → Bool → Bool → Record
 field_tests k p fields coordinates ends =
-    judge Err (Ok k) (condition 3 (unless fields p) ∷ condition 4 (unless coordinates p) ∷ condition 5 (unless ends p) ∷ [])
+    judge Err (Ok k) (condition WrongField (unless fields p) ∷ condition OutOfRange (unless coordinates p) ∷ condition EndsReversed (unless ends p) ∷ [])
 
 moved_tests : (d : ℕ) (k : Kind) (p : ℕ) (fields coordinates ends : Bool) → field_tests k (p + d) fields coordinates ends ≡ moved_record d (field_tests k p fields coordinates ends)
 moved_tests d k p false coordinates ends = refl
@@ -163,14 +164,14 @@ module _ {d n : ℕ} {s t : List ℕ} (g : Agree d n s t) (at to : ℕ) (e : to 
             ∙ ap (moved_record d) (sym (whole_body s at allowed full j in_s refl a r (omega (arith, g.long_s))))
         rooms a false r =
             no_room t to allowed full j in_t kind a r
-            ∙ ap (λ (p : ℕ). Err (refusal 6 p)) e
+            ∙ ap (λ (p : ℕ). Err (refusal TooMany p)) e
             ∙ ap (moved_record d) (sym (no_room s at allowed full j in_s refl a r))
 
         kinds : (x : Bool) → allowed j ≡ x → record_at t to allowed full ≡ moved_record d (record_at s at allowed full)
         kinds true a = rooms a (has_room full j) refl
         kinds false a =
             not_allowed t to allowed full j in_t kind a
-            ∙ ap (λ (p : ℕ). Err (refusal 2 p)) e
+            ∙ ap (λ (p : ℕ). Err (refusal WrongKind p)) e
             ∙ ap (moved_record d) (sym (not_allowed s at allowed full j in_s refl a))
 
   moved_type : at + 2 ≤ n → record_at t to starts_object false ≡ moved_record d (record_at s at starts_object false)

@@ -31,7 +31,7 @@ module _ {A : Type 0} (x : Result A Refusal) where
   all_passed [] e = refl
   all_passed (c ∷ cs) e = go c.fault (all_passed cs) e
     where
-      go : (f : Fault) → (passed cs ≡ Ok tt → judge Err x cs ≡ x) → decide Err c.number f (passed cs) ≡ Ok tt → decide Err c.number f (judge Err x cs) ≡ x
+      go : (f : Fault) → (passed cs ≡ Ok tt → judge Err x cs ≡ x) → decide Err c.reason f (passed cs) ≡ Ok tt → decide Err c.reason f (judge Err x cs) ≡ x
       go (Some p) rest e = absurd (never_taken e)
       go None rest e = rest e
 
@@ -39,6 +39,6 @@ module _ {A : Type 0} (x : Result A Refusal) where
   not_passed [] e = absurd (never_taken (sym e))
   not_passed (c ∷ cs) {r} e = go c.fault (not_passed cs) e
     where
-      go : (f : Fault) → (passed cs ≡ Err r → judge Err x cs ≡ Err r) → decide Err c.number f (passed cs) ≡ Err r → decide Err c.number f (judge Err x cs) ≡ Err r
+      go : (f : Fault) → (passed cs ≡ Err r → judge Err x cs ≡ Err r) → decide Err c.reason f (passed cs) ≡ Err r → decide Err c.reason f (judge Err x cs) ≡ Err r
       go (Some p) rest e = ap Err (same_refusal e)
       go None rest e = rest e

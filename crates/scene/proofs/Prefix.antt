@@ -10,6 +10,7 @@ use mathlib.Core.List.{List}
 use lib.ListN.{length, take, length-take}
 use lib.Seq.{get_or-take, take_all}
 use borrow.Author.Tests.{lt-leb}
+use Rattle.scene.specs.declared.Reason.TheVariants.{MoreBytes}
 use Rattle.scene.specs.declared.Shape.{Shape}
 use Rattle.scene.specs.declared.Shape.TheVariants.{Points, Line, Region}
 use Rattle.scene.specs.declared.Layout.{Layout}
@@ -51,7 +52,7 @@ module _ (s t : List ℕ) (g : Agree 0 enough s t) where
           → (o : CheckedObject) → read_object s (after f) ≡ o → read_object t (after f) ≡ o → BothRefused s t
       of_g_lem f e e' (Err r) q q' = record { refusal = r; of_s = rw (e, q); of_t = rw (e', q') }
       of_g_lem f e e' (Ok o) q q' = record {
-        refusal = record { number = 7; place = after o };
+        refusal = record { reason = MoreBytes; place = after o };
         of_s = rw (e, q, lt-leb (length s) (after o) (omega (arith, g.long_s, short)));
         of_t = rw (e', q', lt-leb (length t) (after o) (omega (arith, g.long_t, short)));
       }

@@ -12,6 +12,7 @@ use mathlib.Core.List.{List, [], ◌∷◌}
 use lib.ListN.{length}
 use lib.Dec.{T, leb, ltb, eqb, eqb→eq}
 use borrow.Author.Tests.{eq-eqb, ne_eqb, leb-true, le-leb, ltb-true, ltb-false, lt-ltb, le-ltb}
+use Rattle.scene.specs.declared.Reason.TheVariants.{MoreBytes}
 use Rattle.scene.specs.declared.Shape.{Shape}
 use Rattle.scene.specs.declared.Shape.TheVariants.{Points, Line, Region}
 use Rattle.scene.specs.declared.Kind.{Kind}
@@ -222,9 +223,9 @@ module _ (s : List ℕ) (at : ℕ) (l : Layout) (e : read_object s at ≡ Ok l) 
       taken : TakenObject s at l
       taken = taken_object s at l e
 
-      go : (b : Bool) → leb (length s) (after l) ≡ b → decide refuse 7 (unless b (after l)) a ≡ a' → TakenAlone s at l × (a ≡ a')
+      go : (b : Bool) → leb (length s) (after l) ≡ b → decide refuse MoreBytes (unless b (after l)) a ≡ a' → TakenAlone s at l × (a ≡ a')
       go true x q = (record { object = taken; read = is_object s at l e; all = omega (arith, taken.ends, leb-true (length s) (after l) x) }, q)
-      go false x q = absurd (never (record { number = 7; place = after l }) q)
+      go false x q = absurd (never (record { reason = MoreBytes; place = after l }) q)
 
 pub taken_alone : (s : List ℕ) (l : Layout) → read_alone s ≡ Ok l → TakenAlone s 0 l
 unfolding read_alone

@@ -12,6 +12,9 @@ use Rattle.scene.specs.declared.Shape.{Shape}
 use Rattle.scene.specs.declared.Shape.TheVariants.{Points, Line, Region}
 use Rattle.scene.specs.declared.Layout.{Layout}
 use Rattle.scene.specs.declared.Scene.{Scene}
+use Rattle.scene.specs.declared.Reason.{Reason}
+use Rattle.scene.specs.declared.Flaw.TheVariants.{Misplaced, Unpaired, Touching, OddEnd, WrongIa, TouchingAcross}
+use Rattle.scene.specs.declared.Reason.TheVariants.{Flawed}
 use Rattle.scene.specs.Read.{point_at, halfsegment_at, ia_at, place, given_first, given_second, Condition, condition, judge, read_scene, read_alone}
 
 -- ---- the elements of an object, by their index
@@ -126,18 +129,18 @@ module _ (s : List ℕ) (l : Layout) where
 -- ---- the order of the conditions: "Then 8 to 17 in order, each over the whole scene."
 
 pub record Rule (A : Type 0) : Type 0 where
-  pub number : ℕ
+  pub reason : Reason
   pub fault : List ℕ → A → Fault
 
 module _ {A : Type 0} where
-  abbrev pub rule : ℕ → (List ℕ → A → Fault) → Rule A
-  rule n f = record { number = n; fault = f }
+  abbrev pub rule : Reason → (List ℕ → A → Fault) → Rule A
+  rule n f = record { reason = n; fault = f }
 
   abbrev pub conditions : List (Rule A) → List ℕ → A → List Condition
-  conditions rules s a = map (λ (r : Rule A). condition r.number (r.fault s a)) rules
+  conditions rules s a = map (λ (r : Rule A). condition r.reason (r.fault s a)) rules
 
 abbrev pub object_rules : List (Rule Layout)
-object_rules = rule 10 out_of_order ∷ rule 11 unpaired ∷ rule 12 touching_itself ∷ rule 13 odd_end ∷ rule 14 wrong_ia ∷ []
+object_rules = rule (Flawed Misplaced) out_of_order ∷ rule (Flawed Unpaired) unpaired ∷ rule (Flawed Touching) touching_itself ∷ rule (Flawed OddEnd) odd_end ∷ rule (Flawed WrongIa) wrong_ia ∷ []
 
 -- over a scene: "the earliest in those bytes if several", so the object given first comes first
 abbrev pub or_else : Fault → Fault → Fault
@@ -145,7 +148,7 @@ or_else (Some p) other = Some p
 or_else None other = other
 
 abbrev pub over_both : Rule Layout → Rule Scene
-over_both r = rule r.number (λ s sc. or_else (r.fault s (given_first sc)) (r.fault s (given_second sc)))
+over_both r = rule r.reason (λ s sc. or_else (r.fault s (given_first sc)) (r.fault s (given_second sc)))
 
 -- 15: "unequal segments of F and G share a point that is not an end of both"; 02, Paper 1: "for 15 the record is the caller's first object's"
 abbrev pub touching_across : List ℕ → Scene → Fault
@@ -153,7 +156,7 @@ touching_across s sc = touching s (given_first sc) (segments s (given_second sc)
 
 -- A question's own conditions stand in their places: 9 among them, and 16 and 17 after them.
 abbrev pub scene_rules : List (Rule Scene) → List (Rule Scene) → List (Rule Scene)
-scene_rules nine later = nine ++ (map over_both object_rules ++ (rule 15 touching_across ∷ later))
+scene_rules nine later = nine ++ (map over_both object_rules ++ (rule (Flawed TouchingAcross) touching_across ∷ later))
 
 -- ---- checking
 

@@ -7,6 +7,7 @@ use Rattle.plane.specs.Plane.{segment_in_range, ordered}
 use Rattle.scene.specs.declared.Shape.{Shape}
 use Rattle.scene.specs.declared.Kind.{Kind}
 use Rattle.scene.specs.declared.Kind.TheVariants.{Element}
+use Rattle.scene.specs.declared.Reason.TheVariants.{OutOfRange, EndsReversed}
 use Rattle.scene.specs.Read.{unless, condition, judge, field_conditions}
 
 -- 3, 4, 5 of a record of kind k whose body is there
@@ -16,4 +17,4 @@ fields_at s at k = judge Err (Ok k) (field_conditions s at k)
 -- 4, 5 of a halfsegment record
 abbrev pub segment_fields : Segment → ℕ → Shape → Record
 segment_fields t at k =
-    judge Err (Ok (Element k)) (condition 4 (unless (segment_in_range t) at) ∷ condition 5 (unless (ordered t) at) ∷ [])
+    judge Err (Ok (Element k)) (condition OutOfRange (unless (segment_in_range t) at) ∷ condition EndsReversed (unless (ordered t) at) ∷ [])

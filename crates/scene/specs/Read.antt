@@ -12,6 +12,10 @@ use Rattle.scene.specs.declared.Kind.TheVariants.{Start, Element, End, Unknown}
 use Rattle.scene.specs.declared.Layout.{Layout}
 use Rattle.scene.specs.declared.Scene.{Scene}
 use Rattle.scene.specs.declared.Refusal.{Refusal}
+use Rattle.scene.specs.declared.Flaw.{Flaw}
+use Rattle.scene.specs.declared.Flaw.TheVariants.{Misplaced, Unpaired, Touching, OddEnd, WrongIa, TouchingAcross}
+use Rattle.scene.specs.declared.Reason.{Reason}
+use Rattle.scene.specs.declared.Reason.TheVariants.{CutShort, WrongKind, WrongField, OutOfRange, EndsReversed, TooMany, MoreBytes, StrayFlag, Flawed, NotRegions, ShortBuffer, BadSummary, NotNine, NoCharacter, BadWindow, TooManySummaries}
 
 -- ---- the bytes of an element
 
@@ -78,6 +82,33 @@ shape_of n = cond (eqb n 1) Points (cond (eqb n 2) Line Region)
 
 -- ---- a record at fault
 
+-- the numbers of "What is turned away", and of the requests: "18 summary not good", "22 pattern not of nine characters", "23 a character outside the six", "27 not a window", "28 more than 64 summaries"
+abbrev pub flaw_number : Flaw → ℕ
+flaw_number Misplaced = 10
+flaw_number Unpaired = 11
+flaw_number Touching = 12
+flaw_number OddEnd = 13
+flaw_number WrongIa = 14
+flaw_number TouchingAcross = 15
+
+abbrev pub number_of : Reason → ℕ
+number_of CutShort = 1
+number_of WrongKind = 2
+number_of WrongField = 3
+number_of OutOfRange = 4
+number_of EndsReversed = 5
+number_of TooMany = 6
+number_of MoreBytes = 7
+number_of StrayFlag = 9
+number_of (Flawed f) = flaw_number f
+number_of NotRegions = 16
+number_of ShortBuffer = 17
+number_of BadSummary = 18
+number_of NotNine = 22
+number_of NoCharacter = 23
+number_of BadWindow = 27
+number_of TooManySummaries = 28
+
 -- "the earliest place at fault, if any" of one condition
 abbrev pub Fault : Type 0
 Fault = Option ℕ
@@ -94,24 +125,24 @@ CheckedScene = Result Scene Refusal
 
 -- a condition's fault with its number; and the first of several conditions that has one refuses
 pub record Condition : Type 0 where
-  pub number : ℕ
+  pub reason : Reason
   pub fault : Fault
 
 abbrev pub unless : Bool → ℕ → Fault
 unless true place = None
 unless false place = Some place
 
-abbrev pub condition : ℕ → Fault → Condition
-condition n f = record { number = n; fault = f }
+abbrev pub condition : Reason → Fault → Condition
+condition n f = record { reason = n; fault = f }
 
 module _ {A : Type 0} (refuse : Refusal → A) where
-  abbrev pub decide : ℕ → Fault → A → A
-  decide n (Some p) rest = refuse (record { number = n; place = p })
+  abbrev pub decide : Reason → Fault → A → A
+  decide n (Some p) rest = refuse (record { reason = n; place = p })
   decide n None rest = rest
 
   abbrev pub judge : A → List Condition → A
   judge taken [] = taken
-  judge taken (c ∷ cs) = decide c.number c.fault (judge taken cs)
+  judge taken (c ∷ cs) = decide c.reason c.fault (judge taken cs)
 
 -- "kind not allowed here": an object begins with a type record, and in it stand "elements of its kind, and an end"
 abbrev pub starts_object : Kind → Bool
@@ -165,17 +196,17 @@ module _ (s : List ℕ) (at : ℕ) where
   -- length if none began."
   abbrev pub field_conditions : Kind → List Condition
   field_conditions k =
-      condition 3 (unless (fields_good k) at)
-      ∷ condition 4 (unless (coordinates_good k) at)
-      ∷ condition 5 (unless (ends_good k) at)
+      condition WrongField (unless (fields_good k) at)
+      ∷ condition OutOfRange (unless (coordinates_good k) at)
+      ∷ condition EndsReversed (unless (ends_good k) at)
       ∷ []
 
   abbrev pub record_conditions : (Kind → Bool) → Bool → Kind → List Condition
   record_conditions allowed full k =
-      condition 1 (unless (ltb at (length s)) (length s))
-      ∷ condition 2 (unless (allowed k) at)
-      ∷ condition 6 (unless (has_room full k) at)
-      ∷ condition 1 (unless (leb (at + 1 + body_length k) (length s)) at)
+      condition CutShort (unless (ltb at (length s)) (length s))
+      ∷ condition WrongKind (unless (allowed k) at)
+      ∷ condition TooMany (unless (has_room full k) at)
+      ∷ condition CutShort (unless (leb (at + 1 + body_length k) (length s)) at)
       ∷ field_conditions k
 
   unfoldable pub record_at : (Kind → Bool) → Bool → Record
@@ -257,7 +288,7 @@ given_second sc = as_given sc sc.g sc.f
 
 -- "A scene is two objects, F then G, and no more": 7 is the first byte after the last end
 abbrev pub ends_with : List ℕ → Layout → Condition
-ends_with s l = condition 7 (unless (leb (length s) (after l)) (after l))
+ends_with s l = condition MoreBytes (unless (leb (length s) (after l)) (after l))
 
 abbrev pub scene_with_second : List ℕ → Layout → CheckedObject → CheckedScene
 scene_with_second s a (Err r) = Err r
@@ -297,8 +328,8 @@ pub record Values : Type 0 where
 
 abbrev pub scene_values : CheckedScene → Values
 scene_values (Ok sc) = record { number = 0; place = 0; types = shape_number (given_first sc).shape ∷ shape_number (given_second sc).shape ∷ [] }
-scene_values (Err r) = record { number = r.number; place = r.place; types = 0 ∷ 0 ∷ [] }
+scene_values (Err r) = record { number = number_of r.reason; place = r.place; types = 0 ∷ 0 ∷ [] }
 
 abbrev pub object_values : CheckedObject → Values
 object_values (Ok l) = record { number = 0; place = 0; types = shape_number l.shape ∷ [] }
-object_values (Err r) = record { number = r.number; place = r.place; types = 0 ∷ [] }
+object_values (Err r) = record { number = number_of r.reason; place = r.place; types = 0 ∷ [] }

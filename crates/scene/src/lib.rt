@@ -2,6 +2,9 @@
 // Elements are read where they stand in the bytes; nothing is copied out of them.
 #![tactic(auto)]
 
+ghost use Rattle.std.specs.Prelude.{◌≡◌};
+ghost use Rattle.scene.specs.Read.{flaw_number, number_of};
+
 // An object's type: 1, 2, 3 in a type record.
 #[derive(Clone, Copy)]
 pub enum Shape {
@@ -34,10 +37,82 @@ pub struct Scene {
     pub g: Layout,
 }
 
-// A refusal: its number in document 01's table, and a byte offset.
+// What can be wrong with objects whose records are good: the conditions 10 to 15.
+#[derive(Clone, Copy, PartialEq, Eq)]
+pub enum Flaw {
+    Misplaced,
+    Unpaired,
+    Touching,
+    OddEnd,
+    WrongIa,
+    TouchingAcross,
+}
+
+impl Flaw {
+    fn number(self) -> u8
+        ensures { result ≡ flaw_number self }
+    {
+        match self {
+            Flaw::Misplaced => 10,
+            Flaw::Unpaired => 11,
+            Flaw::Touching => 12,
+            Flaw::OddEnd => 13,
+            Flaw::WrongIa => 14,
+            Flaw::TouchingAcross => 15,
+        }
+    }
+}
+
+// Why something is turned away, each with its number in document 01's table or in the request that it came with. 8 is no longer given.
+#[derive(Clone, Copy, PartialEq, Eq)]
+pub enum Reason {
+    CutShort,
+    WrongKind,
+    WrongField,
+    OutOfRange,
+    EndsReversed,
+    TooMany,
+    MoreBytes,
+    StrayFlag,
+    Flawed(Flaw),
+    NotRegions,
+    ShortBuffer,
+    BadSummary,
+    NotNine,
+    NoCharacter,
+    BadWindow,
+    TooManySummaries,
+}
+
+impl Reason {
+    pub fn number(self) -> u8
+        ensures { result ≡ number_of self }
+    {
+        match self {
+            Reason::CutShort => 1,
+            Reason::WrongKind => 2,
+            Reason::WrongField => 3,
+            Reason::OutOfRange => 4,
+            Reason::EndsReversed => 5,
+            Reason::TooMany => 6,
+            Reason::MoreBytes => 7,
+            Reason::StrayFlag => 9,
+            Reason::Flawed(flaw) => flaw.number(),
+            Reason::NotRegions => 16,
+            Reason::ShortBuffer => 17,
+            Reason::BadSummary => 18,
+            Reason::NotNine => 22,
+            Reason::NoCharacter => 23,
+            Reason::BadWindow => 27,
+            Reason::TooManySummaries => 28,
+        }
+    }
+}
+
+// A refusal: why, and a byte offset.
 #[derive(Clone, Copy)]
 pub struct Refusal {
-    pub number: u8,
+    pub reason: Reason,
     pub place: usize,
 }
 

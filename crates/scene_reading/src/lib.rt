@@ -6,14 +6,14 @@ ghost use Rattle.scene.specs.Read.{size, record_at, starts_object, stands_in, mo
 ghost use Rattle.scene.specs.Inner.{fields_at, segment_fields};
 
 use plane::Segment;
-use scene::{Kind, Layout, Refusal, Scene, Shape, bytes, order, records};
+use scene::{Kind, Layout, Reason, Refusal, Scene, Shape, bytes, order, records};
 
 pub mod faultless;
 
-fn bad(number: u8, place: usize) -> Result<Kind, Refusal>
-    ensures { result ≡ Err (record { number = number; place = place }) }
+fn bad(reason: Reason, place: usize) -> Result<Kind, Refusal>
+    ensures { result ≡ Err (record { reason = reason; place = place }) }
 {
-    Err(Refusal { number, place })
+    Err(Refusal { reason, place })
 }
 
 // 4 and 5 of a halfsegment record.
@@ -21,13 +21,13 @@ fn segment_fields(segment: Segment, at: usize, k: Shape) -> Result<Kind, Refusal
     ensures { result ≡ segment_fields segment at k }
 {
     if !plane::is_in_range(segment.left) {
-        return bad(4, at);
+        return bad(Reason::OutOfRange, at);
     }
     if !plane::is_in_range(segment.right) {
-        return bad(4, at);
+        return bad(Reason::OutOfRange, at);
     }
     if !plane::is_before(segment.left, segment.right) {
-        return bad(5, at);
+        return bad(Reason::EndsReversed, at);
     }
     Ok(Kind::Element(k))
 }
@@ -42,19 +42,19 @@ fn fields(s: &[u8], at: usize, k: Shape) -> Result<Kind, Refusal>
             if plane::is_in_range(bytes::point(s, at)) {
                 Ok(Kind::Element(k))
             } else {
-                bad(4, at)
+                bad(Reason::OutOfRange, at)
             }
         }
         Shape::Line => {
             if 1 < s[at + 17] {
-                bad(3, at)
+                bad(Reason::WrongField, at)
             } else {
                 segment_fields(bytes::segment(s, at), at, k)
             }
         }
         Shape::Region => {
             if 1 < s[at + 17] || 1 < s[at + 18] {
-                bad(3, at)
+                bad(Reason::WrongField, at)
             } else {
                 segment_fields(bytes::segment(s, at), at, k)
             }
@@ -67,23 +67,23 @@ fn element_record(s: &[u8], at: usize, k: Shape, full: bool) -> Result<Kind, Ref
     ensures { result ≡ record_at s.now at (stands_in k) full }
 {
     if s.len() <= at {
-        return bad(1, s.len());
+        return bad(Reason::CutShort, s.len());
     }
     match records::kind(s[at]) {
         Kind::Element(e) => {
             if records::shape_number(e) != records::shape_number(k) {
-                return bad(2, at);
+                return bad(Reason::WrongKind, at);
             }
             if full {
-                return bad(6, at);
+                return bad(Reason::TooMany, at);
             }
             if s.len() - at < records::size(k) {
-                return bad(1, at);
+                return bad(Reason::CutShort, at);
             }
             fields(s, at, k)
         }
         Kind::End => Ok(Kind::End),
-        Kind::Start | Kind::Unknown => bad(2, at),
+        Kind::Start | Kind::Unknown => bad(Reason::WrongKind, at),
     }
 }
 
@@ -92,20 +92,20 @@ fn type_record(s: &[u8], at: usize) -> Result<Kind, Refusal>
     ensures { result ≡ record_at s.now at starts_object Bool.false }
 {
     if s.len() <= at {
-        return bad(1, s.len());
+        return bad(Reason::CutShort, s.len());
     }
     match records::kind(s[at]) {
         Kind::Start => {
             if s.len() - at < 2 {
-                return bad(1, at);
+                return bad(Reason::CutShort, at);
             }
             let n = s[at + 1];
             if n < 1 || 3 < n {
-                return bad(3, at);
+                return bad(Reason::WrongField, at);
             }
             Ok(Kind::Start)
         }
-        Kind::Element(_) | Kind::End | Kind::Unknown => bad(2, at),
+        Kind::Element(_) | Kind::End | Kind::Unknown => bad(Reason::WrongKind, at),
     }
 }
 
@@ -140,7 +140,7 @@ fn ends_with(s: &[u8], l: Layout) -> Result<(), Refusal>
     let end = records::after(l);
     if end < s.len() {
         return Err(Refusal {
-            number: 7,
+            reason: Reason::MoreBytes,
             place: end,
         });
     }

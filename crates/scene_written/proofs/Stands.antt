@@ -122,7 +122,7 @@ both_true : {a b : Bool} → a ≡ true → b ≡ true → a && b ≡ true
 both_true e f = rw (e, f)
 
 pub all_good : (at : ℕ) {a b c : Bool} (r : Record) → a ≡ true → b ≡ true → c ≡ true
-    → judge Err r (condition 3 (unless a at) ∷ condition 4 (unless b at) ∷ condition 5 (unless c at) ∷ []) ≡ r
+    → judge Err r (condition WrongField (unless a at) ∷ condition OutOfRange (unless b at) ∷ condition EndsReversed (unless c at) ∷ []) ≡ r
 all_good at r p q t = rw (p, q, t)
 
 module _ {s : List ℕ} {at : ℕ} where

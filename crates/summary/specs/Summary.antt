@@ -1,4 +1,6 @@
 -- Summaries: 02's Paper 2, sentence by sentence. A quotation names the sentence that a definition renders.
+use Rattle.scene.specs.declared.Reason.TheVariants.{BadSummary}
+use Rattle.scene.specs.Read.{number_of}
 use Rattle.std.specs.Prelude.{ℕ, ◌+◌, ◌≡◌, Bool, true, false, not, ◌&&◌, ◌||◌, cond, Option, Some, None, Result, Ok, Err, List, [], ◌∷◌, T, leb, eqb, length, ℤ, pos}
 use Rattle.std.specs.Int.Signed.{lt_z, le_z}
 use Rattle.whole.specs.Count.{eq_z, bit}
@@ -239,7 +241,7 @@ parsed_summary s = cond (good_bytes s) (Some (summary_at s 0)) None
 
 -- "Before anything else it refuses 18, with place 0 or 1 for the first bad summary."
 abbrev pub bad : ℕ → Result (Option Vectors) Refusal
-bad place = Err (record { number = 18; place = place })
+bad place = Err (record { reason = BadSummary; place = place })
 
 unfoldable pub asked_of : List ℕ → List ℕ → Result (Option Vectors) Refusal
 asked_of s t = cond (good_bytes s) (cond (good_bytes t) (Ok (told_of (summary_at s 0) (summary_at t 0))) (bad 1)) (bad 0)
@@ -256,4 +258,4 @@ pub record FarValues : Type 0 where
 abbrev pub far_values : Result (Option Vectors) Refusal → FarValues
 far_values (Ok (Some v)) = record { number = 0; place = 0; look = false; f = v.f; g = v.g }
 far_values (Ok None) = record { number = 0; place = 0; look = true; f = 0; g = 0 }
-far_values (Err r) = record { number = r.number; place = r.place; look = false; f = 0; g = 0 }
+far_values (Err r) = record { number = number_of r.reason; place = r.place; look = false; f = 0; g = 0 }

@@ -8,7 +8,7 @@ ghost use Rattle.summary.specs.Summary.{beside, are_far, flags_f, flags_g, ascen
 ghost use Rattle.summary_objects.specs.Objects.{GoodExactlyIfMade, ToldInFull, LookExactlyIfNear};
 
 use flags_vectors::Vectors;
-use scene::{Refusal, Shape, records};
+use scene::{Reason, Refusal, Shape, records};
 use summary::{Bounds, Summary};
 
 // ---- boxes that share no point
@@ -105,11 +105,11 @@ fn ask(first: &[u8], second: &[u8]) -> Result<Option<Vectors>, Refusal>
     ensures { result ≡ asked_of first.now second.now }
 {
     let s = summary_record::parse(first).ok_or(Refusal {
-        number: 18,
+        reason: Reason::BadSummary,
         place: 0,
     })?;
     let t = summary_record::parse(second).ok_or(Refusal {
-        number: 18,
+        reason: Reason::BadSummary,
         place: 1,
     })?;
     Ok(tell(s, t))

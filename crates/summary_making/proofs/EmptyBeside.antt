@@ -1,4 +1,6 @@
 -- An object beside an empty one of its type: a scene that is refused as the object alone is, and taken where it is taken.
+use Rattle.scene.specs.declared.Reason.TheVariants.{Flawed}
+use Rattle.scene.specs.declared.Flaw.TheVariants.{Misplaced, Unpaired, Touching, OddEnd, WrongIa}
 use Rattle.std.specs.Prelude.{Err, None, Ok, Some}
 use Rattle.scene.specs.Read.{Fault}
 use Rattle.check_verdict.specs.Refusals.{Verdict}
@@ -72,11 +74,11 @@ module _ (a : List ℕ) (l : Layout) (k : Shape) (read : read_alone a ≡ Ok l) 
       let y = moved_faults (second_stands a (empty_of k) (nothing k) (taken_alone (empty_of k) (nothing k) (empty_read k)).read) in
       let n = empty_faultless k in
       rw (
-        found (rule 10 out_of_order) x.0 (y.0 ∙ ap (moved_fault (length a)) n.0),
-        found (rule 11 unpaired) x.1.0 (y.1.0 ∙ ap (moved_fault (length a)) n.1),
-        found (rule 12 touching_itself) x.1.1.0 (y.1.1.0 ∙ ap (moved_fault (length a)) n.2),
-        found (rule 13 odd_end) x.1.1.1.0 (y.1.1.1.0 ∙ ap (moved_fault (length a)) n.3),
-        found (rule 14 wrong_ia) x.1.1.1.1.0 (y.1.1.1.1.0 ∙ ap (moved_fault (length a)) n.4),
+        found (rule (Flawed Misplaced) out_of_order) x.0 (y.0 ∙ ap (moved_fault (length a)) n.0),
+        found (rule (Flawed Unpaired) unpaired) x.1.0 (y.1.0 ∙ ap (moved_fault (length a)) n.1),
+        found (rule (Flawed Touching) touching_itself) x.1.1.0 (y.1.1.0 ∙ ap (moved_fault (length a)) n.2),
+        found (rule (Flawed OddEnd) odd_end) x.1.1.1.0 (y.1.1.1.0 ∙ ap (moved_fault (length a)) n.3),
+        found (rule (Flawed WrongIa) wrong_ia) x.1.1.1.1.0 (y.1.1.1.1.0 ∙ ap (moved_fault (length a)) n.4),
         none_across,
       )
 

@@ -1,5 +1,5 @@
 -- The call on one object: "From one object's bytes make a record of kind 83".
-use Rattle.scene.specs.Read.{CheckedObject}
+use Rattle.scene.specs.Read.{number_of, CheckedObject}
 use Rattle.std.specs.Prelude.{ℕ, zero, suc, not, cond, Result, Ok, Err, List, [], ◌∷◌, ◌++◌, pos, neg_ℤ}
 use Rattle.plane.specs.declared.Point.{Point}
 use Rattle.plane.specs.declared.Halfsegment.{Halfsegment}
@@ -38,7 +38,7 @@ pub record SummaryValues : Type 0 where
 
 abbrev pub summary_values : Result Summary Refusal → SummaryValues
 summary_values (Ok m) = record { number = 0; place = 0; bytes = bytes_of m }
-summary_values (Err r) = record { number = r.number; place = r.place; bytes = no_record }
+summary_values (Err r) = record { number = number_of r.reason; place = r.place; bytes = no_record }
 
 -- ---- on the way: the corners that the elements add to the box, one after the other
 

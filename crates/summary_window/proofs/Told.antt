@@ -1,4 +1,7 @@
 -- What an answer says in words: the first bad summary under 18, and which bits are set where it is a word.
+use Rattle.scene.specs.declared.Reason.{Reason}
+use Rattle.scene.specs.declared.Reason.TheVariants.{BadSummary, BadWindow, TooManySummaries}
+use Rattle.scene.specs.Read.{number_of}
 use Prim.Native.Nat.{ℕ, ◌*◌, ◌≤◌, ◌<◌}
 use Rattle.std.specs.Prelude.{Result}
 use native.Mathlib.Omega.{arith}
@@ -36,14 +39,14 @@ module _ (w : Window) (s : List ℕ) where
   abbrev Right : Result InWindow Refusal → Type 0
   Right r = BadRight s r × HitsRight w s r
 
-  refused_right : (n : ℕ) → 18 < n → Right (refusal n 0)
-  refused_right n h = (λ (e : n ≡ 18). absurd (omega arith), tt)
+  refused_right : (n : Reason) → 18 < number_of n → Right (refusal n 0)
+  refused_right n h = (λ (e : number_of n ≡ 18). absurd (omega arith), tt)
 
   judged_right : T (is_window w) → Right (judged w s)
   unfolding judged
   judged_right ok = go (ltb (first_of s) (sent s)) refl
     where
-      go : (b : Bool) → ltb (first_of s) (sent s) ≡ b → Right (cond b (refusal 18 (first_of s)) (found w s))
+      go : (b : Bool) → ltb (first_of s) (sent s) ≡ b → Right (cond b (refusal BadSummary (first_of s)) (found w s))
       go true e =
           let h = ltb-true (first_of s) (sent s) e in
           (λ _. (h, f.fails (omega arith), before_first (first_of s) (omega arith)), tt)
@@ -55,7 +58,7 @@ module _ (w : Window) (s : List ℕ) where
   unfolding answer_of
   right = go (is_window w) refl (leb (sent s) most)
     where
-      go : (a : Bool) → is_window w ≡ a → (b : Bool) → Right (cond a (cond b (judged w s) (refusal 28 0)) (refusal 27 0))
+      go : (a : Bool) → is_window w ≡ a → (b : Bool) → Right (cond a (cond b (judged w s) (refusal TooManySummaries 0)) (refusal BadWindow 0))
       go true e true = judged_right (is_true (is_window w) e)
-      go true e false = refused_right 28 (omega arith)
-      go false e b = refused_right 27 (omega arith)
+      go true e false = refused_right TooManySummaries (omega arith)
+      go false e b = refused_right BadWindow (omega arith)

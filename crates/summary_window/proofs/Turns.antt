@@ -1,4 +1,5 @@
 -- One turn over the summaries: what stands at summary k is good and adds its bit to the word, or it is the first that is bad.
+use Rattle.scene.specs.declared.Reason.TheVariants.{BadSummary}
 use Rattle.std.proofs.Common.{◌≡◌, ℕ, ◌+◌, ◌*◌, ◌%◌, ◌^◌, ◌≤◌, ◌<◌, Bool, true, false, not, ◌&&◌, cond, List, ◌++◌, length, drop, min, T, Option, Some, None, Result, Ok, Err, refl, sym, ap, ap₂, subst, ◌∙◌, arith, ◌⊎◌, inl, inr, length-drop}
 use Rattle.std.specs.Option.{ok_or}
 use Rattle.std.specs.Int.Count.{ones}
@@ -58,7 +59,7 @@ module _ (w : Window) (s : List ℕ) (few : length s ≤ 1280) (k : ℕ) (good :
     pub below_64 : k < 64
     below_64 = omega (arith, under)
 
-    pub is_bad : good_bytes x ≡ false → Err (record { number = 18; place = k }) ≡ judged w s
+    pub is_bad : good_bytes x ≡ false → Err (record { reason = BadSummary; place = k }) ≡ judged w s
     unfolding judged
     is_bad e =
         let first = first_is (good_one s) (sent s) k under good (sym (Records.good_is s x rest k t.is t.long) ∙ e) in
@@ -91,7 +92,7 @@ module _ (w : Window) (s : List ℕ) (few : length s ≤ 1280) (k : ℕ) (good :
   unfolding judged
   all_sent none h is =
       ap (λ (n : ℕ). Ok (record { word = n; hits = ones n })) (is ∙ ap (λ (n : ℕ). pack (tests (hit_one w s) n 0)) all)
-      ∙ sym (ap (λ (b : Bool). cond b (refusal 18 (first_of s)) (found w s)) (le-ltb (first_of s) (sent s) (omega (arith, no_bad))))
+      ∙ sym (ap (λ (b : Bool). cond b (refusal BadSummary (first_of s)) (found w s)) (le-ltb (first_of s) (sent s) (omega (arith, no_bad))))
     where
       all : k ≡ sent s
       all = omega (arith, length-drop (20 * k) s)

@@ -1,4 +1,7 @@
 -- Document 02, Paper 11: the window, the summaries that were sent, and which of them share a point with it. A quotation names the sentence that a definition renders.
+use Rattle.scene.specs.declared.Reason.{Reason}
+use Rattle.scene.specs.declared.Reason.TheVariants.{BadSummary, BadWindow, TooManySummaries}
+use Rattle.scene.specs.Read.{number_of}
 use Rattle.std.specs.Prelude.{ℕ, zero, suc, ◌+◌, ◌*◌, ◌/◌, ◌<◌, ◌≡◌, ◌↔◌, Bool, false, not, ◌&&◌, cond, Result, Ok, Err, List, [], ◌∷◌, T, leb, ltb, length, ℤ, Float}
 use Rattle.std.specs.Int.Count.{ones}
 use Rattle.std.specs.Float.{binary32}
@@ -76,8 +79,8 @@ word_of w s = pack (tests (hit_one w s) (sent s) 0)
 
 -- ---- the answer
 
-abbrev pub refusal : {A : Type 0} → ℕ → ℕ → Result A Refusal
-refusal number place = Err (record { number = number; place = place })
+abbrev pub refusal : {A : Type 0} → Reason → ℕ → Result A Refusal
+refusal reason place = Err (record { reason = reason; place = place })
 
 -- "and the number of hits": the ones of the word
 abbrev pub found : Window → List ℕ → Result InWindow Refusal
@@ -89,17 +92,17 @@ abbrev pub first_of : List ℕ → ℕ
 first_of s = first_bad (good_one s) (sent s) 0
 
 unfoldable pub judged : Window → List ℕ → Result InWindow Refusal
-judged w s = cond (ltb (first_of s) (sent s)) (refusal 18 (first_of s)) (found w s)
+judged w s = cond (ltb (first_of s) (sent s)) (refusal BadSummary (first_of s)) (found w s)
 
 unfoldable pub answer_of : Window → List ℕ → Result InWindow Refusal
-answer_of w s = cond (is_window w) (cond (leb (sent s) most) (judged w s) (refusal 28 0)) (refusal 27 0)
+answer_of w s = cond (is_window w) (cond (leb (sent s) most) (judged w s) (refusal TooManySummaries 0)) (refusal BadWindow 0)
 
 -- ---- in words
 
 -- under 18 the place is the index of a bad summary, and none before it is bad; where the answer is a word every summary is good
 abbrev pub BadRight : List ℕ → Result InWindow Refusal → Type 0
 BadRight s (Ok h) = AllGood s (sent s)
-BadRight s (Err r) = r.number ≡ 18 → (r.place < sent s) × (good_one s r.place ≡ false) × AllGood s r.place
+BadRight s (Err r) = number_of r.reason ≡ 18 → (r.place < sent s) × (good_one s r.place ≡ false) × AllGood s r.place
 
 -- a point with fraction coordinates lies in a box, and in a window: each number of the window stands for its exact value
 abbrev pub InBox : Bounds → FractionPoint → Type 0

@@ -8,7 +8,7 @@ ghost use Rattle.floats.specs.Value.{counted};
 ghost use Rattle.summary.specs.Summary.{good_box, is_good};
 ghost use Rattle.summary_window.specs.Window.{is_range, is_window, shares_of, meets, judged, answer_of, BadRight, HitsRight};
 
-use scene::Refusal;
+use scene::{Reason, Refusal};
 use summary::{Bounds, Summary};
 
 #[repr(C)]
@@ -78,7 +78,7 @@ fn judge(w: Window, s: &[u8]) -> Result<InWindow, Refusal>
     let mut word = 0u64;
     for (k, record) in s.chunks(20).enumerate() {
         let summary = summary_record::parse(record).ok_or(Refusal {
-            number: 18,
+            reason: Reason::BadSummary,
             place: k,
         })?;
         word += (w.shows(summary) as u64) << k;
@@ -95,13 +95,13 @@ fn answer(w: Window, s: &[u8]) -> Result<InWindow, Refusal>
 {
     if !w.is_good() {
         return Err(Refusal {
-            number: 27,
+            reason: Reason::BadWindow,
             place: 0,
         });
     }
     if s.len() > 1280 {
         return Err(Refusal {
-            number: 28,
+            reason: Reason::TooManySummaries,
             place: 0,
         });
     }

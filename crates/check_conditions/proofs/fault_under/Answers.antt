@@ -6,7 +6,7 @@ use Rattle.scene_segments.proofs.Walk.{all_between, earliest_here, earliest_late
 use Rattle.check_conditions.proofs.fault_under.Goals as goal
 
 pub loop-i-init : goal.loop-i-init
-loop-i-init c = let a = c.args in ap (earliest a.l (is_at_fault a.s.now a.l a.other a.number)) (all_between a.l.count)
+loop-i-init c = let a = c.args in ap (earliest a.l (is_at_fault a.s.now a.l a.other a.flaw)) (all_between a.l.count)
 
 pub place-requires : goal.place-requires
 place-requires c = let a = c.args in omega (arith, fits a.s.now a.l c.requires.0 c.loop-i.i c.loop-i-test.true, c.well_formed)
@@ -16,15 +16,15 @@ returns-then-is_at_fault c =
     let a = c.args in
     ap Some c.place.ensures
     ∙ sym (c.loop-i.invariant
-    ∙ earliest_here a.l (is_at_fault a.s.now a.l a.other a.number) c.loop-i.i a.l.count c.loop-i-test.true (sym c.is_at_fault.ensures ∙ c.if-is_at_fault.true))
+    ∙ earliest_here a.l (is_at_fault a.s.now a.l a.other a.flaw) c.loop-i.i a.l.count c.loop-i-test.true (sym c.is_at_fault.ensures ∙ c.if-is_at_fault.true))
 
 pub loop-i-preserved : goal.loop-i-preserved
 loop-i-preserved c =
     let a = c.args in
     c.loop-i.invariant
-    ∙ earliest_later a.l (is_at_fault a.s.now a.l a.other a.number) c.loop-i.i a.l.count c.loop-i-test.true (sym c.is_at_fault.ensures ∙ c.if-is_at_fault.false)
+    ∙ earliest_later a.l (is_at_fault a.s.now a.l a.other a.flaw) c.loop-i.i a.l.count c.loop-i-test.true (sym c.is_at_fault.ensures ∙ c.if-is_at_fault.false)
 
 pub returns : goal.returns
 returns c =
     let a = c.args in
-    sym (c.loop-i.invariant ∙ earliest_none a.l (is_at_fault a.s.now a.l a.other a.number) c.loop-i.i a.l.count c.loop-i-test.false)
+    sym (c.loop-i.invariant ∙ earliest_none a.l (is_at_fault a.s.now a.l a.other a.flaw) c.loop-i.i a.l.count c.loop-i-test.false)

@@ -1,4 +1,5 @@
 -- Both ends are in range: the order of the ends decides.
+use Rattle.scene.specs.declared.Reason.TheVariants.{EndsReversed}
 use Rattle.std.proofs.Common.{◌≡◌, ◌∙◌, sym, ℕ, true, false, Ok, Err}
 use Rattle.plane.specs.declared.Segment.{Segment}
 use Rattle.plane.specs.Plane.{in_range, ordered}
@@ -10,7 +11,7 @@ use Rattle.scene.proofs.Passed.{refusal}
 use Rattle.scene_reading.proofs.segment_fields.Goals as goal
 
 module _ (t : Segment) (at : ℕ) (k : Shape) (a : in_range t.left ≡ true) (b : in_range t.right ≡ true) where
-  unordered : ordered t ≡ false → ◌≡◌ {A = Record} (Err (refusal 5 at)) (segment_fields t at k)
+  unordered : ordered t ≡ false → ◌≡◌ {A = Record} (Err (refusal EndsReversed at)) (segment_fields t at k)
   unordered e = rw (a, b, e)
 
   all_good : ordered t ≡ true → ◌≡◌ {A = Record} (Ok (Element k)) (segment_fields t at k)

@@ -1,4 +1,5 @@
 -- The tests that led to each return decide the definition.
+use Rattle.scene.specs.declared.Reason.TheVariants.{CutShort, WrongKind, WrongField}
 use Rattle.std.proofs.Common.{◌≡◌, ◌∙◌, ◌+◌, ◌<◌, ◌≤◌, ⊎_elim, sym, refl, ℕ, true, false, List, length, Ok, Err, arith}
 use borrow.Author.Tests.{le-leb, lt-leb}
 use Rattle.scene.specs.declared.Kind.{Kind}
@@ -9,21 +10,21 @@ use Rattle.scene.proofs.Passed.{refusal, no_byte, not_allowed, cut_body, whole_b
 use Rattle.scene_reading.proofs.type_record.Goals as goal
 
 module _ (s : List ℕ) (at : ℕ) (begins : at < length s) where
-  other : (k : Kind) → kind_at s at ≡ k → starts_object k ≡ false → record_at s at starts_object false ≡ Err (refusal 2 at)
+  other : (k : Kind) → kind_at s at ≡ k → starts_object k ≡ false → record_at s at starts_object false ≡ Err (refusal WrongKind at)
   other k is n = not_allowed s at starts_object false k begins is n
 
   module _ (is : kind_at s at ≡ Start) where
-    cut : length s < at + 2 → record_at s at starts_object false ≡ Err (refusal 1 at)
+    cut : length s < at + 2 → record_at s at starts_object false ≡ Err (refusal CutShort at)
     cut h = cut_body s at starts_object false Start begins is refl refl (omega arith)
 
     module _ (h : at + 2 ≤ length s) where
       whole : record_at s at starts_object false ≡ fields_at s at Start
       whole = whole_body s at starts_object false Start begins is refl refl (omega arith)
 
-      below : byte s (at + 1) < 1 → record_at s at starts_object false ≡ Err (refusal 3 at)
+      below : byte s (at + 1) < 1 → record_at s at starts_object false ≡ Err (refusal WrongField at)
       below l = whole ∙ rw (lt-leb 1 (byte s (at + 1)) l)
 
-      above : 1 ≤ byte s (at + 1) → 3 < byte s (at + 1) → record_at s at starts_object false ≡ Err (refusal 3 at)
+      above : 1 ≤ byte s (at + 1) → 3 < byte s (at + 1) → record_at s at starts_object false ≡ Err (refusal WrongField at)
       above l g = whole ∙ rw (le-leb 1 (byte s (at + 1)) l, lt-leb (byte s (at + 1)) 3 g)
 
       good : 1 ≤ byte s (at + 1) → byte s (at + 1) ≤ 3 → record_at s at starts_object false ≡ Ok Start
