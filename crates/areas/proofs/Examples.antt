@@ -1,4 +1,7 @@
 -- The three areas of small scenes, and the refusals, computed from the definitions.
+use Rattle.scene.specs.declared.Reason.{Reason}
+use Rattle.scene.specs.declared.Reason.TheVariants.{Flawed, NotRegions}
+use Rattle.scene.specs.declared.Flaw.TheVariants.{Unpaired}
 use Rattle.std.specs.Prelude.{ℕ, ◌-◌, ◌*◌, ◌/◌, ◌%◌, ◌^◌, ◌≡◌, refl, List, [], ◌∷◌, ◌++◌, map, pos}
 use Rattle.whole.specs.Count.{odd}
 use Rattle.plane.specs.Plane.{limit, within, before, is_same_point, is_same_segment, ordered, side, dominating, far_end, comes_before, side_at, is_at, is_not_before, is_not_after, on, is_end, counts_below, counts_below_left, is_on_some, inside, interior_above, ends_at, opposite, cross, end_within, touch}
@@ -48,8 +51,8 @@ infix 30 ◌gives◌
 ◌gives◌ : List ℕ → AreasAnswer → Example
 s gives a = record { scene = s; answer = a }
 
-refused : ℕ → ℕ → AreasAnswer
-refused n p = Err (record { number = n; place = p })
+refused : Reason → ℕ → AreasAnswer
+refused n p = Err (record { reason = n; place = p })
 
 areas : ℕ → ℕ → ℕ → AreasAnswer
 areas a b c = Ok (record { both = pos a; f_only = pos b; g_only = pos c })
@@ -75,10 +78,10 @@ examples =
     -- the whole range twice
     ∷ (all ++ all gives areas (8 * (limit * limit)) 0 0)
     -- 16, at the first type record in the bytes that is not 3, after 11
-    ∷ (object 1 [] ++ object 1 [] gives refused 16 0)
-    ∷ (object 2 [] ++ box 0 0 4 4 gives refused 16 0)
-    ∷ (box 0 0 4 4 ++ object 1 [] gives refused 16 155)
-    ∷ (object 2 [] ++ object 3 (R 0 0 4 0 1 1) gives refused 11 5)
+    ∷ (object 1 [] ++ object 1 [] gives refused NotRegions 0)
+    ∷ (object 2 [] ++ box 0 0 4 4 gives refused NotRegions 0)
+    ∷ (box 0 0 4 4 ++ object 1 [] gives refused NotRegions 155)
+    ∷ (object 2 [] ++ object 3 (R 0 0 4 0 1 1) gives refused (Flawed Unpaired) 5)
     ∷ []
 
 -- every example is answered as it says

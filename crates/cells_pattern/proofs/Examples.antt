@@ -1,4 +1,6 @@
 -- Patterns against the matrix of document 01's scene a, and patterns that are turned away, by computation.
+use Rattle.scene.specs.declared.Reason.{Reason}
+use Rattle.scene.specs.declared.Reason.TheVariants.{NotNine, NoCharacter}
 use Rattle.std.specs.Prelude.{Err, Ok}
 use Rattle.check_verdict.specs.Refusals.{Verdict}
 use Rattle.std.specs.Prelude.{ℕ, ◌≡◌, refl, true, false, List, [], ◌∷◌}
@@ -75,34 +77,34 @@ inside = refl
 
 -- ---- what is turned away
 
-abbrev refused : ℕ → ℕ → Verdict
-refused number place = Err (record { number = number; place = place })
+abbrev refused : Reason → ℕ → Verdict
+refused reason place = Err (record { reason = reason; place = place })
 
 nine : pattern_verdict rows ≡ (Ok tt)
 unfolding pattern_verdict
 nine = refl
 
-none : pattern_verdict [] ≡ refused 22 0
+none : pattern_verdict [] ≡ refused NotNine 0
 unfolding pattern_verdict
 none = refl
 
-eight : pattern_verdict (n ∷ y ∷ y ∷ n ∷ n ∷ n ∷ y ∷ y ∷ []) ≡ refused 22 0
+eight : pattern_verdict (n ∷ y ∷ y ∷ n ∷ n ∷ n ∷ y ∷ y ∷ []) ≡ refused NotNine 0
 unfolding pattern_verdict
 eight = refl
 
-ten : pattern_verdict (n ∷ y ∷ y ∷ n ∷ n ∷ n ∷ y ∷ y ∷ y ∷ 120 ∷ []) ≡ refused 22 0
+ten : pattern_verdict (n ∷ y ∷ y ∷ n ∷ n ∷ n ∷ y ∷ y ∷ y ∷ 120 ∷ []) ≡ refused NotNine 0
 unfolding pattern_verdict
 ten = refl
 
 -- F00FFF103, TTTFFFTTx, and fTTFFFTTT
-no_sign : pattern_verdict (digits 51) ≡ refused 23 8
+no_sign : pattern_verdict (digits 51) ≡ refused NoCharacter 8
 unfolding pattern_verdict
 no_sign = refl
 
-last : pattern_verdict (y ∷ y ∷ y ∷ n ∷ n ∷ n ∷ y ∷ y ∷ 120 ∷ []) ≡ refused 23 8
+last : pattern_verdict (y ∷ y ∷ y ∷ n ∷ n ∷ n ∷ y ∷ y ∷ 120 ∷ []) ≡ refused NoCharacter 8
 unfolding pattern_verdict
 last = refl
 
-lower_case : pattern_verdict (102 ∷ y ∷ y ∷ n ∷ n ∷ n ∷ y ∷ y ∷ y ∷ []) ≡ refused 23 0
+lower_case : pattern_verdict (102 ∷ y ∷ y ∷ n ∷ n ∷ n ∷ y ∷ y ∷ y ∷ []) ≡ refused NoCharacter 0
 unfolding pattern_verdict
 lower_case = refl

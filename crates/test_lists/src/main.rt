@@ -24,7 +24,7 @@ fn write_list(out: &mut Output<Stdout>, list: &[u8]) {
 fn ask(out: &mut Output<Stdout>, name: &[u8], scene: &[u8], list: &mut [u8]) {
     let (number, place, count) = match overlap::overlap_list(scene, list) {
         Ok(count) => (0, 0, count),
-        Err(r) => (r.number, r.place, 0),
+        Err(r) => (r.reason.number(), r.place, 0),
     };
     out.write(name);
     write_field(out, number as usize);

@@ -20,14 +20,14 @@ fn report(out: &mut Output<Stdout>, label: &[u8], number: u8, place: usize) {
 fn check_scene(out: &mut Output<Stdout>, label: &[u8], bytes: &[u8]) {
     match check_verdict::check_scene(bytes) {
         Ok(_) => report(out, label, 0, 0),
-        Err(r) => report(out, label, r.number, r.place),
+        Err(r) => report(out, label, r.reason.number(), r.place),
     }
 }
 
 fn check_object(out: &mut Output<Stdout>, label: &[u8], bytes: &[u8]) {
     match check_verdict::check_object(bytes) {
         Ok(_) => report(out, label, 0, 0),
-        Err(r) => report(out, label, r.number, r.place),
+        Err(r) => report(out, label, r.reason.number(), r.place),
     }
 }
 

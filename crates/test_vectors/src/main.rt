@@ -23,7 +23,7 @@ fn answer(out: &mut Output<Stdout>, label: &[u8], want_f: u16, want_g: u16, text
     let n = test_notation::write(&mut space, text);
     match question::vectors(&space[..n], want_f, want_g) {
         Ok(v) => report(out, label, b": ", v.f as u64, v.g as u64),
-        Err(r) => report(out, label, b": no ", r.number as u64, r.place as u64),
+        Err(r) => report(out, label, b": no ", r.reason.number() as u64, r.place as u64),
     }
 }
 
