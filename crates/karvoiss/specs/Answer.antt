@@ -1,9 +1,10 @@
 -- What C gets for each answer: number 0 means taken; a refusal has its number and place, no flag, nine F, no pattern that holds, no area, and a record of zeros. And what the signs of the cells mean.
-use Rattle.std.specs.Prelude.{ℕ, ◌≡◌, List, [], map, get_or, ℤ}
+use Rattle.std.specs.Prelude.{ℕ, ◌≡◌, Option, Result, Ok, Err, List, [], map, get_or, cond, eqb, ℤ}
 use Rattle.plane.specs.declared.Point.{Point}
 use Rattle.plane_dimensions.specs.declared.Dimension.{Dimension}
 use Rattle.plane_dimensions.specs.Dimensions.{sign, Value}
 use Rattle.scene.specs.declared.Scene.{Scene}
+use Rattle.scene.specs.declared.Refusal.{Refusal}
 use Rattle.scene.specs.declared.CheckedScene.{CheckedScene}
 use Rattle.scene.specs.Conditions.{check_scene}
 use Rattle.flags_vectors.specs.declared.VectorsAnswer.{VectorsAnswer}
@@ -20,9 +21,9 @@ use Rattle.karvoiss.specs.declared.KarvoissCells.{KarvoissCells}
 use Rattle.karvoiss.specs.declared.KarvoissRelate.{KarvoissRelate}
 use Rattle.areas.specs.declared.Areas.{Areas}
 use Rattle.karvoiss.specs.declared.KarvoissAreas.{KarvoissAreas}
-use Rattle.summary.specs.declared.Answer.{Answer}
+use Rattle.flags_vectors.specs.declared.Vectors.{Vectors}
+use Rattle.summary.specs.declared.Summary.{Summary}
 use Rattle.summary.specs.Summary.{far_values}
-use Rattle.summary_making.specs.declared.SummaryAnswer.{SummaryAnswer}
 use Rattle.summary_making.specs.Making.{summary_values}
 use Rattle.karvoiss.specs.declared.KarvoissSummary.{KarvoissSummary}
 use Rattle.karvoiss.specs.declared.KarvoissFar.{KarvoissFar}
@@ -60,12 +61,12 @@ overlap_for_c o = record { number = o.number; place = o.place; count = o.count }
 abbrev pub areas_for_c : Areas → KarvoissAreas
 areas_for_c a = record { number = a.number; place = a.place; both = a.both; f_only = a.f_only; g_only = a.g_only }
 
-abbrev pub summary_for_c : SummaryAnswer → KarvoissSummary
+abbrev pub summary_for_c : Result Summary Refusal → KarvoissSummary
 summary_for_c e =
     let values = summary_values e in
     record { number = values.number; place = values.place; «record» = values.bytes }
 
-abbrev pub far_for_c : Answer → KarvoissFar
+abbrev pub far_for_c : Result (Option Vectors) Refusal → KarvoissFar
 far_for_c e =
     let values = far_values e in
     record { number = values.number; place = values.place; look = values.look; f = values.f; g = values.g }
@@ -77,12 +78,13 @@ at x y = record { x = x; y = y }
 abbrev pub estimate_for_c : Estimated → KarvoissEstimate
 estimate_for_c e = record { estimate = e.estimate; side = side_number e.side }
 
--- the window's answer, field by field, and back
-abbrev pub in_window_for_c : InWindow → KarvoissInWindow
-in_window_for_c a = record { number = a.number; place = a.place; word = a.word; hits = a.hits }
+-- the window's answer: a refusal has no bit and no hit; and back
+abbrev pub in_window_for_c : Result InWindow Refusal → KarvoissInWindow
+in_window_for_c (Ok a) = record { number = 0; place = 0; word = a.word; hits = a.hits }
+in_window_for_c (Err r) = record { number = r.number; place = r.place; word = 0; hits = 0 }
 
-abbrev pub from_c : KarvoissInWindow → InWindow
-from_c r = record { number = r.number; place = r.place; word = r.word; hits = r.hits }
+abbrev pub from_c : KarvoissInWindow → Result InWindow Refusal
+from_c r = cond (eqb r.number 0) (Ok (record { word = r.word; hits = r.hits })) (Err (record { number = r.number; place = r.place }))
 
 -- ---- what the signs mean
 

@@ -22,8 +22,6 @@ use cells_pattern::RelateAnswer;
 use flags_vectors::{VectorsAnswer, question};
 use plane::Point;
 use plane_dimensions::{Dimension, sign};
-use summary::Answer;
-use summary_making::SummaryAnswer;
 use summary_record::writing;
 use summary_window::Window;
 
@@ -213,8 +211,8 @@ pub extern "C" fn karvoiss_summary(object: &[u8]) -> KarvoissSummary
         × CheckedObjectMeans object.now (check_object object.now) }
 {
     match summary_making::summarize(object) {
-        SummaryAnswer::Made(m) => recorded(0, 0, writing::written(m)),
-        SummaryAnswer::Refused(r) => recorded(r.number as u32, r.place, [0u8; 20]),
+        Ok(summary) => recorded(0, 0, writing::written(summary)),
+        Err(r) => recorded(r.number as u32, r.place, [0; 20]),
     }
 }
 
@@ -250,9 +248,9 @@ pub extern "C" fn karvoiss_far(first: &[u8], second: &[u8]) -> KarvoissFar
         × LookExactlyIfNear first.now second.now (asked_of first.now second.now) }
 {
     match summary_far::far(first, second) {
-        Answer::Told(v) => told(0, 0, false, v.f, v.g),
-        Answer::Look => told(0, 0, true, 0, 0),
-        Answer::Refused(r) => told(r.number as u32, r.place, false, 0, 0),
+        Ok(Some(v)) => told(0, 0, false, v.f, v.g),
+        Ok(None) => told(0, 0, true, 0, 0),
+        Err(r) => told(r.number as u32, r.place, false, 0, 0),
     }
 }
 
@@ -296,6 +294,17 @@ pub struct KarvoissInWindow {
     pub hits: u32,
 }
 
+fn shown(number: u32, place: usize, word: u64, hits: u32) -> KarvoissInWindow
+    ensures { result ≡ record { number = number; place = place; word = word; hits = hits } }
+{
+    KarvoissInWindow {
+        number,
+        place,
+        word,
+        hits,
+    }
+}
+
 // Which of these are in the window: for every window and every byte string the whole answer, the first bad summary, and the hits in points.
 #[unsafe(no_mangle)]
 pub extern "C" fn karvoiss_in_window(window: Window, summaries: &[u8]) -> KarvoissInWindow
@@ -303,11 +312,8 @@ pub extern "C" fn karvoiss_in_window(window: Window, summaries: &[u8]) -> Karvoi
         × BadRight summaries.now (from_c result)
         × HitsRight window summaries.now (from_c result) }
 {
-    let answer = summary_window::in_window(window, summaries);
-    KarvoissInWindow {
-        number: answer.number,
-        place: answer.place,
-        word: answer.word,
-        hits: answer.hits,
+    match summary_window::in_window(window, summaries) {
+        Ok(seen) => shown(0, 0, seen.word, seen.hits),
+        Err(r) => shown(r.number as u32, r.place, 0, 0),
     }
 }
