@@ -1,28 +1,25 @@
 -- What C gets for each answer: number 0 means taken; a refusal has its number and place, no flag, nine F, no pattern that holds, no area, and a record of zeros. And what the signs of the cells mean.
-use Rattle.std.specs.Prelude.{Ok}
-use Rattle.flags_vectors.specs.Vectors.{VectorsAnswer}
-use Rattle.cells.specs.Explored.{CellsAnswer}
-use Rattle.cells_pattern.specs.Related.{RelateAnswer}
-use Rattle.std.specs.Prelude.{ℕ, ◌≡◌, List, [], map, get_or, ℤ}
+use Rattle.std.specs.Prelude.{ℕ, ◌≡◌, Option, Result, Ok, List, [], map, get_or, ℤ}
 use Rattle.plane.specs.declared.Point.{Point}
 use Rattle.plane_dimensions.specs.declared.Dimension.{Dimension}
 use Rattle.plane_dimensions.specs.Dimensions.{sign, Value}
 use Rattle.scene.specs.declared.Scene.{Scene}
+use Rattle.scene.specs.declared.Refusal.{Refusal}
 use Rattle.scene.specs.Conditions.{check_scene}
-use Rattle.flags_vectors.specs.Vectors.{vectors_values}
-use Rattle.cells.specs.Explored.{cells_values, InCell}
+use Rattle.flags_vectors.specs.Vectors.{VectorsAnswer, vectors_values}
+use Rattle.cells.specs.Explored.{CellsAnswer, cells_values, InCell}
 use Rattle.cells_matrix.specs.Matrix.{Part, index, parts}
-use Rattle.cells_pattern.specs.Related.{relate_values}
+use Rattle.cells_pattern.specs.Related.{RelateAnswer, relate_values}
+use Rattle.overlap.specs.Overlap.{OverlapAnswer, overlap_values}
+use Rattle.areas.specs.Areas.{AreasAnswer, areas_values}
 use Rattle.karvoiss.specs.declared.KarvoissVectors.{KarvoissVectors}
-use Rattle.overlap.specs.declared.Overlap.{Overlap}
 use Rattle.karvoiss.specs.declared.KarvoissOverlap.{KarvoissOverlap}
 use Rattle.karvoiss.specs.declared.KarvoissCells.{KarvoissCells}
 use Rattle.karvoiss.specs.declared.KarvoissRelate.{KarvoissRelate}
-use Rattle.areas.specs.declared.Areas.{Areas}
 use Rattle.karvoiss.specs.declared.KarvoissAreas.{KarvoissAreas}
-use Rattle.summary.specs.declared.Answer.{Answer}
+use Rattle.flags_vectors.specs.declared.Vectors.{Vectors}
+use Rattle.summary.specs.declared.Summary.{Summary}
 use Rattle.summary.specs.Summary.{far_values}
-use Rattle.summary_making.specs.declared.SummaryAnswer.{SummaryAnswer}
 use Rattle.summary_making.specs.Making.{summary_values}
 use Rattle.karvoiss.specs.declared.KarvoissSummary.{KarvoissSummary}
 use Rattle.karvoiss.specs.declared.KarvoissFar.{KarvoissFar}
@@ -30,6 +27,7 @@ use Rattle.estimate.specs.declared.Estimated.{Estimated}
 use Rattle.estimate.specs.Estimate.{side_number}
 use Rattle.karvoiss.specs.declared.KarvoissEstimate.{KarvoissEstimate}
 use Rattle.summary_window.specs.declared.InWindow.{InWindow}
+use Rattle.summary_window.specs.Window.{WindowValues, window_values}
 use Rattle.karvoiss.specs.declared.KarvoissInWindow.{KarvoissInWindow}
 
 abbrev pub vectors_for_c : VectorsAnswer → KarvoissVectors
@@ -54,18 +52,22 @@ relate_for_c e =
     let values = relate_values e in
     record { number = values.number; place = values.place; holds = values.holds }
 
-abbrev pub overlap_for_c : Overlap → KarvoissOverlap
-overlap_for_c o = record { number = o.number; place = o.place; count = o.count }
+abbrev pub overlap_for_c : OverlapAnswer → KarvoissOverlap
+overlap_for_c e =
+    let values = overlap_values e in
+    record { number = values.number; place = values.place; count = values.count }
 
-abbrev pub areas_for_c : Areas → KarvoissAreas
-areas_for_c a = record { number = a.number; place = a.place; both = a.both; f_only = a.f_only; g_only = a.g_only }
+abbrev pub areas_for_c : AreasAnswer → KarvoissAreas
+areas_for_c e =
+    let values = areas_values e in
+    record { number = values.number; place = values.place; both = values.both; f_only = values.f_only; g_only = values.g_only }
 
-abbrev pub summary_for_c : SummaryAnswer → KarvoissSummary
+abbrev pub summary_for_c : Result Summary Refusal → KarvoissSummary
 summary_for_c e =
     let values = summary_values e in
     record { number = values.number; place = values.place; «record» = values.bytes }
 
-abbrev pub far_for_c : Answer → KarvoissFar
+abbrev pub far_for_c : Result (Option Vectors) Refusal → KarvoissFar
 far_for_c e =
     let values = far_values e in
     record { number = values.number; place = values.place; look = values.look; f = values.f; g = values.g }
@@ -78,10 +80,12 @@ abbrev pub estimate_for_c : Estimated → KarvoissEstimate
 estimate_for_c e = record { estimate = e.estimate; side = side_number e.side }
 
 -- the window's answer, field by field, and back
-abbrev pub in_window_for_c : InWindow → KarvoissInWindow
-in_window_for_c a = record { number = a.number; place = a.place; word = a.word; hits = a.hits }
+abbrev pub in_window_for_c : Result InWindow Refusal → KarvoissInWindow
+in_window_for_c e =
+    let values = window_values e in
+    record { number = values.number; place = values.place; word = values.word; hits = values.hits }
 
-abbrev pub from_c : KarvoissInWindow → InWindow
+abbrev pub from_c : KarvoissInWindow → WindowValues
 from_c r = record { number = r.number; place = r.place; word = r.word; hits = r.hits }
 
 -- ---- what the signs mean

@@ -19,6 +19,7 @@ ghost use Rattle.summary_window.specs.Window.{answer_of, BadRight, HitsRight};
 
 use areas::sums::Sums;
 use cells::Explored;
+use estimate::Estimated;
 use flags_vectors::{Vectors, question};
 use plane::Point;
 use plane_dimensions::{Dimension, sign};
@@ -49,7 +50,7 @@ impl From<Result<Vectors, Refusal>> for KarvoissVectors {
                 g: v.g,
             },
             Err(r) => KarvoissVectors {
-                number: r.number as u32,
+                number: r.reason.number() as u32,
                 place: r.place,
                 f: 0,
                 g: 0,
@@ -101,7 +102,7 @@ impl From<Result<Explored, Refusal>> for KarvoissCells {
                 cell,
             },
             Err(r) => KarvoissCells {
-                number: r.number as u32,
+                number: r.reason.number() as u32,
                 place: r.place,
                 cell,
             },
@@ -138,7 +139,7 @@ impl From<Result<bool, Refusal>> for KarvoissRelate {
                 holds,
             },
             Err(r) => KarvoissRelate {
-                number: r.number as u32,
+                number: r.reason.number() as u32,
                 place: r.place,
                 holds: false,
             },
@@ -175,7 +176,7 @@ impl From<Result<usize, Refusal>> for KarvoissOverlap {
                 count,
             },
             Err(r) => KarvoissOverlap {
-                number: r.number as u32,
+                number: r.reason.number() as u32,
                 place: r.place,
                 count: 0,
             },
@@ -216,7 +217,7 @@ impl From<Result<Sums, Refusal>> for KarvoissAreas {
                 g_only: sums.g_only,
             },
             Err(r) => KarvoissAreas {
-                number: r.number as u32,
+                number: r.reason.number() as u32,
                 place: r.place,
                 both: 0,
                 f_only: 0,
@@ -255,7 +256,7 @@ impl From<Result<Summary, Refusal>> for KarvoissSummary {
                 record: writing::written(summary),
             },
             Err(r) => KarvoissSummary {
-                number: r.number as u32,
+                number: r.reason.number() as u32,
                 place: r.place,
                 record: [0; 20],
             },
@@ -302,7 +303,7 @@ impl From<Result<Option<Vectors>, Refusal>> for KarvoissFar {
                 g: 0,
             },
             Err(r) => KarvoissFar {
-                number: r.number as u32,
+                number: r.reason.number() as u32,
                 place: r.place,
                 look: false,
                 f: 0,
@@ -331,6 +332,17 @@ pub struct KarvoissEstimate {
     pub side: i32,
 }
 
+impl From<Estimated> for KarvoissEstimate {
+    ghost from_gives = { λ answer c. c ≡ estimate_for_c answer };
+
+    fn from(answer: Estimated) -> KarvoissEstimate {
+        KarvoissEstimate {
+            estimate: answer.estimate,
+            side: answer.side.into(),
+        }
+    }
+}
+
 // The side estimate of the point c against the segment from a to b: for every six numbers the whole answer, and what it says of the exact side value.
 #[unsafe(no_mangle)]
 pub extern "C" fn karvoiss_estimate(
@@ -347,12 +359,7 @@ pub extern "C" fn karvoiss_estimate(
     let a = Point { x: ax, y: ay };
     let b = Point { x: bx, y: by };
     let c = Point { x: cx, y: cy };
-    let answer = estimate::estimate(a, b, c);
-    let side = answer.side;
-    KarvoissEstimate {
-        estimate: answer.estimate,
-        side: estimate::side_number(side),
-    }
+    estimate::estimate(a, b, c).into()
 }
 
 #[repr(C)]
@@ -376,7 +383,7 @@ impl From<Result<InWindow, Refusal>> for KarvoissInWindow {
                 hits: seen.hits,
             },
             Err(r) => KarvoissInWindow {
-                number: r.number as u32,
+                number: r.reason.number() as u32,
                 place: r.place,
                 word: 0,
                 hits: 0,

@@ -16,7 +16,7 @@ use Rattle.scene.specs.declared.Refusal.{Refusal}
 use Rattle.flags.specs.Flags.{has_bit}
 use Rattle.summary_window.specs.declared.Window.{Window}
 use Rattle.summary_window.specs.declared.InWindow.{InWindow}
-use Rattle.summary_window.specs.Window.{is_window, sent, most, good_one, AllGood, first_of, hit_one, word_of, refusal, found, judged, answer_of, BadRight, Shown, HitsRight}
+use Rattle.summary_window.specs.Window.{is_window, sent, most, good_one, AllGood, first_of, hit_one, word_of, refusal, found, judged, answer_of, window_values, BadRight, Shown, HitsRight}
 use Rattle.summary_window.proofs.First.{First, first}
 use Rattle.summary_window.proofs.Rows.{bit_of_word, no_bit_of_word, ones_counted}
 use Rattle.summary_window.proofs.Points.{hit}
@@ -37,10 +37,10 @@ module _ (w : Window) (s : List ℕ) where
       there t (inr h) = absurd (subst T (no_bit_of_word (hit_one w s) (sent s) k h) t)
 
   abbrev Right : Result InWindow Refusal → Type 0
-  Right r = BadRight s r × HitsRight w s r
+  Right r = BadRight s (window_values r) × HitsRight w s (window_values r)
 
   refused_right : (n : Reason) → 18 < number_of n → Right (refusal n 0)
-  refused_right n h = (λ (e : number_of n ≡ 18). absurd (omega arith), tt)
+  refused_right n h = ((λ (e : number_of n ≡ 18). absurd (omega arith), λ (e : number_of n ≡ 0). absurd (omega arith)), λ (e : number_of n ≡ 0). absurd (omega arith))
 
   judged_right : T (is_window w) → Right (judged w s)
   unfolding judged
@@ -49,10 +49,10 @@ module _ (w : Window) (s : List ℕ) where
       go : (b : Bool) → ltb (first_of s) (sent s) ≡ b → Right (cond b (refusal BadSummary (first_of s)) (found w s))
       go true e =
           let h = ltb-true (first_of s) (sent s) e in
-          (λ _. (h, f.fails (omega arith), before_first (first_of s) (omega arith)), tt)
+          ((λ _. (h, f.fails (omega arith), before_first (first_of s) (omega arith)), λ (z : 18 ≡ 0). absurd (omega arith)), λ (z : 18 ≡ 0). absurd (omega arith))
       go false e =
           let good = before_first (sent s) (ltb-false (first_of s) (sent s) e) in
-          (good, (shown ok good, refl, ones_counted (hit_one w s) (sent s)))
+          ((λ (z : 0 ≡ 18). absurd (omega arith), λ _. good), λ _. (shown ok good, refl, ones_counted (hit_one w s) (sent s)))
 
   pub right : Right (answer_of w s)
   unfolding answer_of

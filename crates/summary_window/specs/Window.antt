@@ -99,10 +99,22 @@ answer_of w s = cond (is_window w) (cond (leb (sent s) most) (judged w s) (refus
 
 -- ---- in words
 
+-- number 0: word and hits. Any other: a refusal, with no bit and no hit.
+pub record WindowValues : Type 0 where
+  pub number : ℕ
+  pub place : ℕ
+  pub word : ℕ
+  pub hits : ℕ
+
+abbrev pub window_values : Result InWindow Refusal → WindowValues
+window_values (Ok a) = record { number = 0; place = 0; word = a.word; hits = a.hits }
+window_values (Err r) = record { number = number_of r.reason; place = r.place; word = 0; hits = 0 }
+
 -- under 18 the place is the index of a bad summary, and none before it is bad; where the answer is a word every summary is good
-abbrev pub BadRight : List ℕ → Result InWindow Refusal → Type 0
-BadRight s (Ok h) = AllGood s (sent s)
-BadRight s (Err r) = number_of r.reason ≡ 18 → (r.place < sent s) × (good_one s r.place ≡ false) × AllGood s r.place
+abbrev pub BadRight : List ℕ → WindowValues → Type 0
+BadRight s r =
+    (r.number ≡ 18 → (r.place < sent s) × (good_one s r.place ≡ false) × AllGood s r.place)
+    × (r.number ≡ 0 → AllGood s (sent s))
 
 -- a point with fraction coordinates lies in a box, and in a window: each number of the window stands for its exact value
 abbrev pub InBox : Bounds → FractionPoint → Type 0
@@ -125,7 +137,7 @@ indices zero k = []
 indices (suc n) k = k ∷ indices n (suc k)
 
 -- bit k of the word is set exactly for those; the hits are the ones of the word, and the number of such summaries
-abbrev pub HitsRight : Window → List ℕ → Result InWindow Refusal → Type 0
-HitsRight w s (Ok h) =
-    ((k : ℕ) → T (has_bit h.word k) ↔ Shown w s k) × (h.hits ≡ ones h.word) × (h.hits ≡ count (has_bit h.word) (indices (sent s) 0))
-HitsRight w s (Err r) = Unit {0}
+abbrev pub HitsRight : Window → List ℕ → WindowValues → Type 0
+HitsRight w s r =
+    r.number ≡ 0
+    → ((k : ℕ) → T (has_bit r.word k) ↔ Shown w s k) × (r.hits ≡ ones r.word) × (r.hits ≡ count (has_bit r.word) (indices (sent s) 0))

@@ -6,7 +6,7 @@ ghost use Rattle.std.specs.Prelude.{◌≡◌, ◌≤◌, ◌&&◌, not, T, leng
 ghost use Rattle.std.specs.Float.{binary32};
 ghost use Rattle.floats.specs.Value.{counted};
 ghost use Rattle.summary.specs.Summary.{good_box, is_good};
-ghost use Rattle.summary_window.specs.Window.{is_range, is_window, shares_of, meets, judged, answer_of, BadRight, HitsRight};
+ghost use Rattle.summary_window.specs.Window.{is_range, is_window, shares_of, meets, judged, answer_of, window_values, BadRight, HitsRight};
 
 use scene::{Reason, Refusal};
 use summary::{Bounds, Summary};
@@ -110,7 +110,7 @@ fn answer(w: Window, s: &[u8]) -> Result<InWindow, Refusal>
 
 // Which of the summaries share a point with the window: for every window and every byte string the whole answer, and what it says in points.
 pub fn in_window(w: Window, s: &[u8]) -> Result<InWindow, Refusal>
-    ensures { (result ≡ answer_of w s.now) × BadRight s.now result × HitsRight w s.now result }
+    ensures { (result ≡ answer_of w s.now) × BadRight s.now (window_values result) × HitsRight w s.now (window_values result) }
 {
     answer(w, s)
 }
