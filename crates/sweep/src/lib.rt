@@ -82,7 +82,7 @@ fn take_event(
     n: usize,
     hint: usize,
     notes: &[u8],
-) -> Step
+) -> Option<Step>
     requires { IsScene s.now scene × (k < total s.now scene first) × Held s.now scene status.old n × (2048 ≤ length notes.now) }
     ensures { (length status.new ≡ length status.old) × Steps (λ m v. (m ≤ length status.new) × Taken s.now scene first k notes.now (take n status.old) (take m status.new) v) ((is_beginning s.now scene first k ≡ true → n < length status.old) × CanTake s.now scene first k (take n status.old)) result }
 {
@@ -114,12 +114,12 @@ fn run_events(s: &[u8], scene: Scene, status: &mut [u16], notes: &mut [u8]) -> b
     while i + j < all {
         let first = takes_first(s, scene, i, j, key_f, key_g);
         let k = next_of(first, i, j);
-        let Step::On(m, v, h) = take_event(s, scene, first, k, status, n, hint, notes) else {
+        let Some(step) = take_event(s, scene, first, k, status, n, hint, notes) else {
             return false;
         };
-        n = m;
-        hint = h;
-        notes[note::slot(first, k)] = v;
+        n = step.count;
+        hint = step.hint;
+        notes[note::slot(first, k)] = step.note;
         i += first as usize;
         j += !first as usize;
         key_f = key_after(s, f, first, i, key_f);

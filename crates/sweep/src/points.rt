@@ -95,12 +95,12 @@ pub fn run_points(s: &[u8], scene: Scene, status: &mut [u16], notes: &mut [u8]) 
     let mut hint: usize = 0;
     while j < all {
         i = note_points(s, scene, i, j, status, n, notes);
-        let Step::On(m, v, h) = crate::take_event(s, scene, false, j, status, n, hint, notes) else {
+        let Some(step) = crate::take_event(s, scene, false, j, status, n, hint, notes) else {
             return false;
         };
-        n = m;
-        hint = h;
-        notes[1024 + j] = v;
+        n = step.count;
+        hint = step.hint;
+        notes[1024 + j] = step.note;
         j += 1;
     }
     note_points(s, scene, i, j, status, n, notes);

@@ -16,11 +16,13 @@ ghost use Rattle.sweep_event.specs.Steps.{Steps};
 use scene::{Scene, bytes, order};
 use sweep_status::{note, owner, place};
 
-// The number of entries that are now in use, the note of the element, and a place where the next event may well be; or the event could not be taken.
+// What an event that could be taken leaves: the number of entries that are now in use, the note of the element, and a place where the next event may
+// well be.
 #[derive(Clone, Copy)]
-pub enum Step {
-    On(usize, u8, usize),
-    Stop,
+pub struct Step {
+    pub count: usize,
+    pub note: u8,
+    pub hint: usize,
 }
 
 // ---- a segment begins
@@ -103,25 +105,29 @@ pub fn begin(
     status: &mut [u16],
     n: usize,
     k: usize,
-) -> Step
+) -> Option<Step>
     requires { Ready s.now scene first at status.old n × Place s.now (take n status.old) (segment_at s.now at).left k }
     ensures { (length status.new ≡ length status.old) × Steps (λ m v. (m ≤ length status.new) × Began s.now scene first at (take n status.old) (take m status.new) v) ((n < length status.old) × FitsAt s.now scene first at (take n status.old) k) result }
 {
     if n == status.len() {
-        return Step::Stop;
+        return None;
     }
     if !place::fits_over(s, scene, first, at, status, k) {
-        return Step::Stop;
+        return None;
     }
     if !place::fits_under(s, at, status, k, n) {
-        return Step::Stop;
+        return None;
     }
     let own = has_odd_of(scene, first, status, k);
     if !has_right_ia(s, scene, first, at, own) {
-        return Step::Stop;
+        return None;
     }
     sweep_status::insert(status, n, k, at as u16);
-    Step::On(n + 1, other_note(k, own), k + 1)
+    Some(Step {
+        count: n + 1,
+        note: other_note(k, own),
+        hint: k + 1,
+    })
 }
 
 // ---- a segment ends
@@ -175,19 +181,23 @@ pub fn end(
     n: usize,
     top: usize,
     notes: &[u8],
-) -> Step
+) -> Option<Step>
     requires { Ready s.now scene first at status.old n × Place s.now (take n status.old) (segment_at s.now at).right top × (2048 ≤ length notes.now) }
     ensures { (length status.new ≡ length status.old) × Steps (λ m v. (m ≤ length status.new) × Ended s.now scene first at (take n status.old) notes.now (take m status.new) v) (EndsAt s.now scene first at (take n status.old) top) result }
 {
     let k = own_below(s, scene, first, at, status, top);
     if k == top {
-        return Step::Stop;
+        return None;
     }
     if !place::can_meet(s, status, k, n) {
-        return Step::Stop;
+        return None;
     }
     let e = place::wide(status[k]);
     let v = note::note_at(scene, first, notes, e);
     sweep_status::remove(status, n, k);
-    Step::On(n - 1, v, k)
+    Some(Step {
+        count: n - 1,
+        note: v,
+        hint: k,
+    })
 }

@@ -111,7 +111,7 @@ module _ (c : tie.After-next_of-k invariant_loop decreases_loop) where
   short = omega (arith, within, few d c.takes_first-first.result)
 
 -- and taken
-module _ (c : tie.In-On invariant_loop decreases_loop) where
+module _ (c : tie.In-Some invariant_loop decreases_loop) where
   abbrev e : tie.After-next_of-k invariant_loop decreases_loop
   e = c.before.before.before.before.before
 
@@ -119,14 +119,14 @@ module _ (c : tie.In-On invariant_loop decreases_loop) where
   new = c.take_event.new.status
 
   abbrev m : ℕ
-  m = c.in-On.m
+  m = c.in-Some.step.count
 
   abbrev v : ℕ
-  v = c.in-On.v
+  v = c.in-Some.step.note
 
   done : (m ≤ length new)
       × Taken (y e).args.s.now (y e).args.scene e.takes_first-first.result e.next_of-k.result (d e).loop-i.notes (take (d e).loop-i.n (d e).loop-i.status) (take m new) v
-  done = c.take_event.ensures.1.done m v c.in-On.h c.in-On.is
+  done = c.take_event.ensures.1.done c.in-Some.step c.in-Some.is
 
   on : ((d e).loop-i.i + bool_byte e.takes_first-first.result ≤ total (y e).args.s.now (y e).args.scene true)
       × ((d e).loop-i.j + bool_byte (not e.takes_first-first.result) ≤ total (y e).args.s.now (y e).args.scene false)
@@ -135,7 +135,7 @@ module _ (c : tie.In-On invariant_loop decreases_loop) where
 
 -- and noted
 module _ (c : tie.After-slot invariant_loop decreases_loop) where
-  abbrev told : tie.In-On invariant_loop decreases_loop
+  abbrev told : tie.In-Some invariant_loop decreases_loop
   told = c.before
 
   abbrev x : tie.After-next_of-k invariant_loop decreases_loop
@@ -221,8 +221,8 @@ take_event-requires c κs =
       room (d x),
     )
 
-enum_known-m : tie.Need-enum_known-m invariant_loop decreases_loop
-enum_known-m c = search rules
+enum_known-step : tie.Need-enum_known-step invariant_loop decreases_loop
+enum_known-step c = search rules
 
 enum_told-1 : tie.Need-enum_told-1 invariant_loop decreases_loop
 enum_told-1 c = search rules
@@ -375,7 +375,7 @@ run_events_spec =
     takes_first-first-requires
     next_of-k-requires
     take_event-requires
-    enum_known-m
+    enum_known-step
     enum_told-1
     shape_of-status-in_default
     shape_of-notes-in_default

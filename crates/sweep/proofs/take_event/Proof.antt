@@ -136,9 +136,9 @@ returns-then-h c =
     let e = beginning_is f t.if-h.true in (
       r.begin.ensures.0,
       record {
-        done = λ m v h q. let w = r.begin.ensures.1.done m v h q in (
+        done = λ step q. let w = r.begin.ensures.1.done step q in (
           w.0,
-          it_began e (subst (λ (at : ℕ). Began x.s.now x.scene x.first at (old f) (take m r.begin.new.status) v) (at_is (p f)) w.1),
+          it_began e (subst (λ (at : ℕ). Began x.s.now x.scene x.first at (old f) (take step.count r.begin.new.status) step.note) (at_is (p f)) w.1),
         );
         goes_on = λ can. r.begin.ensures.1.goes_on
             (can.0 e, subst (λ (at : ℕ). CanBegin x.s.now x.scene x.first at (old f)) (sym (at_is (p f))) (can.1.can_begin e) f.find-p.result (at_place f t.if-h.true));
@@ -157,9 +157,9 @@ returns-else-h c =
     let e = beginning_is f t.if-h.false in (
       r.end.ensures.0,
       record {
-        done = λ m v h q. let w = r.end.ensures.1.done m v h q in (
+        done = λ step q. let w = r.end.ensures.1.done step q in (
           w.0,
-          it_ended e (subst (λ (at : ℕ). Ended x.s.now x.scene x.first at (old f) x.notes.now (take m r.end.new.status) v) (at_is (p f)) w.1),
+          it_ended e (subst (λ (at : ℕ). Ended x.s.now x.scene x.first at (old f) x.notes.now (take step.count r.end.new.status) step.note) (at_is (p f)) w.1),
         );
         goes_on = λ can. r.end.ensures.1.goes_on
             (subst (λ (at : ℕ). CanEnd x.s.now x.scene x.first at (old f)) (sym (at_is (p f))) (can.1.can_end e) f.find-p.result (at_place f t.if-h.false));

@@ -116,7 +116,7 @@ module _ (c : tie.After-note_points-i invariant_loop decreases_loop) where
         )
 
 -- that element has been taken
-module _ (c : tie.In-On invariant_loop decreases_loop) where
+module _ (c : tie.In-Some invariant_loop decreases_loop) where
   abbrev e : tie.After-note_points-i invariant_loop decreases_loop
   e = c.before.before.before.before.before.before.before
 
@@ -124,13 +124,13 @@ module _ (c : tie.In-On invariant_loop decreases_loop) where
   new = c.take_event.new.status
 
   abbrev m : ℕ
-  m = c.in-On.m
+  m = c.in-Some.step.count
 
   abbrev v : ℕ
-  v = c.in-On.v
+  v = c.in-Some.step.note
 
   done : (m ≤ length new) × Taken (y e).args.s.now (y e).args.scene false (d e).loop-j.j (noted e) (take (d e).loop-j.n (d e).loop-j.status) (take m new) v
-  done = c.take_event.ensures.1.done m v c.in-On.h c.in-On.is
+  done = c.take_event.ensures.1.done c.in-Some.step c.in-Some.is
 
   run_on : Run (y e).args.s.now (y e).args.scene 0 ((d e).loop-j.j + 1) (take m new)
   run_on = advance (y e).args.s.now (y e).args.scene (orderly (d e)) (d e).loop-j.invariant.5 false (it e).more (it e).least (next e) done.1
@@ -204,8 +204,8 @@ take_event-requires c κs =
     let b = c.before.before.before in
     ((y b).requires.0, more b, held (d b), wide b)
 
-enum_known-m : tie.Need-enum_known-m invariant_loop decreases_loop
-enum_known-m c = search rules
+enum_known-step : tie.Need-enum_known-step invariant_loop decreases_loop
+enum_known-step c = search rules
 
 enum_told-1 : tie.Need-enum_told-1 invariant_loop decreases_loop
 enum_told-1 c = search rules
@@ -293,7 +293,7 @@ run_points_spec =
     loop-j-init
     note_points-i-requires
     take_event-requires
-    enum_known-m
+    enum_known-step
     enum_told-1
     shape_of-status-in_default
     shape_of-notes-in_default
