@@ -1,2 +1,3 @@
--- What the loop over all events rests on.
-pub mod Next
+-- Which event comes next, by keys, and one turn of a run.
+mod Next
+mod Turn

@@ -30,14 +30,11 @@ fn ends_evenly(s: &[u8], l: Layout) -> bool
     }
     let k = l.shape;
     let size = records::size(k);
-    let mut at = l.start + 2;
-    let mut i: usize = 0;
-    while i < l.count {
+    for i in 0..l.count / 2 {
+        let at = records::place(l, 2 * i);
         if !share_point(s, at, at + size) {
             return false;
         }
-        at += 2 * size;
-        i += 2;
     }
     true
 }

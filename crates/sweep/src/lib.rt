@@ -2,7 +2,7 @@
 // How many of the other object's segments pass under each segment, or under each point, is then noted, as a parity.
 #![tactic(auto)]
 
-ghost use Rattle.std.specs.Prelude.{◌≡◌, true, false, not, ◌&&◌, cond, ◌<◌, ◌≤◌, T, length, take};
+ghost use Rattle.std.specs.Prelude.{◌≡◌, true, false, not, ◌&&◌, cond, ◌<◌, ◌≤◌, T, length};
 ghost use Rattle.whole.specs.Decides.{Decides};
 ghost use Rattle.scene.specs.Read.{IsObject, IsScene};
 ghost use Rattle.scene.specs.Conditions.{has_segments};
@@ -15,8 +15,8 @@ ghost use Rattle.sweep_laws.specs.Noted.{SegmentsNoted, Noted};
 ghost use Rattle.sweep_event.specs.Steps.{Steps};
 
 use scene::{Layout, Scene, bytes, records};
-use sweep_event::Step;
-use sweep_status::{note, place};
+use sweep_status::owner::{self, Event};
+use sweep_status::{Status, note, place};
 
 pub mod evenly;
 pub mod points;
@@ -72,60 +72,57 @@ fn next_of(first: bool, i: usize, j: usize) -> usize
     if first { i } else { j }
 }
 
-// The element k of F, or of G, at a place for its point.
+// The element k of F, or of G, at a place for its point: its note, if it can be taken.
 fn take_event(
     s: &[u8],
     scene: Scene,
     first: bool,
     k: usize,
-    status: &mut [u16],
-    n: usize,
-    hint: usize,
+    status: &mut Status,
     notes: &[u8],
-) -> Step
-    requires { IsScene s.now scene × (k < total s.now scene first) × Held s.now scene status.old n × (2048 ≤ length notes.now) }
-    ensures { (length status.new ≡ length status.old) × Steps (λ m v. (m ≤ length status.new) × Taken s.now scene first k notes.now (take n status.old) (take m status.new) v) ((is_beginning s.now scene first k ≡ true → n < length status.old) × CanTake s.now scene first k (take n status.old)) result }
+) -> Option<u8>
+    requires { IsScene s.now scene × (k < total s.now scene first) × Held s.now scene status.old × (2048 ≤ length notes.now) }
+    ensures { Steps (Taken s.now scene first k notes.now status.old status.new) ((is_beginning s.now scene first k ≡ true → length status.old < 1024) × CanTake s.now scene first k status.old) result }
 {
-    let l = if first { scene.f } else { scene.g };
-    let at = records::place(l, k);
+    let at = records::place(owner::object_of(scene, first), k);
+    let event = Event { first, at };
     let h = bytes::halfsegment(s, at);
-    let p = place::find(s, plane_segments::dominating_point(h), status, n, hint);
+    let p = plane_segments::dominating_point(h);
+    let place = place::find(s, p, status.entries(), status.near());
     if h.is_left {
-        sweep_event::begin(s, scene, first, at, status, n, p)
+        sweep_event::begin(s, scene, event, status, place)
     } else {
-        sweep_event::end(s, scene, first, at, status, n, p, notes)
+        sweep_event::end(s, scene, event, status, place, notes)
     }
 }
 
 // All events, one after the other. No segment is active at the end.
-fn run_events(s: &[u8], scene: Scene, status: &mut [u16], notes: &mut [u8]) -> bool
-    requires { IsScene s.now scene × InOrder s.now scene × RegionsEndEvenly s.now scene × (1024 ≤ length status.old) × (2048 ≤ length notes.old) }
-    ensures { (length status.new ≡ length status.old) × (length notes.new ≡ length notes.old) × Decides (Passes s.now scene) result × (T result → SegmentsNoted s.now scene notes.new) }
+// Kept as a loop: which of the two indices goes on is found anew at each turn.
+fn run_events(s: &[u8], scene: Scene, notes: &mut [u8]) -> bool
+    requires { IsScene s.now scene × InOrder s.now scene × RegionsEndEvenly s.now scene × (2048 ≤ length notes.old) }
+    ensures { (length notes.new ≡ length notes.old) × Decides (Passes s.now scene) result × (T result → SegmentsNoted s.now scene notes.new) }
 {
     let f = scene.f;
     let g = scene.g;
     let all = event_count(f) + event_count(g);
+    let mut status = Status::new();
     let mut i: usize = 0;
     let mut j: usize = 0;
-    let mut n: usize = 0;
-    let mut hint: usize = 0;
     let mut key_f = key_after(s, f, true, 0, 0);
     let mut key_g = key_after(s, g, true, 0, 0);
     while i + j < all {
         let first = takes_first(s, scene, i, j, key_f, key_g);
         let k = next_of(first, i, j);
-        let Step::On(m, v, h) = take_event(s, scene, first, k, status, n, hint, notes) else {
+        let Some(v) = take_event(s, scene, first, k, &mut status, notes) else {
             return false;
         };
-        n = m;
-        hint = h;
         notes[note::slot(first, k)] = v;
         i += first as usize;
         j += !first as usize;
         key_f = key_after(s, f, first, i, key_f);
         key_g = key_after(s, g, !first, j, key_g);
     }
-    n == 0
+    status.is_empty()
 }
 
 // Does F have points, and G segments?
@@ -147,10 +144,9 @@ pub fn accepts(s: &[u8], scene: Scene, notes: &mut [u8]) -> bool
     if !evenly::regions_end_evenly(s, scene) {
         return false;
     }
-    let mut status = [0u16; 1024];
     if has_points(scene) {
-        points::run_points(s, scene, &mut status, notes)
+        points::run_points(s, scene, notes)
     } else {
-        run_events(s, scene, &mut status, notes)
+        run_events(s, scene, notes)
     }
 }

@@ -1,6 +1,6 @@
 // The points of F where F has points and G segments: the sweep over G's halfsegments takes each before the first halfsegment that does not come
 // before it, and notes it by the segments that are active there.
-ghost use Rattle.std.specs.Prelude.{◌≡◌, false, ◌<◌, ◌≤◌, T, length, take};
+ghost use Rattle.std.specs.Prelude.{◌≡◌, false, ◌<◌, ◌≤◌, T, length};
 ghost use Rattle.whole.specs.Decides.{Decides};
 ghost use Rattle.plane.specs.Plane.{in_range};
 ghost use Rattle.scene.specs.declared.Shape.TheVariants.{Points};
@@ -14,20 +14,19 @@ ghost use Rattle.sweep_laws.specs.Swept.{total, InOrder, Passes};
 
 use plane::Point;
 use scene::{Scene, bytes, records};
-use sweep_event::Step;
-use sweep_status::place;
+use sweep_status::{Status, place};
 
-// The note of a point by the first n entries. In order, those that pass under it come first, and those that pass over it last: the one just below
-// these, if there is one, passes under it or through it.
-fn locate(s: &[u8], status: &[u16], n: usize, v: Point) -> u8
-    requires { Readable s.now status.now n × T (in_range v) }
-    ensures { NearNote s.now (take n status.now) v result }
+// The note of a point by the entries. In order, those that pass under it come first, and those that pass over it last: the one just below these, if there
+// is one, passes under it or through it.
+fn locate(s: &[u8], entries: &[u16], v: Point) -> u8
+    requires { Readable s.now entries.now × T (in_range v) }
+    ensures { NearNote s.now entries.now v result }
 {
-    let k = place::first_over(s, v, status, n);
+    let k = place::first_over(s, v, entries);
     if k == 0 {
         return 0;
     }
-    let u = bytes::segment(s, place::wide(status[k - 1]));
+    let u = bytes::segment(s, place::wide(entries[k - 1]));
     if plane::is_in_line(u.left, u.right, v) {
         return 2;
     }
@@ -53,56 +52,51 @@ fn is_point_next(s: &[u8], scene: Scene, i: usize, j: usize) -> bool
 }
 
 // The note of F's point i.
-fn note_of(s: &[u8], scene: Scene, i: usize, status: &[u16], n: usize) -> u8
-    requires { IsScene s.now scene × (scene.f.shape ≡ Points) × (i < scene.f.count) × Held s.now scene status.now n }
-    ensures { NearNote s.now (take n status.now) (point_by s.now scene i) result }
+fn note_of(s: &[u8], scene: Scene, i: usize, entries: &[u16]) -> u8
+    requires { IsScene s.now scene × (scene.f.shape ≡ Points) × (i < scene.f.count) × Held s.now scene entries.now }
+    ensures { NearNote s.now entries.now (point_by s.now scene i) result }
 {
     let f = scene.f;
-    locate(s, status, n, bytes::point(s, records::place(f, i)))
+    locate(s, entries, bytes::point(s, records::place(f, i)))
 }
 
 // The points from i on that come before G's halfsegment j: the index of the first that does not.
+// Kept as a loop: the test of the next point ends it, and its index is what is asked for.
 fn note_points(
     s: &[u8],
     scene: Scene,
     i: usize,
     j: usize,
-    status: &[u16],
-    n: usize,
+    entries: &[u16],
     notes: &mut [u8],
 ) -> usize
-    requires { IsScene s.now scene × (scene.f.shape ≡ Points) × (i ≤ scene.f.count) × (j ≤ total s.now scene false) × Held s.now scene status.now n × (scene.f.count ≤ length notes.old) }
-    ensures { (result ≤ scene.f.count) × (is_point_next s.now scene result j ≡ false) × PointsTaken s.now scene j (take n status.now) i result notes.old notes.new }
+    requires { IsScene s.now scene × (scene.f.shape ≡ Points) × (i ≤ scene.f.count) × (j ≤ total s.now scene false) × Held s.now scene entries.now × (scene.f.count ≤ length notes.old) }
+    ensures { (result ≤ scene.f.count) × (is_point_next s.now scene result j ≡ false) × PointsTaken s.now scene j entries.now i result notes.old notes.new }
 {
     let mut k = i;
     while is_point_next(s, scene, k, j) {
-        notes[k] = note_of(s, scene, k, status, n);
+        notes[k] = note_of(s, scene, k, entries);
         k += 1;
     }
     k
 }
 
 // All points of F and all halfsegments of G, one after the other. No segment is active at the end.
-pub fn run_points(s: &[u8], scene: Scene, status: &mut [u16], notes: &mut [u8]) -> bool
-    requires { IsScene s.now scene × InOrder s.now scene × (scene.f.shape ≡ Points) × T (has_segments scene.g.shape) × RegionsEndEvenly s.now scene × (1024 ≤ length status.old) × (2048 ≤ length notes.old) }
-    ensures { (length status.new ≡ length status.old) × (length notes.new ≡ length notes.old) × Decides (Passes s.now scene) result × (T result → Noted s.now scene notes.new) }
+pub fn run_points(s: &[u8], scene: Scene, notes: &mut [u8]) -> bool
+    requires { IsScene s.now scene × InOrder s.now scene × (scene.f.shape ≡ Points) × T (has_segments scene.g.shape) × RegionsEndEvenly s.now scene × (2048 ≤ length notes.old) }
+    ensures { (length notes.new ≡ length notes.old) × Decides (Passes s.now scene) result × (T result → Noted s.now scene notes.new) }
 {
     let g = scene.g;
     let all = crate::event_count(g);
+    let mut status = Status::new();
     let mut i: usize = 0;
-    let mut j: usize = 0;
-    let mut n: usize = 0;
-    let mut hint: usize = 0;
-    while j < all {
-        i = note_points(s, scene, i, j, status, n, notes);
-        let Step::On(m, v, h) = crate::take_event(s, scene, false, j, status, n, hint, notes) else {
+    for j in 0..all {
+        i = note_points(s, scene, i, j, status.entries(), notes);
+        let Some(v) = crate::take_event(s, scene, false, j, &mut status, notes) else {
             return false;
         };
-        n = m;
-        hint = h;
         notes[1024 + j] = v;
-        j += 1;
     }
-    note_points(s, scene, i, j, status, n, notes);
-    n == 0
+    note_points(s, scene, i, all, status.entries(), notes);
+    status.is_empty()
 }

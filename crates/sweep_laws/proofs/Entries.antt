@@ -7,15 +7,14 @@ use mathlib.Core.Path.{◌≡◌, refl, sym, ap, ap₂, subst, ◌∙◌}
 use mathlib.Core.Bool.{Bool, true, false, not, ◌&&◌, beq}
 use mathlib.Core.List.{List, [], ◌∷◌}
 use lib.Dec.{T}
-use lib.ListN.{length, get_or, take, drop, take-append-drop}
-use lib.Seq.{length-take-le, take-suc, take-take, get_or-take}
+use lib.ListN.{length, get_or, take}
+use lib.Seq.{take-suc}
 use native.Mathlib.Numerals.{add-one}
-use Rattle.whole.specs.Count.{◌∈◌, bit, count}
+use Rattle.whole.specs.Count.{bit, count}
 use Rattle.whole.specs.Decides.{Decides}
-use Rattle.whole.proofs.Logic.{in_at, in_left}
+use Rattle.whole.proofs.Logic.{in_at}
 use Rattle.whole.proofs.Deciding.{by_test_lem, same_as}
 use Rattle.whole.proofs.Parity.{◌⊻◌, xor_false, parity, parity_nil, parity_cons, parity_append}
-use Rattle.plane.specs.declared.Point.{Point}
 use Rattle.plane.specs.declared.Segment.{Segment}
 use Rattle.plane.specs.Plane.{segment_in_range}
 use Rattle.scene.specs.declared.Scene.{Scene}
@@ -23,10 +22,8 @@ use Rattle.scene.specs.Read.{place, segment_at, ia_at, given_second, IsScene}
 use Rattle.scene.specs.Conditions.{has_segments, is_region}
 use Rattle.scene.proofs.Taken.{TakenScene, taken_scene, f_taken, g_taken, scene_short}
 use Rattle.scene.proofs.Given.{GoodHalfsegment, good_halfsegment, ia_there}
-use Rattle.sweep_laws.specs.Lower.{passes_over}
 use Rattle.sweep_laws.specs.Status.{AtPlace, BelowPlace}
 use Rattle.sweep_laws.specs.Swept.{object_of, is_first, strand_of, strand_at, Entry}
-use Rattle.sweep_laws.specs.Event.{Place, OwnAt}
 use Rattle.sweep_laws.specs.Ready.{Placed, Readable, Held}
 use Rattle.sweep_laws.proofs.Objects.{few_elements}
 
@@ -84,26 +81,12 @@ tested f k p q = by_test_lem (k ∙ ap₂ f p q)
 
 -- ---- the status
 
-pub member : (l : List ℕ) (n i : ℕ) → n ≤ length l → i < n → get_or l i 0 ∈ take n l
-member l n i h k =
-    subst (λ (e : ℕ). e ∈ take n l) (get_or-take n l i 0 k) (in_at (take n l) 0 i (subst (λ (m : ℕ). i < m) (sym (length-take-le n l h)) k))
+module _ {s : List ℕ} {sc : Scene} {entries : List ℕ} (h : Held s sc entries) where
+  pub held_entry : (i : ℕ) → i < length entries → Entry s sc (get_or entries i 0)
+  held_entry i b = h.each (get_or entries i 0) (in_at entries 0 i b)
 
-module _ {s : List ℕ} {sc : Scene} {status : List ℕ} {n : ℕ} (h : Held s sc status n) where
-  pub held_entry : (i : ℕ) → i < n → Entry s sc (get_or status i 0)
-  held_entry i b = h.entries (get_or status i 0) (member status n i h.room b)
-
-  pub held_readable : IsScene s sc → Readable s status n
-  held_readable is = record {
-    room = h.room;
-    entries = λ i b. entry_readable s sc is (held_entry i b);
-  }
-
-  -- of fewer entries
-  pub held_fewer : (m : ℕ) → m ≤ n → Held s sc status m
-  held_fewer m b = record {
-    room = omega (arith, h.room);
-    entries = λ e k. h.entries e (subst (λ (l : List ℕ). e ∈ l) (take-append-drop m (take n status)) (in_left (drop m (take n status)) (subst (λ (l : List ℕ). e ∈ l) (sym (take-take m n status b)) k)));
-  }
+  pub held_readable : IsScene s sc → Readable s entries
+  held_readable is = record { each = λ i b. entry_readable s sc is (held_entry i b) }
 
 -- ---- what holds of each place, from one end of a row or from the other
 
@@ -167,54 +150,3 @@ module _ (l : List ℕ) (k : ℕ) (P : ℕ → Type 0) where
 
   pub by_at : {r : Bool} → k < length l → Decides (P (get_or l k 0)) r → Decides (AtPlace l k P) r
   by_at h = same_as (λ p g. p) (λ p. p h)
-
--- those among the first n entries are those in the status
-module _ (l : List ℕ) (n : ℕ) (room : n ≤ length l) where
-  pub first_length : length (take n l) ≡ n
-  first_length = length-take-le n l room
-
-  -- the entry at a place among them
-  module _ (P : ℕ → Type 0) (i : ℕ) (h : i < n) where
-    pub to_first : P (get_or l i 0) → P (get_or (take n l) i 0)
-    to_first = subst P (sym (get_or-take n l i 0 h))
-
-    pub from_first : P (get_or (take n l) i 0) → P (get_or l i 0)
-    from_first = subst P (get_or-take n l i 0 h)
-
-  module _ (P : ℕ → Type 0) (k : ℕ) where
-    pub to_at : (k < n → P (get_or l k 0)) → AtPlace (take n l) k P
-    to_at p h = let b : k < n = omega (arith, first_length) in to_first P k b (p b)
-
-    pub from_at : AtPlace (take n l) k P → k < n → P (get_or l k 0)
-    from_at p h = from_first P k h (p (omega (arith, first_length)))
-
-    module _ (within : k ≤ n) where
-      pub to_below : BelowPlace l k P → BelowPlace (take n l) k P
-      to_below p i e = to_first P i (omega arith) (p i e)
-
-      pub from_below : BelowPlace (take n l) k P → BelowPlace l k P
-      from_below p i e = from_first P i (omega arith) (p i e)
-
-  pub place_made : {s : List ℕ} {p : Point} {k : ℕ} → k ≤ n → (k < n → T (passes_over (segment_at s (get_or l k 0)) p)) → BelowPlace l k (λ e. passes_over (segment_at s e) p ≡ false)
-      → Place s (take n l) p k
-  place_made {s} {p} {k} h over below = record {
-    within = omega (arith, first_length);
-    over_it = to_at (λ e. T (passes_over (segment_at s e) p)) k over;
-    not_below = to_below (λ e. passes_over (segment_at s e) p ≡ false) k h below;
-  }
-
-  -- the entry that an ending looks for
-  module _ {s : List ℕ} {sc : Scene} {first : Bool} {at top k : ℕ} (within : top ≤ n) where
-    pub to_own : OwnAt s sc first at l top k → OwnAt s sc first at (take n l) top k
-    to_own w = record {
-      below = w.below;
-      own = to_first (λ e. strand_at s sc e ≡ strand_of s sc first at) k (omega (arith, w.below)) w.own;
-      equals = λ i h b. to_first (λ e. segment_at s e ≡ segment_at s at) i (omega arith) (w.equals i h b);
-    }
-
-    pub from_own : OwnAt s sc first at (take n l) top k → OwnAt s sc first at l top k
-    from_own w = record {
-      below = w.below;
-      own = from_first (λ e. strand_at s sc e ≡ strand_of s sc first at) k (omega (arith, w.below)) w.own;
-      equals = λ i h b. from_first (λ e. segment_at s e ≡ segment_at s at) i (omega arith) (w.equals i h b);
-    }

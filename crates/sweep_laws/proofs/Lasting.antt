@@ -7,7 +7,7 @@ use mathlib.Core.Bool.{Bool, true, false, not, true≢false}
 use mathlib.Core.List.{List, [], ◌∷◌, ◌++◌, map}
 use lib.Dec.{T}
 use lib.ListN.{length, get_or, take, drop}
-use lib.Seq.{split_at, length-take-le}
+use lib.Seq.{split_at}
 use borrow.Author.Tests.{ltb-true}
 use Rattle.whole.specs.Count.{◌∈◌, here, bit, some, count}
 use Rattle.whole.proofs.Logic.{less_or_not, in_map, some_make, true_is, and_make, is_true, beq_refl}
@@ -149,12 +149,14 @@ module _ (s : List ℕ) (sc : Scene) where
       over true h l = omega arith
       over false h l = omega arith
 
-  module _ (status : List ℕ) {i j n : ℕ} (of_f_lem : i ≡ total s sc true) (of_g_lem : j ≡ total s sc false) where
-    pub none_left : n ≤ length status → AllEndLater s sc i j (take n status) → n ≡ 0
-    none_left room later =
-        sym (length-take-le n status room)
-        ∙ none_active (take n status) (subst₂ (λ (i j : ℕ). AllEndLater s sc i j (take n status)) of_f_lem of_g_lem later)
+  module _ (entries : List ℕ) {i j : ℕ} (of_f_lem : i ≡ total s sc true) (of_g_lem : j ≡ total s sc false) where
+    pub none_left : AllEndLater s sc i j entries → length entries ≡ 0
+    none_left later = none_active entries (subst₂ (λ (i j : ℕ). AllEndLater s sc i j entries) of_f_lem of_g_lem later)
 
     -- what holds then of the elements and entries
-    pub at_end_lem : (P : ℕ → ℕ → List ℕ → Type 0) → n ≡ 0 → P i j (take n status) → P (total s sc true) (total s sc false) []
-    at_end_lem P e p = subst₂ (λ (i j : ℕ). P i j []) of_f_lem of_g_lem (subst (λ (n : ℕ). P i j (take n status)) e p)
+    pub at_end_lem : (P : ℕ → ℕ → List ℕ → Type 0) → length entries ≡ 0 → P i j entries → P (total s sc true) (total s sc false) []
+    at_end_lem P e p = subst₂ (λ (i j : ℕ). P i j []) of_f_lem of_g_lem (subst (P i j) (empty entries e) p)
+      where
+        empty : (l : List ℕ) → length l ≡ 0 → l ≡ []
+        empty [] e = refl
+        empty (a ∷ l) e = absurd (omega arith)

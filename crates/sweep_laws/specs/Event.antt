@@ -21,12 +21,12 @@ pub record Place (s entries : List ℕ) (p : Point) (k : ℕ) : Type 0 where
   pub over_it : AtPlace entries k (λ e. T (passes_over (segment_at s e) p))
   pub not_below : BelowPlace entries k (λ e. passes_over (segment_at s e) p ≡ false)
 
--- a place for p is from low to high among the first n of the array: the entry at high, if there is one, passes over p, and the one just below low does not
-pub record Bracket (s status : List ℕ) (n : ℕ) (p : Point) (low high : ℕ) : Type 0 where
+-- a place for p among the entries is from low to high: the entry at high, if there is one, passes over p, and the one just below low does not
+pub record Bracket (s entries : List ℕ) (p : Point) (low high : ℕ) : Type 0 where
   pub rises : low ≤ high
-  pub within : high ≤ n
-  pub over_it : high < n → T (passes_over (segment_at s (get_or status high 0)) p)
-  pub not_below : BelowPlace status low (λ e. passes_over (segment_at s e) p ≡ false)
+  pub within : high ≤ length entries
+  pub over_it : AtPlace entries high (λ e. T (passes_over (segment_at s e) p))
+  pub not_below : BelowPlace entries low (λ e. passes_over (segment_at s e) p ≡ false)
 
 -- e can stand just below f: it is the lower of the two at the right
 abbrev pub LowerNext : List ℕ → ℕ → ℕ → Type 0

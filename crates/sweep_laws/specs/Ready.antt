@@ -1,5 +1,5 @@
 -- What the code of one event asks of the status: its entries, and the event's own record, can be read.
-use Rattle.std.specs.Prelude.{ℕ, ◌<◌, ◌≤◌, ◌≡◌, Bool, List, length, get_or, take}
+use Rattle.std.specs.Prelude.{ℕ, ◌<◌, ◌≡◌, Bool, List, length, get_or}
 use Rattle.whole.specs.Count.{◌∈◌}
 use Rattle.scene.specs.declared.Layout.{Layout}
 use Rattle.scene.specs.declared.Scene.{Scene}
@@ -13,19 +13,17 @@ pub record Placed (l : Layout) (at : ℕ) : Type 0 where
   pub few : index < 1024
   pub is_place : at ≡ place l index
 
--- the records of the first n entries are halfsegments, whole and in range
-pub record Readable (s status : List ℕ) (n : ℕ) : Type 0 where
-  pub room : n ≤ length status
-  pub entries : (i : ℕ) → i < n → GoodHalfsegment s (get_or status i 0)
+-- the records of the entries are halfsegments, whole and in range
+pub record Readable (s entries : List ℕ) : Type 0 where
+  pub each : (i : ℕ) → i < length entries → GoodHalfsegment s (get_or entries i 0)
 
 -- they are records of a scene
-pub record Held (s : List ℕ) (sc : Scene) (status : List ℕ) (n : ℕ) : Type 0 where
-  pub room : n ≤ length status
-  pub entries : (e : ℕ) → e ∈ take n status → Entry s sc e
+pub record Held (s : List ℕ) (sc : Scene) (entries : List ℕ) : Type 0 where
+  pub each : (e : ℕ) → e ∈ entries → Entry s sc e
 
 -- and so is the event's, which is of F or not
-pub record Ready (s : List ℕ) (sc : Scene) (first : Bool) (at : ℕ) (status : List ℕ) (n : ℕ) : Type 0 where
+pub record Ready (s : List ℕ) (sc : Scene) (first : Bool) (at : ℕ) (entries : List ℕ) : Type 0 where
   pub scene : IsScene s sc
   pub event : Entry s sc at
   pub object : is_first s sc at ≡ first
-  pub held : Held s sc status n
+  pub held : Held s sc entries

@@ -1,2 +1,2 @@
--- Laws of the searches in the status.
-pub mod Narrowed
+-- Of entries that move.
+mod Moved

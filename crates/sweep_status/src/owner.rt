@@ -1,8 +1,23 @@
-// Whose an entry of the status is: the bytes have all records of one object before all of the other.
+// Whose an event is, and whose an entry of the status: the bytes have all records of one object before all of the other.
 ghost use Rattle.std.specs.Prelude.{◌≡◌, List, ℕ};
-ghost use Rattle.sweep_laws.specs.Swept.{is_first};
+ghost use Rattle.sweep_laws.specs.Swept.{is_first, object_of};
 
-use scene::{Scene, order};
+use scene::{Layout, Scene, order};
+
+/// A halfsegment that the sweep comes to: whether it is F's, and the offset of its record.
+#[derive(Clone, Copy)]
+pub struct Event {
+    pub first: bool,
+    pub at: usize,
+}
+
+// F, or G.
+#[inline]
+pub fn object_of(scene: Scene, first: bool) -> Layout
+    ensures { (s : List ℕ) → result ≡ object_of s scene first }
+{
+    if first { scene.f } else { scene.g }
+}
 
 // Is the record at an offset F's?
 pub fn is_first(scene: Scene, at: usize) -> bool

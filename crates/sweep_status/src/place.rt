@@ -1,6 +1,6 @@
 // Where an event stands in the status, and whether its neighbours there let it in. Each function looks at a few entries only: that the others stand
-// in order follows, since every two neighbours were tested when they became neighbours. The entries are the first n of the array.
-ghost use Rattle.std.specs.Prelude.{◌≡◌, not, ◌&&◌, ◌||◌, ◌<◌, T, length, get_or, take};
+// in order follows, since every two neighbours were tested when they became neighbours.
+ghost use Rattle.std.specs.Prelude.{◌≡◌, not, ◌&&◌, ◌||◌, ◌<◌, ◌≤◌, T, length, get_or};
 ghost use Rattle.whole.specs.Decides.{Decides};
 ghost use Rattle.plane.specs.Plane.{in_range, segment_in_range, is_same_point, is_same_segment};
 ghost use Rattle.scene.specs.Read.{segment_at};
@@ -10,7 +10,7 @@ ghost use Rattle.sweep_laws.specs.Status.{AtPlace, BelowPlace};
 ghost use Rattle.sweep_laws.specs.Event.{Place, Bracket, LowerNext, FitsOver, CanMeet};
 ghost use Rattle.sweep_laws.specs.Ready.{Readable};
 
-use crate::owner;
+use crate::owner::{self, Event};
 use plane::{Beside, Point, Segment};
 use scene::{Scene, bytes};
 
@@ -77,31 +77,32 @@ fn is_lower(u: Segment, t: Segment) -> bool
 // ---- a place for a point: the entry just below it does not pass over the point, and the one there does
 
 // The segment of the entry i.
-fn segment_of(s: &[u8], status: &[u16], i: usize) -> Segment
-    requires { (i < length status.now) × GoodHalfsegment s.now (get_or status.now i 0) }
-    ensures { (result ≡ segment_at s.now (get_or status.now i 0)) × T (segment_in_range result) }
+fn segment_of(s: &[u8], entries: &[u16], i: usize) -> Segment
+    requires { (i < length entries.now) × GoodHalfsegment s.now (get_or entries.now i 0) }
+    ensures { (result ≡ segment_at s.now (get_or entries.now i 0)) × T (segment_in_range result) }
 {
-    bytes::segment(s, wide(status[i]))
+    bytes::segment(s, wide(entries[i]))
 }
 
 // Does the entry i pass over p?
-fn is_entry_over(s: &[u8], p: Point, status: &[u16], i: usize) -> bool
-    requires { T (in_range p) × (i < length status.now) × GoodHalfsegment s.now (get_or status.now i 0) }
-    ensures { result ≡ passes_over (segment_at s.now (get_or status.now i 0)) p }
+fn is_entry_over(s: &[u8], p: Point, entries: &[u16], i: usize) -> bool
+    requires { T (in_range p) × (i < length entries.now) × GoodHalfsegment s.now (get_or entries.now i 0) }
+    ensures { result ≡ passes_over (segment_at s.now (get_or entries.now i 0)) p }
 {
-    is_over(segment_of(s, status, i), p)
+    is_over(segment_of(s, entries, i), p)
 }
 
 // A place for p from low to high, by halving. Where those that pass over p stand above all others, it is the first of them.
-fn search(s: &[u8], p: Point, status: &[u16], n: usize, from: usize, to: usize) -> usize
-    requires { T (in_range p) × Readable s.now status.now n × Bracket s.now status.now n p from to }
-    ensures { Place s.now (take n status.now) p result }
+// Kept as a loop: the entries need not be parted by p, and then std's partition_point says nothing of what it finds.
+fn search(s: &[u8], p: Point, entries: &[u16], from: usize, to: usize) -> usize
+    requires { T (in_range p) × Readable s.now entries.now × Bracket s.now entries.now p from to }
+    ensures { Place s.now entries.now p result }
 {
     let mut low = from;
     let mut high = to;
     while low < high {
         let middle = low + (high - low) / 2;
-        if is_entry_over(s, p, status, middle) {
+        if is_entry_over(s, p, entries, middle) {
             high = middle;
         } else {
             low = middle + 1;
@@ -111,31 +112,32 @@ fn search(s: &[u8], p: Point, status: &[u16], n: usize, from: usize, to: usize) 
 }
 
 // A place for p among all entries.
-pub fn first_over(s: &[u8], p: Point, status: &[u16], n: usize) -> usize
-    requires { T (in_range p) × Readable s.now status.now n }
-    ensures { Place s.now (take n status.now) p result }
+pub fn first_over(s: &[u8], p: Point, entries: &[u16]) -> usize
+    requires { T (in_range p) × Readable s.now entries.now }
+    ensures { Place s.now entries.now p result }
 {
-    search(s, p, status, n, 0, n)
+    search(s, p, entries, 0, entries.len())
 }
 
 // A place for p from low on, the entry just below which does not pass over p: looked for first at low, and just above it.
-fn from_place(s: &[u8], p: Point, status: &[u16], n: usize, low: usize) -> usize
-    requires { T (in_range p) × Readable s.now status.now n × Bracket s.now status.now n p low n }
-    ensures { Place s.now (take n status.now) p result }
+fn from_place(s: &[u8], p: Point, entries: &[u16], low: usize) -> usize
+    requires { T (in_range p) × Readable s.now entries.now × Bracket s.now entries.now p low (length entries.now) }
+    ensures { Place s.now entries.now p result }
 {
+    let n = entries.len();
     if low == n {
         return n;
     }
-    if is_entry_over(s, p, status, low) {
+    if is_entry_over(s, p, entries, low) {
         return low;
     }
     if low + 1 == n {
         return n;
     }
-    if is_entry_over(s, p, status, low + 1) {
+    if is_entry_over(s, p, entries, low + 1) {
         return low + 1;
     }
-    search(s, p, status, n, low + 2, n)
+    search(s, p, entries, low + 2, n)
 }
 
 // With fewer entries than these, a search costs no more than a look at two places.
@@ -143,59 +145,60 @@ const FEW: usize = 32;
 
 // A place for p, looked for first at a hint, the place of the event before, and just above it: where several halfsegments meet at a point, the next one
 // is there.
-pub fn find(s: &[u8], p: Point, status: &[u16], n: usize, hint: usize) -> usize
-    requires { T (in_range p) × Readable s.now status.now n }
-    ensures { Place s.now (take n status.now) p result }
+pub fn find(s: &[u8], p: Point, entries: &[u16], hint: usize) -> usize
+    requires { T (in_range p) × Readable s.now entries.now }
+    ensures { Place s.now entries.now p result }
 {
+    let n = entries.len();
     if n < FEW || n < hint {
-        return first_over(s, p, status, n);
+        return first_over(s, p, entries);
     }
     if hint == 0 {
-        return from_place(s, p, status, n, 0);
+        return from_place(s, p, entries, 0);
     }
-    if is_entry_over(s, p, status, hint - 1) {
-        return search(s, p, status, n, 0, hint - 1);
+    if is_entry_over(s, p, entries, hint - 1) {
+        return search(s, p, entries, 0, hint - 1);
     }
-    from_place(s, p, status, n, hint)
+    from_place(s, p, entries, hint)
 }
 
 // Does the entry just below place k belong under the segment that begins, and is it the lower of the two at the right?
-pub fn fits_over(s: &[u8], scene: Scene, first: bool, at: usize, status: &[u16], k: usize) -> bool
-    requires { GoodHalfsegment s.now at × Readable s.now status.now k }
-    ensures { Decides (BelowPlace status.now k (FitsOver s.now scene first at)) result }
+pub fn fits_over(s: &[u8], scene: Scene, event: Event, entries: &[u16], k: usize) -> bool
+    requires { GoodHalfsegment s.now event.at × Readable s.now entries.now × (k ≤ length entries.now) }
+    ensures { Decides (BelowPlace entries.now k (FitsOver s.now scene event.first event.at)) result }
 {
     if k == 0 {
         return true;
     }
-    let own = first == owner::is_first(scene, wide(status[k - 1]));
-    let u = segment_of(s, status, k - 1);
-    let t = bytes::segment(s, at);
+    let own = event.first == owner::is_first(scene, wide(entries[k - 1]));
+    let u = segment_of(s, entries, k - 1);
+    let t = bytes::segment(s, event.at);
     is_under_beginning(u, t, own) && is_lower(u, t)
 }
 
 // Is the segment that begins the lower of itself and the entry at place k at the right?
-pub fn fits_under(s: &[u8], at: usize, status: &[u16], k: usize, n: usize) -> bool
-    requires { GoodHalfsegment s.now at × Readable s.now status.now n }
-    ensures { Decides (AtPlace (take n status.now) k (LowerNext s.now at)) result }
+pub fn fits_under(s: &[u8], at: usize, entries: &[u16], k: usize) -> bool
+    requires { GoodHalfsegment s.now at × Readable s.now entries.now }
+    ensures { Decides (AtPlace entries.now k (LowerNext s.now at)) result }
 {
-    if n <= k {
+    if entries.len() <= k {
         return true;
     }
     let t = bytes::segment(s, at);
-    is_lower(t, segment_of(s, status, k))
+    is_lower(t, segment_of(s, entries, k))
 }
 
 // Where the entry at place k goes, is the one below it the lower of itself and the one above it at the right?
-pub fn can_meet(s: &[u8], status: &[u16], k: usize, n: usize) -> bool
-    requires { (k < n) × Readable s.now status.now n }
-    ensures { Decides (CanMeet s.now (take n status.now) k) result }
+pub fn can_meet(s: &[u8], entries: &[u16], k: usize) -> bool
+    requires { (k < length entries.now) × Readable s.now entries.now }
+    ensures { Decides (CanMeet s.now entries.now k) result }
 {
     if k == 0 {
         return true;
     }
-    if k + 1 == n {
+    if k + 1 == entries.len() {
         return true;
     }
-    let u = segment_of(s, status, k - 1);
-    is_lower(u, segment_of(s, status, k + 1))
+    let u = segment_of(s, entries, k - 1);
+    is_lower(u, segment_of(s, entries, k + 1))
 }

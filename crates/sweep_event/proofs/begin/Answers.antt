@@ -1,0 +1,60 @@
+-- The tests are those of a segment that fits at the place, and the parities are those of the entries below it.
+use Rattle.std.proofs.Common.{◌≡◌, ℕ, ◌+◌, Bool, not, List, T, length, take, length-take-le, sym, ap, subst, ◌∙◌, arith}
+use Rattle.std.specs.Bool.{beq}
+use Rattle.whole.specs.Count.{count}
+use Rattle.whole.proofs.Logic.{is_true}
+use Rattle.sweep_laws.specs.Status.{AtPlace, BelowPlace}
+use Rattle.sweep_laws.specs.Swept.{is_first}
+use Rattle.sweep_laws.specs.Event.{FitsOver, LowerNext, odd_of}
+use Rattle.sweep_laws.specs.Ready.{Readable}
+use Rattle.sweep_laws.proofs.Entries.{entry_readable, entry_small, start_small, held_readable, own_and_other}
+use Rattle.sweep_event.proofs.Answers.{stops, on}
+use Rattle.sweep_event.proofs.begin.Goals as goal
+
+pub fits_over-requires : goal.fits_over-requires
+fits_over-requires c =
+    let r = c.requires.0 in
+    let e = c.entries-entries.ensures in
+    (entry_readable c.args.s.now c.args.scene r.scene r.event, subst (Readable c.args.s.now) (sym e) (held_readable r.held r.scene), omega (arith, c.requires.1.within, ap length e))
+
+pub returns-then-not-fits_over : goal.returns-then-not-fits_over
+returns-then-not-fits_over c =
+    let a = c.args in
+    let e = c.entries-entries.ensures in
+    stops (λ can. subst T c.if-not-fits_over.true (c.fits_over.ensures.complete (subst (λ (l : List ℕ). BelowPlace l a.k (FitsOver a.s.now a.scene a.event.first a.event.at)) (sym e) can.1.over)))
+
+pub fits_under-requires : goal.fits_under-requires
+fits_under-requires c =
+    let r = c.requires.0 in
+    (entry_readable c.args.s.now c.args.scene r.scene r.event, subst (Readable c.args.s.now) (sym c.entries-entries.ensures) (held_readable r.held r.scene))
+
+pub has_odd_of-own-requires : goal.has_odd_of-own-requires
+has_odd_of-own-requires c = start_small c.args.s.now c.args.scene c.requires.0.scene
+
+pub overflow_cast-event : goal.overflow_cast-event
+overflow_cast-event c = omega (arith, entry_small c.args.s.now c.args.scene c.requires.0.scene c.requires.0.event)
+
+pub returns : goal.returns
+returns c =
+    let a = c.args in
+    let s = a.s.now in
+    let sc = a.scene in
+    let first = a.event.first in
+    let at = a.event.at in
+    let old = a.status.now in
+    let below = take a.k old in
+    let e = c.entries-entries.ensures in
+    let own = c.has_odd_of-own.ensures s ∙ ap (λ (l : List ℕ). odd_of s sc first (take a.k l)) e in
+    let of : Bool → ℕ = λ object. count (λ e. beq object (is_first s sc e)) below in
+    let all : of first + of (not first) ≡ a.k = own_and_other first (is_first s sc) below ∙ length-take-le a.k old c.requires.1.within in
+    on (record {
+      position = a.k;
+      at_place = c.requires.1;
+      fits = record {
+        over = subst (λ (l : List ℕ). BelowPlace l a.k (FitsOver s sc first at)) e (c.fits_over.ensures.sound (is_true _ c.if-not-fits_over.false));
+        under = subst (λ (l : List ℕ). AtPlace l a.k (LowerNext s at)) e (c.fits_under.ensures.sound (is_true _ c.if-not-fits_under.false));
+        right_ia = λ region. sym own ∙ c.has_right_ia.ensures.sound (is_true _ c.if-not-has_right_ia.false) region;
+      };
+      new_is = c.insert.ensures;
+      noted = c.other_note.ensures (of first) (of (not first)) all own;
+    })

@@ -1,0 +1,10 @@
+-- The entries from k on, below the place top, have the segment that ends, and none of them is its own.
+use Rattle.std.proofs.Common.{◌≡◌, ℕ, ◌<◌, ◌≤◌, get_or}
+use Rattle.scene.specs.Read.{segment_at}
+use Rattle.sweep_laws.specs.Swept.{strand_of, strand_at}
+use Rattle.sweep_event.proofs.own_below.Given as goal
+
+abbrev pub invariant-loop-k : goal.invariant-loop-k
+invariant-loop-k l =
+    ((i : ℕ) → l.k ≤ i → i < l.top → segment_at l.s (get_or l.entries i 0) ≡ segment_at l.s l.event.at)
+    × ((i : ℕ) → l.k ≤ i → i < l.top → strand_at l.s l.scene (get_or l.entries i 0) ≡ strand_of l.s l.scene l.event.first l.event.at → ⊥)
