@@ -11,7 +11,7 @@ use Rattle.flags.specs.Flags.{has_bit}
 use Rattle.flags.proofs.Marks.{gathering, gathered_one, gathered_all}
 use Rattle.flags_masks.specs.declared.FlagMasks.{FlagMasks}
 use Rattle.flags_masks.specs.Wanted.{entry_of, place_in, cell_masks_in, cell_masks_of, wanted_for_f, wanted_for_g, masks_for}
-use Rattle.flags_masks.proofs.Tables.{get_d_map}
+use Rattle.std.proofs.Math.ListN.{get_or-map}
 use Rattle.flags_masks.proofs.masks_of_cells.Goals as goal
 use Rattle.flags_masks.proofs.masks_of_cells.Goals.{then-cells-at-eq1, else-cells-at-eq1}
 
@@ -29,7 +29,7 @@ entry_is : (sc : Scene) (at place : ℕ) (row : List FlagMasks) (b : Bool)
     → b ≡ turned sc
     → place ≡ place_in b at
     → get_or row place (entry_of (0, 0)) ≡ entry_of (cell_masks_of sc at)
-entry_is sc at place row b e t p = ap₂ (λ r q. get_or r q (entry_of (0, 0))) e (p ∙ ap (λ x. place_in x at) t) ∙ get_d_map entry_of (cell_masks_in sc) (place_in (turned sc) at) (0, 0)
+entry_is sc at place row b e t p = ap₂ (λ r q. get_or r q (entry_of (0, 0))) e (p ∙ ap (λ x. place_in x at) t) ∙ get_or-map entry_of (cell_masks_in sc) (place_in (turned sc) at) (0, 0)
 
 pub loop-at-init : goal.loop-at-init
 loop-at-init c = record { f_is = gathering _ 9; g_is = gathering _ 9 }
