@@ -1,7 +1,8 @@
-// Flags as the bits of a number.
+// Flags as the bits of a number: the vector of a list of flags, and the marks that a walk collects.
 #![tactic(auto)]
 
-ghost use Rattle.std.specs.Prelude.{◌≡◌, ◌<◌, ◌≤◌, ◌^◌};
+ghost use Rattle.std.specs.Prelude.{◌≡◌, ◌<◌, ◌≤◌, ◌^◌, not, eqb};
+ghost use Rattle.std.specs.Int.Bits.{bit_and, bit_or};
 ghost use Rattle.flags.specs.Flags.{pack};
 
 // The vector of some flags, bit 0 first.
@@ -14,4 +15,24 @@ pub fn packed<const N: usize>(flags: [bool; N]) -> u16
         vector = 2 * vector + flags[k] as u16;
     }
     vector
+}
+
+// A set of marks, a bit of a number for each.
+#[derive(Clone, Copy)]
+pub struct MarkSet(pub u16);
+
+impl MarkSet {
+    pub const NONE: MarkSet = MarkSet(0);
+
+    pub fn with(self, more: MarkSet) -> MarkSet
+        ensures { result.0 ≡ bit_or self.0 more.0 }
+    {
+        MarkSet(self.0 | more.0)
+    }
+
+    pub fn has(self, mark: MarkSet) -> bool
+        ensures { result ≡ not (eqb (bit_and self.0 mark.0) 0) }
+    {
+        self.0 & mark.0 != 0
+    }
 }
