@@ -1,5 +1,5 @@
 // The three sums over the different segments of two regions: what each segment adds to a part, by the sides where the regions adjoin it, and the walk.
-ghost use Rattle.std.specs.Prelude.{◌≡◌, ◌&&◌, ◌≤◌, ◌^◌, length, T, nat_abs, ◌+ℤ◌};
+ghost use Rattle.std.specs.Prelude.{◌≡◌, ◌≤◌, ◌^◌, length, T, nat_abs, ◌+ℤ◌};
 ghost use Rattle.plane.specs.Plane.{segment_in_range};
 ghost use Rattle.sweep_laws.specs.Noted.{Noted};
 ghost use Rattle.overlap.specs.Walked.{TwoRegions};
@@ -8,7 +8,6 @@ ghost use Rattle.areas.specs.Areas.{Small, Added, Summed};
 
 use overlap::adjoining::Sides;
 use overlap::walk;
-use overlap::walk::SidesStep;
 use plane::{Point, Segment};
 use scene::Scene;
 
@@ -28,27 +27,18 @@ fn shoelace(t: Segment) -> i64
     plane::side(Point { x: 0, y: 0 }, t.left, t.right)
 }
 
-// A sum and a term, which is added for what adjoins above and taken away for what adjoins below.
+// A sum and a term, which is added for what adjoins above and taken away for what adjoins below, so that both or neither leave the sum alone.
 fn added(sum: i64, above: bool, below: bool, v: i64) -> i64
     requires { (nat_abs sum ≤ 2 ^ 61) × (nat_abs v ≤ 2 ^ 61) }
     ensures { result ≡ sum +ℤ weighed above below v }
 {
-    if above {
-        if below {
-            return sum;
-        }
-        return sum + v;
+    if above == below {
+        sum
+    } else if above {
+        sum + v
+    } else {
+        sum - v
     }
-    if below {
-        return sum - v;
-    }
-    sum
-}
-
-fn is_both(a: bool, b: bool) -> bool
-    ensures { result ≡ (a && b) }
-{
-    if a { b } else { false }
 }
 
 // The sums with one more segment.
@@ -58,24 +48,9 @@ fn add(sums: Sums, t: Segment, f: Sides, g: Sides) -> Sums
 {
     let v = shoelace(t);
     Sums {
-        both: added(
-            sums.both,
-            is_both(f.above, g.above),
-            is_both(f.below, g.below),
-            v,
-        ),
-        f_only: added(
-            sums.f_only,
-            is_both(f.above, !g.above),
-            is_both(f.below, !g.below),
-            v,
-        ),
-        g_only: added(
-            sums.g_only,
-            is_both(!f.above, g.above),
-            is_both(!f.below, g.below),
-            v,
-        ),
+        both: added(sums.both, f.above && g.above, f.below && g.below, v),
+        f_only: added(sums.f_only, f.above && !g.above, f.below && !g.below, v),
+        g_only: added(sums.g_only, !f.above && g.above, !f.below && g.below, v),
     }
 }
 
@@ -91,22 +66,10 @@ pub fn sums_of(s: &[u8], scene: Scene, notes: &[u8]) -> Sums
     };
     let mut i: usize = 0;
     let mut j: usize = 0;
-    loop {
-        match walk::next_sides(s, scene, notes, i, j) {
-            SidesStep::Next {
-                segment: t,
-                of_f: f,
-                of_g: g,
-                i: k,
-                j: m,
-            } => {
-                sums = add(sums, t, f, g);
-                i = k;
-                j = m;
-            }
-            SidesStep::End => {
-                return sums;
-            }
-        }
+    while let Some(next) = walk::next_sides(s, scene, notes, i, j) {
+        sums = add(sums, next.segment, next.of_f, next.of_g);
+        i = next.i;
+        j = next.j;
     }
+    sums
 }

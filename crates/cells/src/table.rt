@@ -1,60 +1,54 @@
 // The nine-intersection matrix of two objects, each cell as one of four values, from their types, vectors and emptiness alone.
-ghost use Rattle.std.specs.Prelude.{◌≡◌, ◌||◌, true, ◌/◌, ◌<◌};
-ghost use Rattle.whole.specs.Count.{odd};
-ghost use Rattle.cells_matrix.specs.Matrix.{points_if, length_if, area_if, length_or_points, no_cells, matrix_of, transposed};
+#![tactic(auto, unfolding(cells_matrix::specs::Matrix::matrix_of))]
+
+ghost use Rattle.std.specs.Prelude.{◌≡◌, ◌||◌, true, ◌<◌};
+ghost use Rattle.flags.specs.Flags.{has_bit};
+ghost use Rattle.cells_matrix.specs.Matrix.{value_if, length_or_points, no_cells, matrix_of, transposed};
 ghost use Rattle.cells.specs.Explored.{matrix_from};
 
 use crate::Explored;
 use plane_dimensions::Dimension;
 use scene::{Shape, records};
 
-// Is the bit with this place value set in a vector?
-fn has(v: u16, unit: u16) -> bool
-    requires { 0 < unit }
-    ensures { result ≡ odd (v / unit) }
+// Is bit k of a vector set?
+fn has(v: u16, k: u32) -> bool
+    requires { k < 16 }
+    ensures { result ≡ has_bit v k }
 {
-    v / unit % 2 == 1
-}
-
-fn either(a: bool, b: bool) -> bool
-    ensures { result ≡ (a || b) }
-{
-    if a { true } else { b }
+    v >> k & 1 == 1
 }
 
 // Is one of two bits set?
-fn has_either(v: u16, one: u16, other: u16) -> bool
-    requires { (0 < one) × (0 < other) }
-    ensures { result ≡ (odd (v / one) || odd (v / other)) }
+fn has_either(v: u16, k: u32, l: u32) -> bool
+    requires { (k < 16) × (l < 16) }
+    ensures { result ≡ (has_bit v k || has_bit v l) }
 {
-    either(has(v, one), has(v, other))
+    has(v, k) || has(v, l)
 }
 
 // A cell with one value where its flags say so, and empty where not.
-fn points_if(b: bool) -> Dimension
-    ensures { result ≡ points_if b }
+fn value_if(value: Dimension, holds: bool) -> Dimension
+    ensures { result ≡ value_if value holds }
 {
-    if b {
-        Dimension::Points
-    } else {
-        Dimension::Empty
-    }
+    if holds { value } else { Dimension::Empty }
 }
 
-fn length_if(b: bool) -> Dimension
-    ensures { result ≡ length_if b }
+fn points_if(holds: bool) -> Dimension
+    ensures { result ≡ value_if Dimension.Points holds }
 {
-    if b {
-        Dimension::Length
-    } else {
-        Dimension::Empty
-    }
+    value_if(Dimension::Points, holds)
 }
 
-fn area_if(b: bool) -> Dimension
-    ensures { result ≡ area_if b }
+fn length_if(holds: bool) -> Dimension
+    ensures { result ≡ value_if Dimension.Length holds }
 {
-    if b { Dimension::Area } else { Dimension::Empty }
+    value_if(Dimension::Length, holds)
+}
+
+fn area_if(holds: bool) -> Dimension
+    ensures { result ≡ value_if Dimension.Area holds }
+{
+    value_if(Dimension::Area, holds)
 }
 
 // A cell of two curves: a length where a segment is common, else points where an end is.
@@ -68,29 +62,14 @@ fn length_or_points(segment: bool, point: bool) -> Dimension
     }
 }
 
-// The same, by one bit of a vector.
-fn points_at(v: u16, unit: u16) -> Dimension
-    requires { 0 < unit }
-    ensures { result ≡ points_if (odd (v / unit)) }
-{
-    points_if(has(v, unit))
-}
-
-fn length_at(v: u16, unit: u16) -> Dimension
-    requires { 0 < unit }
-    ensures { result ≡ length_if (odd (v / unit)) }
-{
-    length_if(has(v, unit))
-}
-
 // One matrix for each pair of types that does not descend: rows are interior, boundary, exterior of F, columns the same of G.
 fn points_points(v: u16, w: u16) -> [[Dimension; 3]; 3]
     ensures { result ≡ matrix_of Shape.Points Shape.Points v w true true }
 {
     [
-        [points_at(v, 2), Dimension::Empty, points_at(v, 1)],
-        [Dimension::Empty, Dimension::Empty, Dimension::Empty],
-        [points_at(w, 1), Dimension::Empty, Dimension::Area],
+        [points_if(has(v, 1)), Dimension::Empty, points_if(has(v, 0))],
+        [Dimension::Empty; 3],
+        [points_if(has(w, 0)), Dimension::Empty, Dimension::Area],
     ]
 }
 
@@ -98,9 +77,13 @@ fn points_line(v: u16, w: u16, g_empty: bool) -> [[Dimension; 3]; 3]
     ensures { result ≡ matrix_of Shape.Points Shape.Line v w true g_empty }
 {
     [
-        [points_at(v, 2), points_at(v, 4), points_at(v, 1)],
-        [Dimension::Empty, Dimension::Empty, Dimension::Empty],
-        [length_if(!g_empty), points_at(w, 1), Dimension::Area],
+        [
+            points_if(has(v, 1)),
+            points_if(has(v, 2)),
+            points_if(has(v, 0)),
+        ],
+        [Dimension::Empty; 3],
+        [length_if(!g_empty), points_if(has(w, 0)), Dimension::Area],
     ]
 }
 
@@ -108,8 +91,12 @@ fn points_region(v: u16, g_empty: bool) -> [[Dimension; 3]; 3]
     ensures { result ≡ matrix_of Shape.Points Shape.Region v 0 true g_empty }
 {
     [
-        [points_at(v, 1), points_at(v, 2), points_at(v, 4)],
-        [Dimension::Empty, Dimension::Empty, Dimension::Empty],
+        [
+            points_if(has(v, 0)),
+            points_if(has(v, 1)),
+            points_if(has(v, 2)),
+        ],
+        [Dimension::Empty; 3],
         [area_if(!g_empty), length_if(!g_empty), Dimension::Area],
     ]
 }
@@ -119,12 +106,16 @@ fn line_line(v: u16, w: u16) -> [[Dimension; 3]; 3]
 {
     [
         [
-            length_or_points(has(v, 1), has(v, 2)),
-            points_at(w, 2),
-            length_at(v, 4),
+            length_or_points(has(v, 0), has(v, 1)),
+            points_if(has(w, 1)),
+            length_if(has(v, 2)),
         ],
-        [points_at(v, 8), points_at(v, 16), points_at(v, 32)],
-        [length_at(w, 1), points_at(w, 4), Dimension::Area],
+        [
+            points_if(has(v, 3)),
+            points_if(has(v, 4)),
+            points_if(has(v, 5)),
+        ],
+        [length_if(has(w, 0)), points_if(has(w, 2)), Dimension::Area],
     ]
 }
 
@@ -133,63 +124,59 @@ fn line_region(v: u16, w: u16, g_empty: bool) -> [[Dimension; 3]; 3]
 {
     [
         [
-            length_at(v, 1),
-            length_or_points(has(v, 2), has(v, 8)),
-            length_at(v, 4),
+            length_if(has(v, 0)),
+            length_or_points(has(v, 1), has(v, 3)),
+            length_if(has(v, 2)),
         ],
-        [points_at(v, 16), points_at(v, 32), points_at(v, 64)],
-        [area_if(!g_empty), length_at(w, 1), Dimension::Area],
+        [
+            points_if(has(v, 4)),
+            points_if(has(v, 5)),
+            points_if(has(v, 6)),
+        ],
+        [area_if(!g_empty), length_if(has(w, 0)), Dimension::Area],
     ]
 }
 
 // (1/2) or (2/1) of either, or (0/2) or (2/0): a segment with both interiors on one side.
 fn both_interiors(v: u16, w: u16) -> bool
-    ensures { result ≡ (odd (v / 4) || odd (v / 8) || odd (w / 4) || odd (w / 8) || odd (v / 16) || odd (v / 32)) }
+    ensures { result ≡ (has_bit v 2 || has_bit v 3 || has_bit w 2 || has_bit w 3 || has_bit v 4 || has_bit v 5) }
 {
-    let inside = either(either(has_either(v, 4, 8), has(w, 4)), has(w, 8));
-    either(either(inside, has(v, 16)), has(v, 32))
+    has(v, 2) || has(v, 3) || has(w, 2) || has(w, 3) || has(v, 4) || has(v, 5)
 }
 
 // (0/1) or (1/0) of one's own, (1/1), or (1/2) or (2/1) of the other: a segment with one's own interior alone on one side.
 fn own_interior(own: u16, other: u16, opposite: bool) -> bool
-    ensures { result ≡ (odd (own / 1) || odd (own / 2) || opposite || odd (other / 4) || odd (other / 8)) }
+    ensures { result ≡ (has_bit own 0 || has_bit own 1 || opposite || has_bit other 2 || has_bit other 3) }
 {
-    either(
-        either(either(has_either(own, 1, 2), opposite), has(other, 4)),
-        has(other, 8),
-    )
+    has(own, 0) || has(own, 1) || opposite || has(other, 2) || has(other, 3)
 }
 
 // (0/2), (2/0) or (1/1): a segment in both boundaries; or bound_poi_shared.
 fn both_boundaries(v: u16) -> Dimension
-    ensures { result ≡ length_or_points (odd (v / 16) || odd (v / 32) || odd (v / 64)) (odd (v / 128)) }
+    ensures { result ≡ length_or_points (has_bit v 4 || has_bit v 5 || has_bit v 6) (has_bit v 7) }
 {
-    length_or_points(either(has_either(v, 16, 32), has(v, 64)), has(v, 128))
-}
-
-// A length where one of two bits is set.
-fn length_at_either(v: u16, one: u16, other: u16) -> Dimension
-    requires { (0 < one) × (0 < other) }
-    ensures { result ≡ length_if (odd (v / one) || odd (v / other)) }
-{
-    length_if(has_either(v, one, other))
+    if has(v, 4) || has(v, 5) || has(v, 6) {
+        Dimension::Length
+    } else {
+        points_if(has(v, 7))
+    }
 }
 
 fn region_region(v: u16, w: u16) -> [[Dimension; 3]; 3]
     ensures { result ≡ matrix_of Shape.Region Shape.Region v w true true }
 {
-    let opposite = has(v, 64);
+    let opposite = has(v, 6);
     let inner = area_if(both_interiors(v, w));
     let only_f = area_if(own_interior(v, w, opposite));
     let only_g = area_if(own_interior(w, v, opposite));
     [
-        [inner, length_at_either(w, 4, 8), only_f],
+        [inner, length_if(has_either(w, 2, 3)), only_f],
         [
-            length_at_either(v, 4, 8),
+            length_if(has_either(v, 2, 3)),
             both_boundaries(v),
-            length_at_either(v, 1, 2),
+            length_if(has_either(v, 0, 1)),
         ],
-        [only_g, length_at_either(w, 1, 2), Dimension::Area],
+        [only_g, length_if(has_either(w, 0, 1)), Dimension::Area],
     ]
 }
 
@@ -204,24 +191,14 @@ pub fn none() -> [[Dimension; 3]; 3]
 fn ascending(e: Explored) -> [[Dimension; 3]; 3]
     ensures { result ≡ matrix_of e.f e.g e.v e.w e.f_empty e.g_empty }
 {
-    let f = e.f;
-    let g = e.g;
-    match f {
-        Shape::Points => match g {
-            Shape::Points => points_points(e.v, e.w),
-            Shape::Line => points_line(e.v, e.w, e.g_empty),
-            Shape::Region => points_region(e.v, e.g_empty),
-        },
-        Shape::Line => match g {
-            Shape::Points => none(),
-            Shape::Line => line_line(e.v, e.w),
-            Shape::Region => line_region(e.v, e.w, e.g_empty),
-        },
-        Shape::Region => match g {
-            Shape::Points => none(),
-            Shape::Line => none(),
-            Shape::Region => region_region(e.v, e.w),
-        },
+    match (e.f, e.g) {
+        (Shape::Points, Shape::Points) => points_points(e.v, e.w),
+        (Shape::Points, Shape::Line) => points_line(e.v, e.w, e.g_empty),
+        (Shape::Points, Shape::Region) => points_region(e.v, e.g_empty),
+        (Shape::Line, Shape::Line) => line_line(e.v, e.w),
+        (Shape::Line, Shape::Region) => line_region(e.v, e.w, e.g_empty),
+        (Shape::Region, Shape::Region) => region_region(e.v, e.w),
+        (Shape::Line, Shape::Points) | (Shape::Region, Shape::Points | Shape::Line) => none(),
     }
 }
 
@@ -229,11 +206,9 @@ fn ascending(e: Explored) -> [[Dimension; 3]; 3]
 fn exchanged(e: Explored) -> Explored
     ensures { result ≡ record { f = e.g; g = e.f; v = e.w; w = e.v; f_empty = e.g_empty; g_empty = e.f_empty } }
 {
-    let f = e.f;
-    let g = e.g;
     Explored {
-        f: g,
-        g: f,
+        f: e.g,
+        g: e.f,
         v: e.w,
         w: e.v,
         f_empty: e.g_empty,
@@ -256,9 +231,7 @@ fn transposed(m: [[Dimension; 3]; 3]) -> [[Dimension; 3]; 3]
 pub fn matrix(e: Explored) -> [[Dimension; 3]; 3]
     ensures { result ≡ matrix_from e }
 {
-    let f = e.f;
-    let g = e.g;
-    if records::shape_number(g) < records::shape_number(f) {
+    if records::shape_number(e.g) < records::shape_number(e.f) {
         transposed(ascending(exchanged(e)))
     } else {
         ascending(e)

@@ -1,34 +1,38 @@
-// Flags as the bits of a number.
+// Flags as the bits of a number: the vector of a list of flags, and the marks that a walk collects.
 #![tactic(auto)]
 
-ghost use Rattle.std.specs.Prelude.{◌≡◌, [], ◌∷◌, ◌<◌};
-ghost use Rattle.whole.specs.Count.{bit};
+ghost use Rattle.std.specs.Prelude.{◌≡◌, ◌<◌, ◌≤◌, ◌^◌, not, eqb};
+ghost use Rattle.std.specs.Int.Bits.{bit_and, bit_or};
 ghost use Rattle.flags.specs.Flags.{pack};
 
-fn bit(b: bool) -> u16
-    ensures { (result ≡ bit b) × (result < 2) }
+// The vector of some flags, bit 0 first.
+pub fn packed<const N: usize>(flags: [bool; N]) -> u16
+    requires { N ≤ 16 }
+    ensures { (result ≡ pack flags.entry) × (result < 2 ^ N) }
 {
-    b as u16
+    let mut vector: u16 = 0;
+    for k in (0..N).rev() {
+        vector = 2 * vector + flags[k] as u16;
+    }
+    vector
 }
 
-// The vectors of four and of eight flags, bit 0 first.
-pub fn packed_four(b0: bool, b1: bool, b2: bool, b3: bool) -> u16
-    ensures { (result ≡ pack (b0 ∷ b1 ∷ b2 ∷ b3 ∷ [])) × (result < 16) }
-{
-    bit(b0) + 2 * bit(b1) + 4 * bit(b2) + 8 * bit(b3)
-}
+// A set of marks, a bit of a number for each.
+#[derive(Clone, Copy)]
+pub struct MarkSet(pub u16);
 
-pub fn packed_eight(
-    b0: bool,
-    b1: bool,
-    b2: bool,
-    b3: bool,
-    b4: bool,
-    b5: bool,
-    b6: bool,
-    b7: bool,
-) -> u16
-    ensures { result ≡ pack (b0 ∷ b1 ∷ b2 ∷ b3 ∷ b4 ∷ b5 ∷ b6 ∷ b7 ∷ []) }
-{
-    packed_four(b0, b1, b2, b3) + 16 * packed_four(b4, b5, b6, b7)
+impl MarkSet {
+    pub const NONE: MarkSet = MarkSet(0);
+
+    pub fn with(self, more: MarkSet) -> MarkSet
+        ensures { result.0 ≡ bit_or self.0 more.0 }
+    {
+        MarkSet(self.0 | more.0)
+    }
+
+    pub fn has(self, mark: MarkSet) -> bool
+        ensures { result ≡ not (eqb (bit_and self.0 mark.0) 0) }
+    {
+        self.0 & mark.0 != 0
+    }
 }

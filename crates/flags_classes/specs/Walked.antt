@@ -1,13 +1,13 @@
 -- What the walk over the left halfsegments of two objects promises: which of F and of G comes next, in the order of left halfsegments, from an element
 -- of each on.
-use Rattle.std.specs.Prelude.{ℕ, ◌<◌, ◌≤◌, ◌≡◌, Bool, true, false, cond, List}
+use Rattle.std.specs.Prelude.{ℕ, ◌<◌, ◌≤◌, ◌≡◌, Bool, true, false, cond, List, Option, Some, None}
 use Rattle.plane.specs.declared.Segment.{Segment}
 use Rattle.plane.specs.declared.Halfsegment.{Halfsegment}
 use Rattle.plane.specs.Plane.{is_same_segment, comes_before}
 use Rattle.scene.specs.declared.Layout.{Layout}
 use Rattle.scene.specs.Conditions.{half, left_test}
 use Rattle.flags_classes.specs.declared.merged.Step.{Step}
-use Rattle.flags_classes.specs.declared.merged.Step.TheVariants.{OfF, OfG, OfBoth, End}
+use Rattle.flags_classes.specs.declared.merged.Step.TheVariants.{OfF, OfG, OfBoth}
 
 -- the order of left halfsegments, by their segments
 abbrev pub left_half : Segment → Halfsegment
@@ -61,8 +61,8 @@ module _ (s : List ℕ) (f g : Layout) where
     pub there_g : b < g.count
     pub compared : same a b ≡ true
 
-  abbrev pub Stepped : ℕ → ℕ → Step → Type 0
-  Stepped i j (OfF a b) = NextOfF i j a b
-  Stepped i j (OfG a b) = NextOfG i j a b
-  Stepped i j (OfBoth a b) = NextOfBoth i j a b
-  Stepped i j End = Nexts i j f.count g.count
+  abbrev pub Stepped : ℕ → ℕ → Option Step → Type 0
+  Stepped i j (Some (OfF a b)) = NextOfF i j a b
+  Stepped i j (Some (OfG a b)) = NextOfG i j a b
+  Stepped i j (Some (OfBoth a b)) = NextOfBoth i j a b
+  Stepped i j None = Nexts i j f.count g.count

@@ -8,6 +8,7 @@ ghost use Rattle.scene.specs.Conditions.{ia, check_scene};
 ghost use Rattle.flags_classes.specs.Classed.{classes_of_f, classes_of_g};
 ghost use Rattle.flags_classes.specs.Marked.{unshared_marks, shared_marks, named};
 
+use flags::MarkSet;
 use merged::Step;
 use scene::{Layout, Scene, bytes, records};
 
@@ -33,57 +34,49 @@ pub struct ClassesOfBoth {
     pub g: Classes,
 }
 
-// The walk collects them as marks, a bit of a number for each.
-const ABOVE_OUTSIDE: u16 = 1;
+// The walk collects them as marks.
+const ABOVE_OUTSIDE: MarkSet = MarkSet(1);
 
-const BELOW_OUTSIDE: u16 = 2;
+const BELOW_OUTSIDE: MarkSet = MarkSet(2);
 
-const ABOVE_INSIDE: u16 = 4;
+const ABOVE_INSIDE: MarkSet = MarkSet(4);
 
-const BELOW_INSIDE: u16 = 8;
+const BELOW_INSIDE: MarkSet = MarkSet(8);
 
-const BOTH_ABOVE: u16 = 16;
+const BOTH_ABOVE: MarkSet = MarkSet(16);
 
-const BOTH_BELOW: u16 = 32;
+const BOTH_BELOW: MarkSet = MarkSet(32);
 
-const OPPOSITE: u16 = 64;
+const OPPOSITE: MarkSet = MarkSet(64);
 
 // Is the interior of a region above the segment of an element?
 pub fn is_above(s: &[u8], l: Layout, i: usize) -> bool
     requires { IsObject s.now l × (i < l.count) }
     ensures { result ≡ ia s.now l i }
 {
-    let k = l.shape;
-    if scene_segments::is_region(k) {
-        bytes::ia(s, records::place(l, i))
-    } else {
-        false
-    }
+    scene_segments::is_region(l.shape) && bytes::ia(s, records::place(l, i))
 }
 
 // The mark of a segment that is none of the other object's.
-fn unshared(above: bool, note: u8) -> u16
-    ensures { result ≡ unshared_marks above note }
+fn unshared(above: bool, note: u8) -> MarkSet
+    ensures { result.0 ≡ unshared_marks above note }
 {
-    if note == 0 {
-        if above { ABOVE_OUTSIDE } else { BELOW_OUTSIDE }
-    } else if above {
-        ABOVE_INSIDE
-    } else {
-        BELOW_INSIDE
+    match (above, note) {
+        (true, 0) => ABOVE_OUTSIDE,
+        (false, 0) => BELOW_OUTSIDE,
+        (true, _) => ABOVE_INSIDE,
+        (false, _) => BELOW_INSIDE,
     }
 }
 
 // The mark of a segment of both, with the interior of the other object above it or not.
-fn shared(above: bool, other: bool) -> u16
-    ensures { result ≡ shared_marks above other }
+fn shared(above: bool, other: bool) -> MarkSet
+    ensures { result.0 ≡ shared_marks above other }
 {
-    if above {
-        if other { BOTH_ABOVE } else { OPPOSITE }
-    } else if other {
-        OPPOSITE
-    } else {
-        BOTH_BELOW
+    match (above, other) {
+        (true, true) => BOTH_ABOVE,
+        (false, false) => BOTH_BELOW,
+        (true, false) | (false, true) => OPPOSITE,
     }
 }
 
@@ -91,14 +84,15 @@ fn shared(above: bool, other: bool) -> u16
 pub fn named(marks: u16) -> Classes
     ensures { result ≡ named marks }
 {
+    let marks = MarkSet(marks);
     Classes {
-        above_outside: marks & ABOVE_OUTSIDE != 0,
-        below_outside: marks & BELOW_OUTSIDE != 0,
-        above_inside: marks & ABOVE_INSIDE != 0,
-        below_inside: marks & BELOW_INSIDE != 0,
-        both_above: marks & BOTH_ABOVE != 0,
-        both_below: marks & BOTH_BELOW != 0,
-        opposite: marks & OPPOSITE != 0,
+        above_outside: marks.has(ABOVE_OUTSIDE),
+        below_outside: marks.has(BELOW_OUTSIDE),
+        above_inside: marks.has(ABOVE_INSIDE),
+        below_inside: marks.has(BELOW_INSIDE),
+        both_above: marks.has(BOTH_ABOVE),
+        both_below: marks.has(BOTH_BELOW),
+        opposite: marks.has(OPPOSITE),
     }
 }
 
@@ -109,36 +103,34 @@ pub fn classes_of(s: &[u8], scene: Scene, notes: &[u8]) -> ClassesOfBoth
 {
     let f = scene.f;
     let g = scene.g;
-    let mut of_f: u16 = 0;
-    let mut of_g: u16 = 0;
+    let mut of_f = MarkSet::NONE;
+    let mut of_g = MarkSet::NONE;
     let mut i: usize = 0;
     let mut j: usize = 0;
-    loop {
-        match merged::next_step(s, f, g, i, j) {
+    while let Some(step) = merged::next_step(s, f, g, i, j) {
+        match step {
             Step::OfF { i: a, j: b } => {
-                of_f = of_f | unshared(is_above(s, f, a), notes[a]);
+                of_f = of_f.with(unshared(is_above(s, f, a), notes[a]));
                 i = a + 1;
                 j = b;
             }
             Step::OfG { i: a, j: b } => {
-                of_g = of_g | unshared(is_above(s, g, b), notes[1024 + b]);
+                of_g = of_g.with(unshared(is_above(s, g, b), notes[1024 + b]));
                 i = a;
                 j = b + 1;
             }
             Step::OfBoth { i: a, j: b } => {
                 let above_f = is_above(s, f, a);
                 let above_g = is_above(s, g, b);
-                of_f = of_f | shared(above_f, above_g);
-                of_g = of_g | shared(above_g, above_f);
+                of_f = of_f.with(shared(above_f, above_g));
+                of_g = of_g.with(shared(above_g, above_f));
                 i = a + 1;
                 j = b + 1;
             }
-            Step::End => {
-                return ClassesOfBoth {
-                    f: named(of_f),
-                    g: named(of_g),
-                };
-            }
         }
+    }
+    ClassesOfBoth {
+        f: named(of_f.0),
+        g: named(of_g.0),
     }
 }

@@ -14,7 +14,6 @@ pub enum Step {
     OfF { i: usize, j: usize },
     OfG { i: usize, j: usize },
     OfBoth { i: usize, j: usize },
-    End,
 }
 
 // The first left halfsegment from the element i on, or the number of elements.
@@ -22,21 +21,18 @@ fn next_left(s: &[u8], l: Layout, i: usize) -> usize
     requires { IsObject s.now l × (i ≤ l.count) }
     ensures { NextLeft s.now l i result }
 {
-    let shape = l.shape;
-    if !scene_segments::has_segments(shape) {
+    if !scene_segments::has_segments(l.shape) {
         return l.count;
     }
-    let size = records::size(shape);
+    let size = records::size(l.shape);
     let mut at = records::place(l, i);
-    let mut k = i;
-    while k < l.count {
+    for k in i..l.count {
         if s[at + 17] == 1 {
             return k;
         }
         at += size;
-        k += 1;
     }
-    k
+    l.count
 }
 
 pub fn segment_of(s: &[u8], l: Layout, i: usize) -> Segment
@@ -68,9 +64,8 @@ fn first(t: Segment, u: Segment, i: usize, j: usize) -> Step
     ensures { result ≡ step_of t u i j }
 {
     if plane::is_same_segment(t, u) {
-        return Step::OfBoth { i, j };
-    }
-    if is_left_before(t, u) {
+        Step::OfBoth { i, j }
+    } else if is_left_before(t, u) {
         Step::OfF { i, j }
     } else {
         Step::OfG { i, j }
@@ -78,20 +73,16 @@ fn first(t: Segment, u: Segment, i: usize, j: usize) -> Step
 }
 
 // From the element i of F and the element j of G on.
-pub fn next_step(s: &[u8], f: Layout, g: Layout, i: usize, j: usize) -> Step
+pub fn next_step(s: &[u8], f: Layout, g: Layout, i: usize, j: usize) -> Option<Step>
     requires { IsObject s.now f × IsObject s.now g × (i ≤ f.count) × (j ≤ g.count) }
     ensures { Stepped s.now f g i j result }
 {
     let a = next_left(s, f, i);
     let b = next_left(s, g, j);
-    if a < f.count {
-        if b < g.count {
-            return first(segment_of(s, f, a), segment_of(s, g, b), a, b);
-        }
-        return Step::OfF { i: a, j: b };
+    match (a < f.count, b < g.count) {
+        (true, true) => Some(first(segment_of(s, f, a), segment_of(s, g, b), a, b)),
+        (true, false) => Some(Step::OfF { i: a, j: b }),
+        (false, true) => Some(Step::OfG { i: a, j: b }),
+        (false, false) => None,
     }
-    if b < g.count {
-        return Step::OfG { i: a, j: b };
-    }
-    Step::End
 }

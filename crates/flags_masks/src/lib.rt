@@ -14,6 +14,9 @@ pub struct FlagMasks {
     pub g: u16,
 }
 
+// No flag of either object.
+const NONE: FlagMasks = FlagMasks { f: 0, g: 0 };
+
 // What is wanted of a scene: the flags of two masks, all that its pair of types has, or those that some of the nine cells are read off. Cells are a bit each, row
 // by row, in the caller's order.
 #[derive(Clone, Copy)]
@@ -30,72 +33,52 @@ const FLAG_MASKS: [[FlagMasks; 3]; 3] = [
         FlagMasks { f: 7, g: 1 },
         FlagMasks { f: 7, g: 0 },
     ],
-    [
-        FlagMasks { f: 0, g: 0 },
-        FlagMasks { f: 63, g: 7 },
-        FlagMasks { f: 127, g: 1 },
-    ],
-    [
-        FlagMasks { f: 0, g: 0 },
-        FlagMasks { f: 0, g: 0 },
-        FlagMasks { f: 255, g: 15 },
-    ],
+    [NONE, FlagMasks { f: 63, g: 7 }, FlagMasks { f: 127, g: 1 }],
+    [NONE, NONE, FlagMasks { f: 255, g: 15 }],
 ];
 
 pub fn masks_of(f: Shape, g: Shape) -> FlagMasks
     ensures { (result.f ≡ mask_of_f (shape_number f) (shape_number g)) × (result.g ≡ mask_of_g (shape_number f) (shape_number g)) }
 {
-    let row = (records::shape_number(f) - 1) as usize;
-    let column = (records::shape_number(g) - 1) as usize;
-    FLAG_MASKS[row][column]
+    FLAG_MASKS[f as usize][g as usize]
 }
 
 // The flags that each cell is read off: a row for each pair of types, and in it the nine cells row by row.
 const CELL_MASKS: [[FlagMasks; 9]; 9] = [
     [
         FlagMasks { f: 2, g: 0 },
-        FlagMasks { f: 0, g: 0 },
+        NONE,
         FlagMasks { f: 1, g: 0 },
-        FlagMasks { f: 0, g: 0 },
-        FlagMasks { f: 0, g: 0 },
-        FlagMasks { f: 0, g: 0 },
+        NONE,
+        NONE,
+        NONE,
         FlagMasks { f: 0, g: 1 },
-        FlagMasks { f: 0, g: 0 },
-        FlagMasks { f: 0, g: 0 },
+        NONE,
+        NONE,
     ],
     [
         FlagMasks { f: 2, g: 0 },
         FlagMasks { f: 4, g: 0 },
         FlagMasks { f: 1, g: 0 },
-        FlagMasks { f: 0, g: 0 },
-        FlagMasks { f: 0, g: 0 },
-        FlagMasks { f: 0, g: 0 },
-        FlagMasks { f: 0, g: 0 },
+        NONE,
+        NONE,
+        NONE,
+        NONE,
         FlagMasks { f: 0, g: 1 },
-        FlagMasks { f: 0, g: 0 },
+        NONE,
     ],
     [
         FlagMasks { f: 1, g: 0 },
         FlagMasks { f: 2, g: 0 },
         FlagMasks { f: 4, g: 0 },
-        FlagMasks { f: 0, g: 0 },
-        FlagMasks { f: 0, g: 0 },
-        FlagMasks { f: 0, g: 0 },
-        FlagMasks { f: 0, g: 0 },
-        FlagMasks { f: 0, g: 0 },
-        FlagMasks { f: 0, g: 0 },
+        NONE,
+        NONE,
+        NONE,
+        NONE,
+        NONE,
+        NONE,
     ],
-    [
-        FlagMasks { f: 0, g: 0 },
-        FlagMasks { f: 0, g: 0 },
-        FlagMasks { f: 0, g: 0 },
-        FlagMasks { f: 0, g: 0 },
-        FlagMasks { f: 0, g: 0 },
-        FlagMasks { f: 0, g: 0 },
-        FlagMasks { f: 0, g: 0 },
-        FlagMasks { f: 0, g: 0 },
-        FlagMasks { f: 0, g: 0 },
-    ],
+    [NONE; 9],
     [
         FlagMasks { f: 3, g: 0 },
         FlagMasks { f: 0, g: 2 },
@@ -105,7 +88,7 @@ const CELL_MASKS: [[FlagMasks; 9]; 9] = [
         FlagMasks { f: 32, g: 0 },
         FlagMasks { f: 0, g: 1 },
         FlagMasks { f: 0, g: 4 },
-        FlagMasks { f: 0, g: 0 },
+        NONE,
     ],
     [
         FlagMasks { f: 1, g: 0 },
@@ -114,32 +97,12 @@ const CELL_MASKS: [[FlagMasks; 9]; 9] = [
         FlagMasks { f: 16, g: 0 },
         FlagMasks { f: 32, g: 0 },
         FlagMasks { f: 64, g: 0 },
-        FlagMasks { f: 0, g: 0 },
+        NONE,
         FlagMasks { f: 0, g: 1 },
-        FlagMasks { f: 0, g: 0 },
+        NONE,
     ],
-    [
-        FlagMasks { f: 0, g: 0 },
-        FlagMasks { f: 0, g: 0 },
-        FlagMasks { f: 0, g: 0 },
-        FlagMasks { f: 0, g: 0 },
-        FlagMasks { f: 0, g: 0 },
-        FlagMasks { f: 0, g: 0 },
-        FlagMasks { f: 0, g: 0 },
-        FlagMasks { f: 0, g: 0 },
-        FlagMasks { f: 0, g: 0 },
-    ],
-    [
-        FlagMasks { f: 0, g: 0 },
-        FlagMasks { f: 0, g: 0 },
-        FlagMasks { f: 0, g: 0 },
-        FlagMasks { f: 0, g: 0 },
-        FlagMasks { f: 0, g: 0 },
-        FlagMasks { f: 0, g: 0 },
-        FlagMasks { f: 0, g: 0 },
-        FlagMasks { f: 0, g: 0 },
-        FlagMasks { f: 0, g: 0 },
-    ],
+    [NONE; 9],
+    [NONE; 9],
     [
         FlagMasks { f: 60, g: 12 },
         FlagMasks { f: 0, g: 12 },
@@ -149,7 +112,7 @@ const CELL_MASKS: [[FlagMasks; 9]; 9] = [
         FlagMasks { f: 3, g: 0 },
         FlagMasks { f: 76, g: 3 },
         FlagMasks { f: 0, g: 3 },
-        FlagMasks { f: 0, g: 0 },
+        NONE,
     ],
 ];
 
@@ -157,13 +120,7 @@ const CELL_MASKS: [[FlagMasks; 9]; 9] = [
 fn cell_masks(scene: Scene) -> [FlagMasks; 9]
     ensures { result ≡ map entry_of (cell_masks_in scene) }
 {
-    let f = scene.f;
-    let g = scene.g;
-    let of_f = f.shape;
-    let of_g = g.shape;
-    let row = (records::shape_number(of_f) - 1) as usize * 3
-        + (records::shape_number(of_g) - 1) as usize;
-    CELL_MASKS[row]
+    CELL_MASKS[3 * scene.f.shape as usize + scene.g.shape as usize]
 }
 
 // Where a cell of the caller's stands in the row of its pair: with the objects exchanged, rows are columns.
@@ -174,18 +131,6 @@ fn cell_place(turned: bool, at: usize) -> usize
     if turned { at % 3 * 3 + at / 3 } else { at }
 }
 
-// The flags that the cell at a place of a row is read off, if it is one of the cells that are asked.
-fn wanted_for(row: [FlagMasks; 9], asked: bool, place: usize) -> FlagMasks
-    requires { place < 9 }
-    ensures { result ≡ cond asked (get_or row place (entry_of (0, 0))) (entry_of (0, 0)) }
-{
-    if asked {
-        row[place]
-    } else {
-        FlagMasks { f: 0, g: 0 }
-    }
-}
-
 // The flags that some cells are read off. The row is looked up once: a table is laid out anew wherever it is named.
 fn masks_of_cells(cells: u16, scene: Scene) -> FlagMasks
     ensures { result ≡ masks_for (Wanted.Cells cells) scene }
@@ -194,19 +139,18 @@ fn masks_of_cells(cells: u16, scene: Scene) -> FlagMasks
     let turned = order::is_turned(scene);
     let mut f: u16 = 0;
     let mut g: u16 = 0;
-    let mut rest = cells;
-    let mut at: usize = 0;
-    while at < 9 {
-        let masks = wanted_for(row, rest % 2 == 1, cell_place(turned, at));
-        f = f | masks.f;
-        g = g | masks.g;
-        rest = rest / 2;
-        at += 1;
+    for at in 0..9 {
+        if cells >> at & 1 == 1 {
+            let masks = row[cell_place(turned, at)];
+            f |= masks.f;
+            g |= masks.g;
+        }
     }
     FlagMasks { f, g }
 }
 
 // Two masks in the caller's order, as those of F and of G.
+#[tactic(auto, unfolding(crate::specs::Wanted::masks_for))]
 fn arranged(masks: FlagMasks, scene: Scene) -> FlagMasks
     ensures { result ≡ masks_for (Wanted.These masks) scene }
 {
@@ -221,20 +165,18 @@ fn arranged(masks: FlagMasks, scene: Scene) -> FlagMasks
 }
 
 // The masks of what is wanted, of F and of G.
+#[tactic(auto, unfolding(crate::specs::Wanted::masks_for))]
 pub fn masks_for(wanted: Wanted, scene: Scene) -> FlagMasks
     ensures { result ≡ masks_for wanted scene }
 {
-    let f = scene.f;
-    let g = scene.g;
-    let of_f = f.shape;
-    let of_g = g.shape;
     match wanted {
         Wanted::These(masks) => arranged(masks, scene),
-        Wanted::All => masks_of(of_f, of_g),
+        Wanted::All => masks_of(scene.f.shape, scene.g.shape),
         Wanted::Cells(cells) => masks_of_cells(cells, scene),
     }
 }
 
+#[tactic(auto, unfolding(crate::specs::Wanted::has_stray))]
 fn has_stray(all: u16, mask: u16) -> bool
     ensures { result ≡ has_stray all mask }
 {
@@ -245,10 +187,6 @@ fn has_stray(all: u16, mask: u16) -> bool
 pub fn any_stray(scene: Scene, f: u16, g: u16) -> bool
     ensures { result ≡ any_stray (shape_number scene.f.shape) (shape_number scene.g.shape) f g }
 {
-    let of_f = scene.f;
-    let of_g = scene.g;
-    let first = of_f.shape;
-    let second = of_g.shape;
-    let masks = masks_of(first, second);
-    has_stray(masks.f, f) | has_stray(masks.g, g)
+    let masks = masks_of(scene.f.shape, scene.g.shape);
+    has_stray(masks.f, f) || has_stray(masks.g, g)
 }

@@ -1,11 +1,9 @@
 -- What the walk keeps from point to point: the elements that are passed have lower keys than those that are left, so a run of F and one of G are all
 -- elements that have a point, and their lengths are its degrees.
 use Rattle.std.specs.Prelude.{None}
-use Prim.Native.Nat.{ℕ, ◌+◌, ◌-◌, ◌<◌, ◌≤◌, min}
-use native.Mathlib.Nat.{eq-or-lt_of_le}
+use Prim.Native.Nat.{ℕ, ◌-◌, ◌<◌, ◌≤◌, min}
 use native.Mathlib.Omega.{arith}
-use mathlib.Core.Path.{◌≡◌, refl, sym, ap, ap₂, subst, ◌∙◌}
-use mathlib.Core.Logic.{⊎_elim}
+use mathlib.Core.Path.{◌≡◌, refl, sym, ap, ap₂, ◌∙◌}
 use mathlib.Core.Bool.{Bool, true, false, ◌||◌, or-true, or-false, and-false}
 use mathlib.Core.List.{List}
 use lib.Bits.{bit_or, or_zero_r}
@@ -198,15 +196,6 @@ module _ (s : List ℕ) (sc : Scene) (notes : List ℕ) where
           one m a b =
               let v = in_run s sc.g is_g order-g low least_g few_g q w.g_passed m a b in
               ap₂ marks_of_g (degree_f_lem (element_point s sc.g m) v) (degree_g_lem (element_point s sc.g m) v)
-
-      pub further : i + j < i' + j'
-      further = go (ltb (next_key s sc.g j) (next_key s sc.f i)) refl
-        where
-          go : (b : Bool) → ltb (next_key s sc.g j) (next_key s sc.f i) ≡ b → i + j < i' + j'
-          go true e =
-              ⊎_elim (λ g. absurd (q.other (subst (λ m. next_key s sc.g m ≡ k) g (omega (arith, w.least, ltb-true (next_key s sc.g j) (next_key s sc.f i) e))))) (λ l. omega (arith, p.on)) (eq-or-lt_of_le q.on)
-          go false e =
-              ⊎_elim (λ g. absurd (p.other (subst (λ m. next_key s sc.f m ≡ k) g (omega (arith, w.least, ltb-false (next_key s sc.g j) (next_key s sc.f i) e))))) (λ l. omega (arith, q.on)) (eq-or-lt_of_le p.on)
 
       pub walked_on : {k' : ℕ} → k' ≡ min (next_key s sc.f i') (next_key s sc.g j') → Walking i' j' k' (bit_or sofar (marks notes i i' (j' - j)))
       walked_on {k'} e = record {

@@ -2,11 +2,10 @@
 #![tactic(auto)]
 
 ghost use Rattle.std.specs.Prelude.{◌≡◌};
-ghost use Rattle.flags_meetings.specs.declared.Meetings.{Meetings};
-ghost use Rattle.flags_classes.specs.declared.Classes.{Classes};
 ghost use Rattle.flags.specs.Flags.{pack};
 ghost use Rattle.flags_table.specs.Table.{alone, shared, unshared, flags_of_f_by, flags_of_g_by};
 
+use flags::packed;
 use flags_classes::Classes;
 use flags_meetings::Meetings;
 use scene::Shape;
@@ -17,158 +16,21 @@ pub mod walks;
 fn alone(m: Meetings) -> bool
     ensures { result ≡ alone m }
 {
-    m.bound_outside | m.bound_inside | m.bound_on
+    m.bound_outside || m.bound_inside || m.bound_on
 }
 
 // A segment that is one of the other object's.
 fn shared(c: Classes) -> bool
     ensures { result ≡ shared c }
 {
-    c.both_above | c.both_below | c.opposite
+    c.both_above || c.both_below || c.opposite
 }
 
 // A segment that is none of the other object's.
 fn unshared(c: Classes) -> bool
     ensures { result ≡ unshared c }
 {
-    c.above_outside | c.below_outside | c.above_inside | c.below_inside
-}
-
-// ---- the flags of F, for each pair of types
-
-fn points_points_f(m: Meetings) -> u16
-    ensures { (c : Classes) → result ≡ pack (flags_of_f_by Shape.Points Shape.Points m c) }
-{
-    flags::packed_four(
-        alone(m), // poi_disjoint
-        m.bound_bound, // poi_shared
-        false,
-        false,
-    )
-}
-
-fn points_line_f(m: Meetings) -> u16
-    ensures { (c : Classes) → result ≡ pack (flags_of_f_by Shape.Points Shape.Line m c) }
-{
-    flags::packed_four(
-        m.bound_outside | m.bound_inside, // poi_disjoint
-        m.bound_on | m.bound_inner, // poi_on_interior
-        m.bound_bound, // poi_on_bound
-        false,
-    )
-}
-
-fn points_region_f(m: Meetings) -> u16
-    ensures { (c : Classes) → result ≡ pack (flags_of_f_by Shape.Points Shape.Region m c) }
-{
-    flags::packed_four(
-        m.bound_inside, // poi_inside
-        m.bound_on | m.bound_bound | m.bound_inner, // poi_on_bound
-        m.bound_outside, // poi_outside
-        false,
-    )
-}
-
-fn line_line_f(m: Meetings, c: Classes) -> u16
-    ensures { result ≡ pack (flags_of_f_by Shape.Line Shape.Line m c) }
-{
-    flags::packed_eight(
-        shared(c), // seg_shared
-        m.inner_inner, // interior_poi_shared
-        unshared(c), // seg_unshared
-        m.bound_inner, // bound_on_interior
-        m.bound_bound, // bound_shared
-        alone(m), // bound_disjoint
-        false,
-        false,
-    )
-}
-
-fn line_region_f(m: Meetings, c: Classes) -> u16
-    ensures { result ≡ pack (flags_of_f_by Shape.Line Shape.Region m c) }
-{
-    flags::packed_eight(
-        c.above_inside | c.below_inside, // seg_inside
-        shared(c), // seg_shared
-        c.above_outside | c.below_outside, // seg_outside
-        m.inner_bound | m.inner_inner, // poi_shared
-        m.bound_inside, // bound_inside
-        m.bound_bound | m.bound_inner, // bound_shared
-        m.bound_outside, // bound_disjoint
-        false,
-    )
-}
-
-fn region_region_f(m: Meetings, c: Classes) -> u16
-    ensures { result ≡ pack (flags_of_f_by Shape.Region Shape.Region m c) }
-{
-    flags::packed_eight(
-        c.above_outside, // (0/1)
-        c.below_outside, // (1/0)
-        c.above_inside, // (1/2)
-        c.below_inside, // (2/1)
-        c.both_above, // (0/2)
-        c.both_below, // (2/0)
-        c.opposite, // (1/1)
-        m.bound_bound | m.bound_inner | m.inner_bound | m.inner_inner, // bound_poi_shared
-    )
-}
-
-// ---- the flags of G
-
-fn points_points_g(m: Meetings) -> u16
-    ensures { (c : Classes) → result ≡ pack (flags_of_g_by Shape.Points Shape.Points m c) }
-{
-    flags::packed_four(
-        m.bound_of_g, // poi_disjoint
-        false,
-        false,
-        false,
-    )
-}
-
-fn points_line_g(m: Meetings) -> u16
-    ensures { (c : Classes) → result ≡ pack (flags_of_g_by Shape.Points Shape.Line m c) }
-{
-    flags::packed_four(
-        m.bound_of_g, // bound_poi_disjoint
-        false,
-        false,
-        false,
-    )
-}
-
-fn line_line_g(m: Meetings, c: Classes) -> u16
-    ensures { result ≡ pack (flags_of_g_by Shape.Line Shape.Line m c) }
-{
-    flags::packed_four(
-        unshared(c), // seg_unshared
-        m.inner_bound, // bound_on_interior
-        m.bound_of_g, // bound_disjoint
-        false,
-    )
-}
-
-fn line_region_g(c: Classes) -> u16
-    ensures { (m : Meetings) → result ≡ pack (flags_of_g_by Shape.Line Shape.Region m c) }
-{
-    flags::packed_four(
-        unshared(c), // seg_unshared
-        false,
-        false,
-        false,
-    )
-}
-
-fn region_region_g(c: Classes) -> u16
-    ensures { (m : Meetings) → result ≡ pack (flags_of_g_by Shape.Region Shape.Region m c) }
-{
-    flags::packed_four(
-        c.above_outside, // (0/1)
-        c.below_outside, // (1/0)
-        c.above_inside, // (1/2)
-        c.below_inside, // (2/1)
-    )
+    c.above_outside || c.below_outside || c.above_inside || c.below_inside
 }
 
 // ---- by the types of both objects
@@ -177,22 +39,49 @@ fn region_region_g(c: Classes) -> u16
 pub fn flags_of_f(f: Shape, g: Shape, m: Meetings, c: Classes) -> u16
     ensures { result ≡ pack (flags_of_f_by f g m c) }
 {
-    match f {
-        Shape::Points => match g {
-            Shape::Points => points_points_f(m),
-            Shape::Line => points_line_f(m),
-            Shape::Region => points_region_f(m),
-        },
-        Shape::Line => match g {
-            Shape::Points => 0,
-            Shape::Line => line_line_f(m, c),
-            Shape::Region => line_region_f(m, c),
-        },
-        Shape::Region => match g {
-            Shape::Points => 0,
-            Shape::Line => 0,
-            Shape::Region => region_region_f(m, c),
-        },
+    match (f, g) {
+        (Shape::Points, Shape::Points) => packed([
+            alone(m), // poi_disjoint
+            m.bound_bound, // poi_shared
+        ]),
+        (Shape::Points, Shape::Line) => packed([
+            m.bound_outside || m.bound_inside, // poi_disjoint
+            m.bound_on || m.bound_inner, // poi_on_interior
+            m.bound_bound, // poi_on_bound
+        ]),
+        (Shape::Points, Shape::Region) => packed([
+            m.bound_inside, // poi_inside
+            m.bound_on || m.bound_bound || m.bound_inner, // poi_on_bound
+            m.bound_outside, // poi_outside
+        ]),
+        (Shape::Line, Shape::Line) => packed([
+            shared(c), // seg_shared
+            m.inner_inner, // interior_poi_shared
+            unshared(c), // seg_unshared
+            m.bound_inner, // bound_on_interior
+            m.bound_bound, // bound_shared
+            alone(m), // bound_disjoint
+        ]),
+        (Shape::Line, Shape::Region) => packed([
+            c.above_inside || c.below_inside, // seg_inside
+            shared(c), // seg_shared
+            c.above_outside || c.below_outside, // seg_outside
+            m.inner_bound || m.inner_inner, // poi_shared
+            m.bound_inside, // bound_inside
+            m.bound_bound || m.bound_inner, // bound_shared
+            m.bound_outside, // bound_disjoint
+        ]),
+        (Shape::Region, Shape::Region) => packed([
+            c.above_outside, // (0/1)
+            c.below_outside, // (1/0)
+            c.above_inside, // (1/2)
+            c.below_inside, // (2/1)
+            c.both_above, // (0/2)
+            c.both_below, // (2/0)
+            c.opposite, // (1/1)
+            m.bound_bound || m.bound_inner || m.inner_bound || m.inner_inner, // bound_poi_shared
+        ]),
+        (Shape::Line, Shape::Points) | (Shape::Region, Shape::Points | Shape::Line) => 0,
     }
 }
 
@@ -200,21 +89,29 @@ pub fn flags_of_f(f: Shape, g: Shape, m: Meetings, c: Classes) -> u16
 pub fn flags_of_g(f: Shape, g: Shape, m: Meetings, c: Classes) -> u16
     ensures { result ≡ pack (flags_of_g_by f g m c) }
 {
-    match f {
-        Shape::Points => match g {
-            Shape::Points => points_points_g(m),
-            Shape::Line => points_line_g(m),
-            Shape::Region => 0,
-        },
-        Shape::Line => match g {
-            Shape::Points => 0,
-            Shape::Line => line_line_g(m, c),
-            Shape::Region => line_region_g(c),
-        },
-        Shape::Region => match g {
-            Shape::Points => 0,
-            Shape::Line => 0,
-            Shape::Region => region_region_g(c),
-        },
+    match (f, g) {
+        (Shape::Points, Shape::Points) => packed([
+            m.bound_of_g, // poi_disjoint
+        ]),
+        (Shape::Points, Shape::Line) => packed([
+            m.bound_of_g, // bound_poi_disjoint
+        ]),
+        (Shape::Line, Shape::Line) => packed([
+            unshared(c), // seg_unshared
+            m.inner_bound, // bound_on_interior
+            m.bound_of_g, // bound_disjoint
+        ]),
+        (Shape::Line, Shape::Region) => packed([
+            unshared(c), // seg_unshared
+        ]),
+        (Shape::Region, Shape::Region) => packed([
+            c.above_outside, // (0/1)
+            c.below_outside, // (1/0)
+            c.above_inside, // (1/2)
+            c.below_inside, // (2/1)
+        ]),
+        (Shape::Points, Shape::Region)
+        | (Shape::Line, Shape::Points)
+        | (Shape::Region, Shape::Points | Shape::Line) => 0,
     }
 }

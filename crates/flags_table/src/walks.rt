@@ -15,18 +15,11 @@ pub struct ClassFlags {
 fn class_flags(f: Shape, g: Shape) -> ClassFlags
     ensures { (result.f ≡ pack (off_classes_f f g)) × (result.g ≡ pack (off_classes_g f g)) }
 {
-    match f {
-        Shape::Points => ClassFlags { f: 0, g: 0 },
-        Shape::Line => match g {
-            Shape::Points => ClassFlags { f: 0, g: 0 },
-            Shape::Line => ClassFlags { f: 5, g: 1 },
-            Shape::Region => ClassFlags { f: 7, g: 1 },
-        },
-        Shape::Region => match g {
-            Shape::Points => ClassFlags { f: 0, g: 0 },
-            Shape::Line => ClassFlags { f: 0, g: 0 },
-            Shape::Region => ClassFlags { f: 127, g: 15 },
-        },
+    match (f, g) {
+        (Shape::Line, Shape::Line) => ClassFlags { f: 5, g: 1 },
+        (Shape::Line, Shape::Region) => ClassFlags { f: 7, g: 1 },
+        (Shape::Region, Shape::Region) => ClassFlags { f: 127, g: 15 },
+        _ => ClassFlags { f: 0, g: 0 },
     }
 }
 
@@ -35,7 +28,7 @@ pub fn reads_meetings(f: Shape, g: Shape, want_f: u16, want_g: u16) -> bool
     ensures { result ≡ reads_meetings f g want_f want_g }
 {
     let classes = class_flags(f, g);
-    (want_f & classes.f != want_f) | (want_g & classes.g != want_g)
+    want_f & classes.f != want_f || want_g & classes.g != want_g
 }
 
 // Is one of the wanted flags read off the classes?
@@ -43,5 +36,5 @@ pub fn reads_classes(f: Shape, g: Shape, want_f: u16, want_g: u16) -> bool
     ensures { result ≡ reads_classes f g want_f want_g }
 {
     let classes = class_flags(f, g);
-    (want_f & classes.f != 0) | (want_g & classes.g != 0)
+    want_f & classes.f != 0 || want_g & classes.g != 0
 }

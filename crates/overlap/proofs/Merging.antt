@@ -9,7 +9,11 @@ use lib.Dec.{T}
 use Rattle.plane.specs.declared.Segment.{Segment}
 use Rattle.plane.specs.Plane.{segment_in_range}
 use Rattle.scene.specs.declared.Layout.{Layout}
-use Rattle.scene.specs.Conditions.{keep, half, left_test, segments}
+use Rattle.whole.proofs.Logic.{true_is}
+use Rattle.scene.specs.Read.{IsObject}
+use Rattle.scene.specs.Conditions.{keep, half, has_segments, left_test, segments}
+use Rattle.scene_segments.proofs.Elements.{half_good}
+use Rattle.flags_classes.proofs.Merging.{left_has}
 use Rattle.scene_segments.proofs.Walk.{all_between, between_next, between_none}
 use Rattle.flags_classes.specs.Walked.{NoneLeft, NextLeft, Nexts, NextOfF, NextOfG, NextOfBoth}
 use Rattle.overlap.specs.Bytes.{merge}
@@ -107,3 +111,17 @@ module _ (s : List ℕ) (f g : Layout) {i j a b : ℕ} where
 
 pub list_end : (s : List ℕ) (f g : Layout) {i j : ℕ} → Nexts s f g i j f.count g.count → merged_from s f g i j ≡ []
 list_end s f g n = merged_next s f g n ∙ ap₂ merge (from_none s f f.count (omega arith)) (from_none s g g.count (omega arith))
+
+-- what comes next, with its own segment
+good : (s : List ℕ) (l : Layout) (k : ℕ) → IsObject s l → k < l.count → left_test s l k ≡ true → T (segment_in_range (half s l k).segment)
+good s l k is h e = (half_good s l is k h (true_is (has_segments l.shape) (left_has s l k e))).in_range_lem
+
+module _ (s : List ℕ) (f g : Layout) {i j a b : ℕ} where
+  pub next_f : IsObject s f → NextOfF s f g i j a b → NextIs s f g i j (half s f a).segment (a + 1) b
+  next_f is n = list_f s f g (good s f a is n.there (n.nexts.of_f_lem.there n.there)) n refl
+
+  pub next_g : IsObject s g → NextOfG s f g i j a b → NextIs s f g i j (half s g b).segment a (b + 1)
+  next_g is n = list_g s f g (good s g b is n.there (n.nexts.of_g_lem.there n.there)) n refl
+
+  pub next_both : IsObject s f → NextOfBoth s f g i j a b → NextIs s f g i j (half s f a).segment (a + 1) (b + 1)
+  next_both is n = list_both s f g (good s f a is n.there_f (n.nexts.of_f_lem.there n.there_f)) n refl

@@ -1,6 +1,6 @@
 -- What the walk over the different segments of two regions promises: the segments from an element on, and the next of both objects, with its sides and
 -- with its byte.
-use Rattle.std.specs.Prelude.{ℕ, ◌+◌, ◌-◌, ◌<◌, ◌≤◌, ◌≡◌, List, [], ◌∷◌, map, T}
+use Rattle.std.specs.Prelude.{ℕ, ◌+◌, ◌-◌, ◌<◌, ◌≤◌, ◌≡◌, List, [], ◌∷◌, map, T, Option, Some, None}
 use Rattle.plane.specs.declared.Segment.{Segment}
 use Rattle.plane.specs.Plane.{segment_in_range}
 use Rattle.scene.specs.declared.Layout.{Layout}
@@ -12,10 +12,7 @@ use Rattle.flags.specs.Elements.{edges}
 use Rattle.flags_classes.proofs.Standing.{Standing}
 use Rattle.overlap.specs.declared.adjoining.Sides.{Sides}
 use Rattle.overlap.specs.Bytes.{merge, adjoins_below, adjoins_above, byte_of}
-use Rattle.overlap.specs.declared.walk.Step.{Step}
-use Rattle.overlap.specs.declared.walk.Step.TheVariants.{Next, End}
-use Rattle.overlap.specs.declared.walk.SidesStep.{SidesStep}
-use Rattle.overlap.specs.declared.walk.ByteStep.{ByteStep}
+use Rattle.overlap.specs.declared.walk.Next.{Next}
 
 -- the segments of the elements from i on
 unfoldable pub segments_from : List ℕ → Layout → ℕ → List Segment
@@ -32,10 +29,6 @@ module _ (s : List ℕ) (f g : Layout) where
     pub further : i + j < k + m
     pub within_f : k ≤ f.count
     pub within_g : m ≤ g.count
-
-  abbrev pub Stepped : ℕ → ℕ → Step → Type 0
-  Stepped i j (Next t k m) = NextIs i j t k m
-  Stepped i j End = merged_from i j ≡ []
 
 -- ---- with its sides and its byte, by the sweep's notes
 
@@ -54,16 +47,12 @@ module _ (s : List ℕ) (f g : Layout) where
     pub of_g_lem : SidesAre y (edges s g) t
     pub stands : Standing s f g k m
 
-  abbrev pub SidesStepped : ℕ → ℕ → SidesStep → Type 0
-  SidesStepped i j (SidesStep.Next t x y k m) = NextSides i j t x y k m
-  SidesStepped i j SidesStep.End = merged_from s f g i j ≡ []
+  abbrev pub SidesStepped : ℕ → ℕ → Option Next → Type 0
+  SidesStepped i j (Some n) = NextSides i j n.segment n.of_f n.of_g n.i n.j
+  SidesStepped i j None = merged_from s f g i j ≡ []
 
   pub record NextByte (i j b k m : ℕ) : Type 0 where
     pub segment : Segment
     pub next : NextIs s f g i j segment k m
     pub byte : b ≡ byte_of (edges s f) (edges s g) segment
     pub stands : Standing s f g k m
-
-  abbrev pub ByteStepped : ℕ → ℕ → ByteStep → Type 0
-  ByteStepped i j (ByteStep.Next b k m) = NextByte i j b k m
-  ByteStepped i j ByteStep.End = merged_from s f g i j ≡ []

@@ -39,17 +39,11 @@ pub fn noted_sides(note: u8) -> Sides
     }
 }
 
-// How many of two regions.
-fn number(f: bool, g: bool) -> u8
-    ensures { (result ≡ bit f + bit g) × (result ≤ 2) }
-{
-    f as u8 + g as u8
-}
-
+// 3m + n: m is how many of two regions adjoin the segment below, n how many above.
 pub fn coded(f: Sides, g: Sides) -> u8
     ensures { result ≡ 3 * (bit f.below + bit g.below) + (bit f.above + bit g.above) }
 {
-    let m = number(f.below, g.below);
-    let n = number(f.above, g.above);
+    let m = f.below as u8 + g.below as u8;
+    let n = f.above as u8 + g.above as u8;
     3 * m + n
 }

@@ -3,8 +3,7 @@ ghost use Rattle.std.specs.Prelude.{◌≡◌, ◌++◌, ◌≤◌, length, drop
 ghost use Rattle.sweep_laws.specs.Noted.{Noted};
 ghost use Rattle.overlap.specs.Rules.{list_of, check_list};
 
-use crate::walk;
-use crate::walk::ByteStep;
+use crate::{adjoining, walk};
 use scene::Scene;
 
 // Writes the list from the start of a buffer with room for it, and says how long it is.
@@ -15,17 +14,11 @@ pub fn write(s: &[u8], scene: Scene, notes: &[u8], list: &mut [u8]) -> usize
     let mut n: usize = 0;
     let mut i: usize = 0;
     let mut j: usize = 0;
-    loop {
-        match walk::next_byte(s, scene, notes, i, j) {
-            ByteStep::Next { byte, i: k, j: m } => {
-                list[n] = byte;
-                i = k;
-                j = m;
-            }
-            ByteStep::End => {
-                return n;
-            }
-        }
+    while let Some(next) = walk::next_sides(s, scene, notes, i, j) {
+        list[n] = adjoining::coded(next.of_f, next.of_g);
+        i = next.i;
+        j = next.j;
         n += 1;
     }
+    n
 }
