@@ -1,6 +1,5 @@
 -- `flags_classes::classes_of` meets its contract, step by step: a segment of F, of G or of both.
-use Rattle.std.proofs.Common.{arith, ℕ, ◌+◌, ◌≤◌, ◌≡◌, Bool, List, [], get_or, ap, ap₂, ◌∙◌}
-use Rattle.scene.specs.declared.CheckedScene.TheVariants.{Taken}
+use Rattle.std.proofs.Common.{arith, ℕ, ◌+◌, ◌≤◌, ◌≡◌, Bool, List, [], get_or, ap, ap₂, ◌∙◌, Ok}
 use Rattle.scene.specs.declared.Layout.{Layout}
 use Rattle.scene.specs.declared.Scene.{Scene}
 use Rattle.scene.specs.Read.{IsObject}
@@ -11,7 +10,7 @@ use Rattle.flags_classes.specs.Marked.{unshared_marks, shared_marks}
 use Rattle.flags_classes.proofs.Walking.{walking, walking_f, walking_g, walking_both, walked}
 use Rattle.flags_classes.proofs.classes_of.Goals as goal
 
-sound : (s : List ℕ) (sc : Scene) → check_scene s ≡ Taken sc → SoundScene s sc
+sound : (s : List ℕ) (sc : Scene) → check_scene s ≡ Ok sc → SoundScene s sc
 unfolding check_scene
 sound s sc e = sound_scene [] [] s sc e
 
