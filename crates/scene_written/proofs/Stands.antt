@@ -1,4 +1,5 @@
 -- Bytes that stand at an offset; and what an element's record is read as, where its bytes stand.
+use Rattle.scene.specs.declared.Reason.TheVariants.{WrongField, OutOfRange, EndsReversed}
 use Rattle.std.specs.Prelude.{Err, Ok}
 use Rattle.scene.specs.Read.{Record}
 use Prim.Native.Nat.{ℕ, ◌+◌, ◌*◌, ◌<◌, ◌≤◌}

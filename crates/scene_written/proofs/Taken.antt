@@ -215,7 +215,7 @@ no_faults s start (region l) g stands =
 no_refusal : {A B : Type 0} (refuse : Refusal → B) (b : B) (s : List ℕ) (a : A) (rules : List (Rule A)) → NoFault s a rules → judge refuse b (conditions rules s a) ≡ b
 no_refusal refuse b s a [] n = refl
 no_refusal refuse b s a (r ∷ rules) n =
-    ap (λ (f : Fault). decide refuse r.number f (judge refuse b (conditions rules s a))) n.0 ∙ no_refusal refuse b s a rules n.1
+    ap (λ (f : Fault). decide refuse r.reason f (judge refuse b (conditions rules s a))) n.0 ∙ no_refusal refuse b s a rules n.1
 
 -- the bytes of one object
 pub object_taken : (o : Object) → Writable o → check_object (object_bytes o) ≡ Ok (layout_of o 0)
