@@ -2,5 +2,4 @@
 pub mod Checked
 pub mod ReadOff
 pub mod Related
-pub mod Three
 pub mod Examples

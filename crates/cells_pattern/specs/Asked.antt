@@ -2,7 +2,7 @@
 -- others are, and none is asked. A pattern that is turned away asks none.
 use Rattle.std.specs.Prelude.{Err, Ok}
 use Rattle.check_verdict.specs.Refusals.{Verdict}
-use Rattle.std.specs.Prelude.{ℕ, ◌+◌, Bool, not, cond, List, map, eqb, get_or}
+use Rattle.std.specs.Prelude.{ℕ, Bool, not, cond, List, map, eqb, get_or}
 use Rattle.plane_dimensions.specs.declared.Dimension.TheVariants.{Area}
 use Rattle.scene.specs.Conditions.{indices}
 use Rattle.check_verdict.specs.Refusals.{verdict}
@@ -16,10 +16,7 @@ pattern_verdict p = verdict (pattern_conditions p)
 abbrev pub asks : ℕ → Bool
 asks c = not (eqb c either)
 
--- a bit for each cell, of a row from a position on, and row by row
-abbrev pub named_row : List ℕ → ℕ → ℕ
-named_row p at = pack (map (λ i. asks (get_or p (at + i) 0)) (indices 3 0))
-
+-- a bit for each cell, row by row
 abbrev pub named_cells : List ℕ → ℕ
 named_cells p = pack (map (λ i. asks (get_or p i 0)) (indices 9 0))
 

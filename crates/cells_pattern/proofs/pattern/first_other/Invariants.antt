@@ -1,4 +1,4 @@
--- What is found from the position that is next is what is found from the first.
+-- What the loop of `first_other` keeps: what is found from the position that is next is what is found from the first.
 use Rattle.std.proofs.Common.{◌≡◌, drop}
 use Rattle.cells_pattern.specs.Pattern.{first_other}
 use Rattle.cells_pattern.proofs.pattern.first_other.Given as goal
