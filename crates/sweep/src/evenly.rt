@@ -28,8 +28,7 @@ fn ends_evenly(s: &[u8], l: Layout) -> bool
     if l.count % 2 != 0 {
         return false;
     }
-    let k = l.shape;
-    let size = records::size(k);
+    let size = records::size(l.shape);
     for i in 0..l.count / 2 {
         let at = records::place(l, 2 * i);
         if !share_point(s, at, at + size) {
@@ -44,8 +43,7 @@ fn is_even(s: &[u8], l: Layout) -> bool
     requires { IsObject s.now l × (out_of_order s.now l ≡ None) }
     ensures { Decides (T (is_region l.shape) → EndsEvenly s.now l) result }
 {
-    let k = l.shape;
-    if !scene_segments::is_region(k) {
+    if !scene_segments::is_region(l.shape) {
         return true;
     }
     ends_evenly(s, l)
@@ -56,7 +54,5 @@ pub fn regions_end_evenly(s: &[u8], scene: Scene) -> bool
     requires { IsScene s.now scene × InOrder s.now scene }
     ensures { Decides (RegionsEndEvenly s.now scene) result }
 {
-    let f = scene.f;
-    let g = scene.g;
-    is_even(s, f) && is_even(s, g)
+    is_even(s, scene.f) && is_even(s, scene.g)
 }

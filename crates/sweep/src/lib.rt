@@ -25,8 +25,7 @@ pub mod points;
 fn event_count(l: Layout) -> usize
     ensures { result ≡ cond (has_segments l.shape) l.count 0 }
 {
-    let k = l.shape;
-    if scene_segments::has_segments(k) {
+    if scene_segments::has_segments(l.shape) {
         l.count
     } else {
         0
@@ -38,19 +37,17 @@ fn takes_first(s: &[u8], scene: Scene, i: usize, j: usize, key_f: u64, key_g: u6
     requires { IsScene s.now scene × (i ≤ total s.now scene true) × (j ≤ total s.now scene false) × (key_f ≡ next_key s.now scene.f i) × (key_g ≡ next_key s.now scene.g j) }
     ensures { result ≡ takes_first s.now scene i j }
 {
-    let f = scene.f;
-    let g = scene.g;
-    if i == event_count(f) {
+    if i == event_count(scene.f) {
         return false;
     }
-    if j == event_count(g) {
+    if j == event_count(scene.g) {
         return true;
     }
     if key_f != key_g {
         return key_f < key_g;
     }
-    let h = bytes::halfsegment(s, records::place(f, i));
-    let k = bytes::halfsegment(s, records::place(g, j));
+    let h = bytes::halfsegment(s, records::place(scene.f, i));
+    let k = bytes::halfsegment(s, records::place(scene.g, j));
     !plane_segments::comes_before(k, h)
 }
 
@@ -129,11 +126,7 @@ fn run_events(s: &[u8], scene: Scene, notes: &mut [u8]) -> bool
 fn has_points(scene: Scene) -> bool
     ensures { result ≡ (not (has_segments scene.f.shape) && has_segments scene.g.shape) }
 {
-    let f = scene.f;
-    let g = scene.g;
-    let k = f.shape;
-    let l = g.shape;
-    !scene_segments::has_segments(k) && scene_segments::has_segments(l)
+    !scene_segments::has_segments(scene.f.shape) && scene_segments::has_segments(scene.g.shape)
 }
 
 // Do 11 to 15 find no fault in a scene in order? If so, each element is noted.

@@ -26,7 +26,7 @@ fn locate(s: &[u8], entries: &[u16], v: Point) -> u8
     if k == 0 {
         return 0;
     }
-    let u = bytes::segment(s, place::wide(entries[k - 1]));
+    let u = bytes::segment(s, entries[k - 1] as usize);
     if plane::is_in_line(u.left, u.right, v) {
         return 2;
     }
@@ -38,16 +38,14 @@ fn is_point_next(s: &[u8], scene: Scene, i: usize, j: usize) -> bool
     requires { IsScene s.now scene × (scene.f.shape ≡ Points) × (i ≤ scene.f.count) × (j ≤ total s.now scene false) }
     ensures { result ≡ is_point_next s.now scene i j }
 {
-    let f = scene.f;
-    let g = scene.g;
-    if i == f.count {
+    if i == scene.f.count {
         return false;
     }
-    if j == crate::event_count(g) {
+    if j == crate::event_count(scene.g) {
         return true;
     }
-    let h = bytes::halfsegment(s, records::place(g, j));
-    let v = bytes::point(s, records::place(f, i));
+    let h = bytes::halfsegment(s, records::place(scene.g, j));
+    let v = bytes::point(s, records::place(scene.f, i));
     !plane::is_before(plane_segments::dominating_point(h), v)
 }
 
@@ -56,8 +54,7 @@ fn note_of(s: &[u8], scene: Scene, i: usize, entries: &[u16]) -> u8
     requires { IsScene s.now scene × (scene.f.shape ≡ Points) × (i < scene.f.count) × Held s.now scene entries.now }
     ensures { NearNote s.now entries.now (point_by s.now scene i) result }
 {
-    let f = scene.f;
-    locate(s, entries, bytes::point(s, records::place(f, i)))
+    locate(s, entries, bytes::point(s, records::place(scene.f, i)))
 }
 
 // The points from i on that come before G's halfsegment j: the index of the first that does not.
@@ -82,12 +79,12 @@ fn note_points(
 }
 
 // All points of F and all halfsegments of G, one after the other. No segment is active at the end.
+// Kept beside run_events: there the next event is of either object, told by keys, and no points stand between.
 pub fn run_points(s: &[u8], scene: Scene, notes: &mut [u8]) -> bool
     requires { IsScene s.now scene × InOrder s.now scene × (scene.f.shape ≡ Points) × T (has_segments scene.g.shape) × RegionsEndEvenly s.now scene × (2048 ≤ length notes.old) }
     ensures { (length notes.new ≡ length notes.old) × Decides (Passes s.now scene) result × (T result → Noted s.now scene notes.new) }
 {
-    let g = scene.g;
-    let all = crate::event_count(g);
+    let all = crate::event_count(scene.g);
     let mut status = Status::new();
     let mut i: usize = 0;
     for j in 0..all {

@@ -20,7 +20,6 @@ use sweep_status::{Status, note, owner, place};
 // ---- a segment begins
 
 // Do an odd number of entries stand before an offset?
-// Kept as a loop: a count of a filtered chain does not become one operation on many entries, as this does.
 fn has_odd_before(start: u16, entries: &[u16]) -> bool
     ensures { result ≡ odd (count (λ e. ltb e start) entries.now) }
 {
@@ -59,9 +58,7 @@ fn has_odd_of(scene: Scene, first: bool, entries: &[u16]) -> bool
 fn has_region(scene: Scene, first: bool) -> bool
     ensures { (s : List ℕ) → result ≡ is_region (object_of s scene first).shape }
 {
-    let l = owner::object_of(scene, first);
-    let k = l.shape;
-    scene_segments::is_region(k)
+    scene_segments::is_region(owner::object_of(scene, first).shape)
 }
 
 // A region's interior is above a segment where an even number of its own pass under it.
@@ -132,7 +129,7 @@ fn own_below(s: &[u8], scene: Scene, event: Event, entries: &[u16], top: usize) 
 {
     let t = bytes::segment(s, event.at);
     for k in (0..top).rev() {
-        let e = place::wide(entries[k]);
+        let e = entries[k] as usize;
         if is_own(s, scene, event, e) {
             return k;
         }
@@ -164,7 +161,7 @@ pub fn end(
     if !place::can_meet(s, entries, k) {
         return None;
     }
-    let e = place::wide(entries[k]);
+    let e = entries[k] as usize;
     let v = note::note_at(scene, event.first, notes, e);
     status.remove(k);
     Some(v)

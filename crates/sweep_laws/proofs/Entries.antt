@@ -145,8 +145,5 @@ module _ (l : List ℕ) (k : ℕ) (P : ℕ → Type 0) where
   pub by_below : {r : Bool} (i : ℕ) → suc i ≡ k → Decides (P (get_or l i 0)) r → Decides (BelowPlace l k P) r
   by_below i e = same_as (λ p j q. subst (λ (m : ℕ). P (get_or l m 0)) (omega arith) p) (λ p. p i e)
 
-  pub none_at : length l ≤ k → AtPlace l k P
-  none_at e h = absurd (omega arith)
-
   pub by_at : {r : Bool} → k < length l → Decides (P (get_or l k 0)) r → Decides (AtPlace l k P) r
   by_at h = same_as (λ p g. p) (λ p. p h)

@@ -14,12 +14,6 @@ use crate::owner::{self, Event};
 use plane::{Beside, Point, Segment};
 use scene::{Scene, bytes};
 
-pub fn wide(e: u16) -> usize
-    ensures { result ≡ e }
-{
-    e as usize
-}
-
 // ---- the tests of an entry, whose segment is u
 
 fn is_under(u: Segment, p: Point) -> bool
@@ -81,7 +75,7 @@ fn segment_of(s: &[u8], entries: &[u16], i: usize) -> Segment
     requires { (i < length entries.now) × GoodHalfsegment s.now (get_or entries.now i 0) }
     ensures { (result ≡ segment_at s.now (get_or entries.now i 0)) × T (segment_in_range result) }
 {
-    bytes::segment(s, wide(entries[i]))
+    bytes::segment(s, entries[i] as usize)
 }
 
 // Does the entry i pass over p?
@@ -170,7 +164,7 @@ pub fn fits_over(s: &[u8], scene: Scene, event: Event, entries: &[u16], k: usize
     if k == 0 {
         return true;
     }
-    let own = event.first == owner::is_first(scene, wide(entries[k - 1]));
+    let own = event.first == owner::is_first(scene, entries[k - 1] as usize);
     let u = segment_of(s, entries, k - 1);
     let t = bytes::segment(s, event.at);
     is_under_beginning(u, t, own) && is_lower(u, t)

@@ -30,7 +30,7 @@ note_at-v-requires c =
     let e = c.entries-entries.ensures in
     let own = c.own_below-k.ensures.1 (omega (arith, c.own_below-k.ensures.0)) in
     let within : k < length a.status.now = omega (arith, c.own_below-k.ensures.0, c.requires.1.within) in
-    let is = c.wide-e.ensures ∙ ap (λ (l : List ℕ). get_or l k 0) e in (
+    let is = ap (λ (l : List ℕ). get_or l k 0) e in (
       λ s. subst (Placed (object_of s sc a.event.first)) (sym is)
           (entry_placed a.s.now sc c.requires.0.scene (ap (λ (b : Strand). b.first) (subst (λ (l : List ℕ). OwnAt a.s.now sc a.event.first a.event.at l a.top k) e own).own) (held_entry c.requires.0.held k within) s),
       c.requires.2,
@@ -49,5 +49,5 @@ returns c =
       found = subst (λ (l : List ℕ). OwnAt a.s.now a.scene a.event.first a.event.at l a.top k) e own;
       meeting = subst (λ (l : List ℕ). CanMeet a.s.now l k) e (c.can_meet.ensures.sound (is_true _ c.if-not-can_meet.false));
       new_is = c.remove.ensures;
-      noted = λ i is. c.note_at-v.ensures a.s.now i (c.wide-e.ensures ∙ ap (λ (l : List ℕ). get_or l k 0) e ∙ is);
+      noted = λ i is. c.note_at-v.ensures a.s.now i (ap (λ (l : List ℕ). get_or l k 0) e ∙ is);
     })

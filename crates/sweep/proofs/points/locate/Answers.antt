@@ -24,12 +24,12 @@ returns-then-k-eq0 c =
 pub is_in_line-requires : goal.is_in_line-requires
 is_in_line-requires c =
     let good = c.requires.0.each (c.first_over-k.result - 1) (omega (arith, c.first_over-k.ensures.within)) in
-    turn_asks c.segment-u.result c.args.v (in_range_at good (c.segment-u.ensures ∙ ap (segment_at c.args.s.now) c.wide.ensures)) c.requires.1
+    turn_asks c.segment-u.result c.args.v (in_range_at good c.segment-u.ensures) c.requires.1
 
 pub returns-then-is_in_line : goal.returns-then-is_in_line
 returns-then-is_in_line c =
     let a = c.args in
-    let test_is = c.is_in_line.ensures ∙ ap (λ (u : Segment). eq_z (side u.left u.right a.v) (pos 0)) (c.segment-u.ensures ∙ ap (segment_at a.s.now) c.wide.ensures) in
+    let test_is = c.is_in_line.ensures ∙ ap (λ (u : Segment). eq_z (side u.left u.right a.v) (pos 0)) c.segment-u.ensures in
     on_entry (c.first_over-k.result - 1) (omega (arith, c.first_over-k.ensures.within)) (is_true _ (sym test_is ∙ c.if-is_in_line.true)) refl
 
 pub returns : goal.returns
@@ -39,7 +39,7 @@ returns c =
     let k = c.first_over-k.result in
     let p = c.first_over-k.ensures in
     let side_of : ℕ → ℤ = λ m. let t = segment_at a.s.now (get_or a.entries.now m 0) in side t.left t.right a.v in
-    let test_is = c.is_in_line.ensures ∙ ap (λ (u : Segment). eq_z (side u.left u.right a.v) (pos 0)) (c.segment-u.ensures ∙ ap (segment_at a.s.now) c.wide.ensures) in
+    let test_is = c.is_in_line.ensures ∙ ap (λ (u : Segment). eq_z (side u.left u.right a.v) (pos 0)) c.segment-u.ensures in
     between k p.within
     (λ m q. let below : k - 1 ≡ m = omega arith in
     under_else (side_of m) (eq_z_false (side_of m) (pos 0) (sym (test_is ∙ ap (λ (n : ℕ). eq_z (side_of n) (pos 0)) below) ∙ c.if-is_in_line.false)) (p.not_below m q)) p.over_it (byte_bit (odd k))

@@ -17,7 +17,7 @@ pub returns-then-is_under_beginning : goal.returns-then-is_under_beginning
 returns-then-is_under_beginning c =
     let a = c.args in
     let below = get_or a.entries.now (a.k - 1) 0 in
-    let whose = c.is_first.ensures a.s.now ∙ ap (is_first a.s.now a.scene) c.wide.ensures in
+    let whose = c.is_first.ensures a.s.now in
     let own = beq a.event.first (is_first a.s.now a.scene below) in
     let belongs = tested (is_under own) (c.is_under_beginning.ensures ∙ ap (λ (b : Bool). is_under (beq a.event.first b) c.segment_of-u.result c.segment-t.result) whose) c.segment_of-u.ensures.0 c.segment-t.ensures in
     by_below a.entries.now a.k (FitsOver a.s.now a.scene a.event.first a.event.at) (a.k - 1) (omega arith)
@@ -27,7 +27,7 @@ pub returns-else-is_under_beginning : goal.returns-else-is_under_beginning
 returns-else-is_under_beginning c =
     let a = c.args in
     let below = get_or a.entries.now (a.k - 1) 0 in
-    let whose = c.is_first.ensures a.s.now ∙ ap (is_first a.s.now a.scene) c.wide.ensures in
+    let whose = c.is_first.ensures a.s.now in
     let own = beq a.event.first (is_first a.s.now a.scene below) in
     let belongs = tested (is_under own) (c.is_under_beginning.ensures ∙ ap (λ (b : Bool). is_under (beq a.event.first b) c.segment_of-u.result c.segment-t.result) whose) c.segment_of-u.ensures.0 c.segment-t.ensures in
     by_below a.entries.now a.k (FitsOver a.s.now a.scene a.event.first a.event.at) (a.k - 1) (omega arith) (and_first belongs c.if-is_under_beginning.false)
