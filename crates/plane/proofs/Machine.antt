@@ -5,7 +5,7 @@ use native.Mathlib.Nat.{mul-le-mul, le_trans, le_of_eq}
 use native.Mathlib.Omega.{arith}
 use mathlib.Core.Path.{◌≡◌, refl, sym, ap, ap₂, subst, ◌∙◌}
 use mathlib.Core.Logic.{◌⊎◌, inl, inr}
-use mathlib.Core.Bool.{Bool, true, false, cond, ◌&&◌, ◌||◌, false≢true, true≢false}
+use mathlib.Core.Bool.{Bool, true, false, cond, ◌&&◌, false≢true, true≢false}
 use lib.Dec.{T, leb, ltb, eqb, leb→le, le→leb, lit≤, eqb-suc-zero}
 use lib.IntN.{ℤ, pos, negsuc, neg_ℤ, nat_abs, sub_ℕ, ◌+ℤ◌, ◌-ℤ◌, ◌*ℤ◌}
 use lib.Signed.{mag, lt_z}
@@ -115,14 +115,10 @@ module _ {w : Width} {a b : ℤ} (f : SFits w a) (g : SFits w b) where
       go true e = e ∙ sym (eq_z_yes a b (bits_eq (eqb-true (of_z w a) (of_z w b) e)))
       go false e = e ∙ sym (eq_z_no a b (λ q. eqb-false (of_z w a) (of_z w b) e (ap (of_z w) q)))
 
--- the flag t where the ways of `a && b` meet, and of `a || b`
+-- the flag t where the ways of `a && b` meet
 pub and_met : {t a b : Bool} → ((a ≡ true) × (t ≡ b)) ⊎ ((a ≡ false) × (t ≡ a)) → t ≡ (a && b)
 and_met {t} {a} {b} (inl w) = w.1 ∙ ap (λ (x : Bool). x && b) (sym w.0)
 and_met {t} {a} {b} (inr w) = w.1 ∙ w.0 ∙ ap (λ (x : Bool). x && b) (sym w.0)
-
-pub or_met : {t a b : Bool} → ((a ≡ true) × (t ≡ a)) ⊎ ((a ≡ false) × (t ≡ b)) → t ≡ (a || b)
-or_met {t} {a} {b} (inl w) = w.1 ∙ w.0 ∙ ap (λ (x : Bool). x || b) (sym w.0)
-or_met {t} {a} {b} (inr w) = w.1 ∙ ap (λ (x : Bool). x || b) (sym w.0)
 
 -- ---- points within a range
 pub within_x : (n : ℕ) (p : Point) → T (within n p) → nat_abs p.x ≤ n

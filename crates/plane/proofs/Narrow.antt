@@ -18,8 +18,8 @@ use Rattle.plane.specs.declared.Point.{Point}
 use Rattle.plane.specs.declared.Turn.{Turn}
 use Rattle.plane.specs.declared.Turn.TheVariants.{Left, Straight, Right}
 use Rattle.plane.specs.declared.Beside.TheVariants.{Over, Under}
-use Rattle.plane.specs.Plane.{limit, within, side, at, turn_of, turn, Told}
-use Rattle.plane.proofs.Machine.{Held, near_fits, within_x, within_y}
+use Rattle.plane.specs.Plane.{limit, within, side, turn_of, turn, Told}
+use Rattle.plane.proofs.Machine.{near_fits, within_x, within_y}
 
 -- ---- the turn of a sign
 left_turn : (z : ℤ) → Pos z → Left ≡ turn_of z
@@ -102,10 +102,6 @@ module _ (a b c : Point) (u v w z : ℕ)
       (ap₂ ◌+ℤ◌ (ap₂ ◌*ℤ◌ hw hz) (ap (λ (x : ℤ). x *ℤ pos 67108864) (ap₂ ◌+ℤ◌ hu hv)))
       ∙ raise_sums (b.x -ℤ a.x) (c.y -ℤ a.y) (b.y -ℤ a.y) (c.x -ℤ a.x) (pos 67108864))
 
--- a point is read back from its bits
-pub point_back : (p : Point) → Held p → at (to_z w32 (of_z w32 p.x)) (to_z w32 (of_z w32 p.y)) ≡ p
-point_back p h = ap₂ at (to_z-of_z h.x_fits) (to_z-of_z h.y_fits)
-
 -- ---- what a look at the box tells
 pub told_over : (t : Turn) → Left ≡ t → Told Over t
 told_over t e = record { over = λ q. sym e; under = λ q. absurd (clash q) }
@@ -176,18 +172,18 @@ module _ (a b c : Point) where
   abbrev side_by : ℤ → ℤ → ℤ
   side_by x y = (b.x -ℤ a.x) *ℤ (y -ℤ a.y) -ℤ (b.y -ℤ a.y) *ℤ (x -ℤ a.x)
 
-  at_point : (e : Point) → e.x ≡ c.x → e.y ≡ c.y → side_by e.x e.y ≡ pos 0 → Straight ≡ turn a b c
+  at_point : (e : Point) → e ≡ c → side_by e.x e.y ≡ pos 0 → Straight ≡ turn a b c
   unfolding turn side
-  at_point e h k q = no_turn (side a b c) (sym (ap₂ side_by h k) ∙ q)
+  at_point e h q = no_turn (side a b c) (sym (ap (λ (p : Point). side_by p.x p.y) h) ∙ q)
 
-  pub at_second : b.x ≡ c.x → b.y ≡ c.y → Straight ≡ turn a b c
-  at_second h k =
-      at_point b h k
+  pub at_second : b ≡ c → Straight ≡ turn a b c
+  at_second h =
+      at_point b h
       (solve (a.x ∷ a.y ∷ b.x ∷ b.y ∷ [])
       ((var 2 :- var 0) :* (var 3 :- var 1) :- (var 3 :- var 1) :* (var 2 :- var 0)) (con (pos 0)) tt)
 
-  pub at_first : a.x ≡ c.x → a.y ≡ c.y → Straight ≡ turn a b c
-  at_first h k =
-      at_point a h k
+  pub at_first : a ≡ c → Straight ≡ turn a b c
+  at_first h =
+      at_point a h
       (solve (a.x ∷ a.y ∷ b.x ∷ b.y ∷ [])
       ((var 2 :- var 0) :* (var 1 :- var 1) :- (var 3 :- var 1) :* (var 0 :- var 0)) (con (pos 0)) tt)

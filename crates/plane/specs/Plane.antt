@@ -61,10 +61,6 @@ turned Right z = lt_z z (pos 0)
 abbrev pub InDoubledRange : Point → Point → Point → Type 0
 InDoubledRange a b c = T (within (2 * limit) a) × T (within (2 * limit) b) × T (within (2 * limit) c)
 
--- a point by its coordinates, for the inside of the side test
-abbrev pub at : ℤ → ℤ → Point
-at x y = record { x = x; y = y }
-
 -- what a look at the box of two points tells of a turn
 pub record Told (r : Beside) (t : Turn) : Type 0 where
   pub over : r ≡ Over → t ≡ Left

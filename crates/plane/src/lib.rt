@@ -1,12 +1,12 @@
 // The plane of document 01, exactly: its types, and the tests on points and turns, each proved equal to its definition in specs/Plane.antt.
 // The tests on segments are those of `plane_segments`.
-// Every sign of a side value is read off `turn_at`.
+// Every sign of a side value is read off `turn_from`.
 #![tactic(auto)]
 
 ghost use Rattle.std.specs.Prelude.{◌≡◌, ◌&&◌, ◌+◌, ◌*◌, ◌<◌, ◌≤◌, T, leb, pos, nat_abs, ◌+ℤ◌, ◌-ℤ◌};
 ghost use Rattle.std.specs.Int.Signed.{lt_z, le_z};
 ghost use Rattle.whole.specs.Count.{eq_z};
-ghost use Rattle.plane.specs.Plane.{limit, within, in_range, before, is_same_point, is_same_segment, side, at, turn_of, turn, turned, InDoubledRange, Told};
+ghost use Rattle.plane.specs.Plane.{limit, within, in_range, before, is_same_point, is_same_segment, side, turn_of, turn, turned, InDoubledRange, Told};
 
 use std::cmp::Ordering;
 
@@ -14,6 +14,7 @@ use std::cmp::Ordering;
 pub const LIMIT: i32 = 10_000_000;
 
 // A grid point.
+// Kept as clauses: that points are in range. They come from bytes that may break it, and a type of those in range would go through each crate above.
 #[derive(Clone, Copy, PartialEq, Eq, PartialOrd, Ord)]
 pub struct Point {
     pub x: i32,
@@ -42,11 +43,12 @@ pub enum Turn {
     Right,
 }
 
-// Is v at most `most` in size?
+// Is v at most `most` in size? In 64 bits, where each `most` has an opposite.
 pub fn is_coordinate(v: i32, most: u32) -> bool
     ensures { result ≡ leb (nat_abs v) most }
 {
-    v.unsigned_abs() <= most
+    let wide = v as i64;
+    -(most as i64) <= wide && wide <= most as i64
 }
 
 // Are both coordinates? A scene's limit is one such number, an estimate's another.
@@ -169,50 +171,41 @@ pub enum Beside {
     Neither,
 }
 
-// Coordinates and not points: so nothing of a test goes through memory.
-pub fn beside_box(ax: i32, ay: i32, bx: i32, by: i32, cx: i32, cy: i32) -> Beside
-    ensures { Told result (turn (at ax ay) (at bx by) (at cx cy)) }
+// Kept nested: with its tests joined by && it took a tenth more instructions, and each search of the status asks it.
+pub fn beside_box(a: Point, b: Point, c: Point) -> Beside
+    ensures { Told result (turn a b c) }
 {
-    if !spans(ax, bx, cx) {
-        Beside::Neither
-    } else if cy < ay && cy < by {
-        Beside::Under
-    } else if ay < cy && by < cy {
-        Beside::Over
-    } else {
-        Beside::Neither
+    if spans(a.x, b.x, c.x) {
+        if c.y < a.y {
+            if c.y < b.y {
+                return Beside::Under;
+            }
+        } else if b.y < c.y {
+            if a.y < c.y {
+                return Beside::Over;
+            }
+        }
     }
+    Beside::Neither
 }
 
 // The turn where c may be one of the two.
-fn turn_by_ends(ax: i32, ay: i32, bx: i32, by: i32, cx: i32, cy: i32) -> Turn
-    requires { InDoubledRange (at ax ay) (at bx by) (at cx cy) }
-    ensures { result ≡ turn (at ax ay) (at bx by) (at cx cy) }
+fn turn_by_ends(a: Point, b: Point, c: Point) -> Turn
+    requires { InDoubledRange a b c }
+    ensures { result ≡ turn a b c }
 {
-    if bx == cx && by == cy {
+    if b == c {
         return Turn::Straight;
     }
-    if ax == cx && ay == cy {
+    if a == c {
         return Turn::Straight;
     }
     turn_by_products(
-        raised(bx, ax),
-        raised(cy, ay),
-        raised(by, ay),
-        raised(cx, ax),
+        raised(b.x, a.x),
+        raised(c.y, a.y),
+        raised(b.y, a.y),
+        raised(c.x, a.x),
     )
-}
-
-// The turn by coordinates, for the same reason.
-fn turn_at(ax: i32, ay: i32, bx: i32, by: i32, cx: i32, cy: i32) -> Turn
-    requires { InDoubledRange (at ax ay) (at bx by) (at cx cy) }
-    ensures { result ≡ turn (at ax ay) (at bx by) (at cx cy) }
-{
-    match beside_box(ax, ay, bx, by, cx, cy) {
-        Beside::Over => Turn::Left,
-        Beside::Under => Turn::Right,
-        Beside::Neither => turn_by_ends(ax, ay, bx, by, cx, cy),
-    }
 }
 
 // The turn at b of the path from a through b to c.
@@ -220,7 +213,11 @@ pub fn turn_from(a: Point, b: Point, c: Point) -> Turn
     requires { InDoubledRange a b c }
     ensures { result ≡ turn a b c }
 {
-    turn_at(a.x, a.y, b.x, b.y, c.x, c.y)
+    match beside_box(a, b, c) {
+        Beside::Over => Turn::Left,
+        Beside::Under => Turn::Right,
+        Beside::Neither => turn_by_ends(a, b, c),
+    }
 }
 
 // Does it turn that way there?

@@ -28,7 +28,7 @@ fn is_over(u: Segment, p: Point) -> bool
     requires { T (segment_in_range u) × T (in_range p) }
     ensures { result ≡ passes_over u p }
 {
-    match plane::beside_box(u.left.x, u.left.y, u.right.x, u.right.y, p.x, p.y) {
+    match plane::beside_box(u.left, u.right, p) {
         Beside::Over => false,
         Beside::Under => true,
         Beside::Neither => plane_segments::is_right_of(u.left, u.right, p),

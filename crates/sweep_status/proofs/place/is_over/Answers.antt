@@ -4,8 +4,7 @@ use Rattle.plane.specs.declared.Turn.{Turn}
 use Rattle.plane.specs.declared.Point.{Point}
 use Rattle.plane.specs.declared.Segment.{Segment}
 use Rattle.plane.specs.Plane.{side, turn}
-use Rattle.plane.proofs.Machine.{is_right, right_is, turn_asks, doubled_held}
-use Rattle.plane.proofs.Narrow.{point_back}
+use Rattle.plane.proofs.Machine.{is_right, right_is, turn_asks}
 use Rattle.sweep_laws.specs.Lower.{passes_over}
 use Rattle.sweep_status.proofs.place.is_over.Goals as goal
 
@@ -17,17 +16,7 @@ pub is_right_of-requires : goal.is_right_of-requires
 is_right_of-requires c = turn_asks c.args.u c.args.p c.requires.0 c.requires.1
 
 pub returns-in-Over : goal.returns-in-Over
-returns-in-Over c =
-    let u = c.args.u in
-    let p = c.args.p in
-    let h = turn_asks u p c.requires.0 c.requires.1 in
-    let told = rw (point_back u.left (doubled_held _ h.0), point_back u.right (doubled_held _ h.1), point_back p (doubled_held _ h.2)) at c.beside_box.ensures in
-    by_turn u p _ (told.over c.in-Over.is)
+returns-in-Over c = by_turn c.args.u c.args.p _ (c.beside_box.ensures.over c.in-Over.is)
 
 pub returns-in-Under : goal.returns-in-Under
-returns-in-Under c =
-    let u = c.args.u in
-    let p = c.args.p in
-    let h = turn_asks u p c.requires.0 c.requires.1 in
-    let told = rw (point_back u.left (doubled_held _ h.0), point_back u.right (doubled_held _ h.1), point_back p (doubled_held _ h.2)) at c.beside_box.ensures in
-    by_turn u p _ (told.under c.in-Under.is)
+returns-in-Under c = by_turn c.args.u c.args.p _ (c.beside_box.ensures.under c.in-Under.is)
