@@ -1,7 +1,7 @@
 -- Each case of the answer.
-use Rattle.std.proofs.Common.{◌∙◌, sym, ap, subst}
+use Rattle.std.proofs.Common.{◌∙◌, sym, ap, subst, ℕ}
 use Rattle.cells.specs.Explored.{CellsAnswer, cells_values}
-use Rattle.answer_line.specs.Line.{line_of, Numbered}
+use Rattle.answer_line.specs.Line.{no_line, line_of, Numbered}
 use Rattle.answer_line.proofs.Written.{written_same}
 use Rattle.answer_line.proofs.Line.{taken_line, refused_line}
 use Rattle.answer_line.proofs.write_answer.Goals as goal
@@ -14,5 +14,8 @@ returns-in-Ok c =
 
 pub returns-in-Err : goal.returns-in-Err
 returns-in-Err c =
+    let r = c.in-Err.r in
     let is = c.in-Err.is in
-    written_same (refused_line c.in-Err.r (subst Numbered is c.requires.numbered) ∙ ap (λ (a : CellsAnswer). line_of (cells_values a)) (sym is)) c.write_no.ensures
+    written_same
+    (ap (λ (n : ℕ). no_line n r.place) c.number.ensures ∙ refused_line r (subst Numbered is c.requires.numbered) ∙ ap (λ (a : CellsAnswer). line_of (cells_values a)) (sym is))
+    c.write_no.ensures
