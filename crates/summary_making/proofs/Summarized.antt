@@ -66,11 +66,11 @@ empty_is s l o = same_empty (elements_of s l) ∙ empty_as s l o l.shape refl
 
 no_corners : (F : Elements) → corners F ≡ [] → is_empty F ≡ true
 no_corners (Elements.points []) e = refl
-no_corners (Elements.points (v ∷ l)) e = absurd (let z : ◌≡◌ {A = ℕ} 0 1 = cc in omega arith)
+no_corners (Elements.points (v ∷ l)) e = cc
 no_corners (Elements.line []) e = refl
-no_corners (Elements.line (s ∷ l)) e = absurd (let z : ◌≡◌ {A = ℕ} 0 1 = cc in omega arith)
+no_corners (Elements.line (s ∷ l)) e = cc
 no_corners (Elements.region []) e = refl
-no_corners (Elements.region (r ∷ l)) e = absurd (let z : ◌≡◌ {A = ℕ} 0 1 = cc in omega arith)
+no_corners (Elements.region (r ∷ l)) e = cc
 
 module _ (s : List ℕ) (l : Layout) (e : check_object s ≡ Ok l) where
   pub empty_box : l.count ≡ 0 → box_of [] ≡ (summary_in s l).bounds

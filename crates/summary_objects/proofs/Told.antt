@@ -127,7 +127,7 @@ told_in_full r q is one other v e = go (are_far s t) refl (sym tells ∙ sym is 
           far_taken one.object other.object one.layout other.layout one.accepted other.accepted (is_true (are_far s t) f),
           sym x ∙ far_told one.object other.object one.layout other.layout one.accepted other.accepted (is_true (are_far s t) f),
         )
-    go false f h = absurd (let z : ◌≡◌ {A = ℕ} 0 1 = cc in omega arith)
+    go false f h = cc
 
 module _ (r q : List ℕ) where
   pub look_exactly_if_near : {answer : Result (Option Vectors) Refusal} → answer ≡ asked_of r q → LookExactlyIfNear r q answer
@@ -140,8 +140,8 @@ module _ (r q : List ℕ) where
       go : (a b : Bool) → good_bytes r ≡ a → good_bytes q ≡ b → cond a (cond b (Ok (told_of (summary_at r 0) (summary_at q 0))) (bad 1)) (bad 0) ≡ Ok None
           → T (good_bytes r) × T (good_bytes q) × Near (summary_at r 0) (summary_at q 0)
       go true true a b e = (is_true (good_bytes r) a, is_true (good_bytes q) b, (tells a b).0 cc)
-      go true false a b e = absurd (let z : ◌≡◌ {A = ℕ} 0 1 = cc in omega arith)
-      go false b x y e = absurd (let z : ◌≡◌ {A = ℕ} 0 1 = cc in omega arith)
+      go true false a b e = cc
+      go false b x y e = cc
 
       back : good_bytes r ≡ true → good_bytes q ≡ true → Near (summary_at r 0) (summary_at q 0) → cond (good_bytes r) (cond (good_bytes q) (Ok (told_of (summary_at r 0) (summary_at q 0))) (bad 1)) (bad 0) ≡ Ok None
       back a b n = rw (a, b) (ap Ok ((tells a b).1 n))
