@@ -37,6 +37,9 @@ impl<'a> Cases<'a> {
 impl<'a> Iterator for Cases<'a> {
     type Item = Case<'a>;
 
+    // No colon stands in a label, and no semicolon in what it labels.
+    ghost next_gives = { λ s case t. IfSome case (λ c. All (λ b. b ≢ 58) c.label.now × All (λ b. b ≢ 59) c.text.now) };
+
     ghost remaining = { λ c. at_most (length c.rest.now) };
 
     fn next(&mut self) -> Option<Case<'a>> {
