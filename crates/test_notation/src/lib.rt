@@ -24,15 +24,7 @@ pub struct Case<'a> {
 
 // The cases of a text, in order.
 #[derive(Drop)]
-pub struct Cases<'a> {
-    rest: &'a [u8],
-}
-
-impl<'a> Cases<'a> {
-    pub fn new(text: &'a [u8]) -> Self {
-        Cases { rest: text }
-    }
-}
+pub struct Cases<'a>(pub &'a [u8]);
 
 impl<'a> Iterator for Cases<'a> {
     type Item = Case<'a>;
@@ -40,15 +32,15 @@ impl<'a> Iterator for Cases<'a> {
     // No colon stands in a label, and no semicolon in what it labels.
     ghost next_gives = { λ s case t. IfSome case (λ c. All (λ b. b ≢ 58) c.label.now × All (λ b. b ≢ 59) c.text.now) };
 
-    ghost remaining = { λ c. at_most (length c.rest.now) };
+    ghost remaining = { λ c. at_most (length c.0.now) };
 
     fn next(&mut self) -> Option<Case<'a>> {
-        if self.rest.is_empty() {
+        if self.0.is_empty() {
             return None;
         }
-        let (label, after) = split_once(self.rest, b':').unwrap_or((self.rest, &[]));
+        let (label, after) = split_once(self.0, b':').unwrap_or((self.0, &[]));
         let (text, after) = split_once(after, b';').unwrap_or((after, &[]));
-        self.rest = after.get(1..).unwrap_or(&[]);
+        self.0 = after.get(1..).unwrap_or(&[]);
         Some(Case { label, text })
     }
 }

@@ -30,7 +30,7 @@ fn main(rt: HostRuntime) -> io::Result<()> {
     let (n, outcome) = streams::read_full(&mut rt.stdin(), &mut space);
     outcome?;
     let mut out = Output::new(rt.stdout());
-    for case in Cases::new(&space[..n]) {
+    for case in Cases(&space[..n]) {
         check(&mut out, case);
     }
     out.finish()

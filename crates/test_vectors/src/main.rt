@@ -10,9 +10,12 @@ use test_notation::{Case, Cases};
 
 // The number that a text's digits make, modulo 65,536.
 fn number(text: &[u8]) -> u16 {
-    text.iter()
-        .filter(|c| c.is_ascii_digit())
-        .fold(0u16, |n, c| n.wrapping_mul(10).wrapping_add(u16::from(c.wrapping_sub(b'0'))))
+    text.iter().filter(|c| c.is_ascii_digit()).fold(
+        0u16,
+        |n, c| n
+            .wrapping_mul(10)
+            .wrapping_add(u16::from(c.wrapping_sub(b'0'))),
+    )
 }
 
 // The masks of F and of G, and the scene's text.
@@ -42,7 +45,7 @@ fn main(rt: HostRuntime) -> io::Result<()> {
     let (n, outcome) = streams::read_full(&mut rt.stdin(), &mut space);
     outcome?;
     let mut out = Output::new(rt.stdout());
-    for case in Cases::new(&space[..n]) {
+    for case in Cases(&space[..n]) {
         answer(&mut out, case);
     }
     out.finish()
