@@ -10,6 +10,7 @@ use std::io;
 use std::io::{Read, Write};
 
 // Reads until buf is full, the input ends or a read fails. Answers how many bytes stand at the start of buf, and the failure, if it is that which ended it.
+// Kept as a count: a contract names what buf holds after the call only where no slice of it is handed out, and what was read before a failure counts too.
 pub fn read_full<R: Read>(input: &mut R, buf: &mut [u8]) -> (usize, io::Result<()>)
     ensures in_bounds { IsPrefixLen result.0 buf.new }
     ensures read { Consumes (R.remaining input.old) (R.remaining input.new) (take result.0 buf.new) }
@@ -47,34 +48,22 @@ impl<W: Write> Output<W> {
         ensures well { IsTrue result ↔ (self.new.failure ≡ None) }
         ensures stays { IsSome self.old.failure → self.new ≡ self.old }
     {
-        if self.failure.is_some() {
-            return false;
+        if self.failure.is_none() {
+            self.failure = self.to.write_all(bytes).err();
         }
-        match self.to.write_all(bytes) {
-            Ok(()) => true,
-            Err(e) => {
-                self.failure = Some(e);
-                false
-            }
-        }
+        self.failure.is_none()
     }
 
-    // Writes what `{}` writes of a value, as `write` does.
-    pub fn print<D: Display + Drop>(&mut self, value: D) -> bool
+    // Writes what `{}` writes of a value, as `write` does: `write!` and `writeln!` call it.
+    pub fn write_fmt<D: Display + Drop>(&mut self, value: D) -> bool
         ensures written { IsTrue result → IfSome (D.output value) (Appends (W.contents self.old.to) (W.contents self.new.to)) }
         ensures well { IsTrue result ↔ (self.new.failure ≡ None) }
         ensures stays { IsSome self.old.failure → self.new ≡ self.old }
     {
-        if self.failure.is_some() {
-            return false;
+        if self.failure.is_none() {
+            self.failure = self.to.write_fmt(value).err();
         }
-        match self.to.write_fmt(value) {
-            Ok(()) => true,
-            Err(e) => {
-                self.failure = Some(e);
-                false
-            }
-        }
+        self.failure.is_none()
     }
 
     // The first failure, if a write failed.

@@ -2,172 +2,164 @@
 // P(x,y), L(..) and R(..) the first two or four numbers are coordinates. #n stands for n points, (0,0) to (n-1,0).
 #![tactic(auto)]
 
-ghost use Rattle.std.specs.Prelude.{◌≡◌, ◌<◌, ◌≤◌, length, take};
+ghost use Rattle.std.specs.Prelude.{◌≡◌, ◌≢◌, ◌≤◌, ◌++◌, ◌∷◌, All, IfSome, IfNone, length};
+ghost use Rattle.std.specs.Iterator.{at_most};
 
-// A label ends at its colon, what it labels at its semicolon, and the next case begins after the line end.
-#[derive(Clone, Copy)]
-pub struct Case {
-    pub colon: usize,
-    pub end: usize,
-    pub next: usize,
+// What stands before the first b of a text, and what stands after it.
+pub fn split_once(text: &[u8], b: u8) -> Option<(&[u8], &[u8])>
+    ensures parted { IfSome result (λ parts. text.now ≡ parts.0.now ++ (b ∷ parts.1.now)) }
+    ensures first { IfSome result (λ parts. All (λ c. c ≢ b) parts.0.now) }
+    ensures absent { IfNone result (All (λ c. c ≢ b) text.now) }
+{
+    let at = text.iter().position(|c| *c == b)?;
+    Some((&text[..at], &text[at + 1..]))
 }
 
-// The first place from some place on where a byte stands, or the length.
-pub fn find(text: &[u8], from: usize, b: u8) -> usize
-    requires { from ≤ length text.now }
-    ensures { (from ≤ result) × (result ≤ length text.now) }
-{
-    let mut i = from;
-    while i < text.len() {
-        if text[i] == b {
-            return i;
+// A label ends at its colon, what it labels at its semicolon, and the next case begins after the line end. The text's end stands for what is missing.
+#[derive(Clone, Copy)]
+pub struct Case<'a> {
+    pub label: &'a [u8],
+    pub text: &'a [u8],
+}
+
+// The cases of a text, in order.
+#[derive(Drop)]
+pub struct Cases<'a>(pub &'a [u8]);
+
+impl<'a> Iterator for Cases<'a> {
+    type Item = Case<'a>;
+
+    // No colon stands in a label, and no semicolon in what it labels.
+    ghost next_gives = { λ s case t. IfSome case (λ c. All (λ b. b ≢ 58) c.label.now × All (λ b. b ≢ 59) c.text.now) };
+
+    ghost remaining = { λ c. at_most (length c.0.now) };
+
+    fn next(&mut self) -> Option<Case<'a>> {
+        if self.0.is_empty() {
+            return None;
         }
-        i += 1;
+        let (label, after) = split_once(self.0, b':').unwrap_or((self.0, &[]));
+        let (text, after) = split_once(after, b';').unwrap_or((after, &[]));
+        self.0 = after.get(1..).unwrap_or(&[]);
+        Some(Case { label, text })
     }
-    i
 }
 
-// The case that begins at some place; the text's end stands for what is missing.
-pub fn case_at(text: &[u8], at: usize) -> Case
-    requires { at < length text.now }
-    ensures at_le_colon { (at ≤ result.colon) × (result.colon ≤ result.end) }
-    ensures end_in_bounds { (result.end ≤ length text.now) × (result.next ≤ length text.now) }
-    ensures at_lt_next { at < result.next }
-{
-    let colon = find(text, at, b':');
-    let end = find(text, colon, b';');
-    let mut next = text.len();
-    if text.len() - end > 2 {
-        next = end + 2;
-    }
-    Case { colon, end, next }
+// What stood before a number.
+#[derive(Clone, Copy, PartialEq)]
+enum Mark {
+    Plain,
+    Minus,
+    // The number is one of points.
+    Count,
 }
 
-// What has been written, and the number that is being read.
-#[derive(Clone, Copy)]
-struct Writing {
-    // How many bytes stand in the buffer.
+// The bytes written so far, and what is being read.
+#[derive(Drop)]
+struct Writer<'a> {
+    out: &'a mut [u8],
+    // How many bytes stand in out.
     at: usize,
     // How many coordinates the record still wants.
     coordinates: u8,
-    number: u32,
-    is_negative: bool,
-    has_digits: bool,
-    is_count: bool,
+    mark: Mark,
+    // The number that the digits so far make, if there was one.
+    number: Option<u32>,
+    ghost in_bounds: { at ≤ length out.now },
 }
 
-// Bytes that find no room are left out.
-fn put(out: &mut [u8], at: usize, b: u8) -> usize {
-    if at < out.len() {
-        out[at] = b;
-        return at + 1;
+impl<'a> Writer<'a> {
+    // A byte that finds no room is left out.
+    fn put(&mut self, b: u8) {
+        if self.at < self.out.len() {
+            self.out[self.at] = b;
+            self.at += 1;
+        }
     }
-    at
-}
 
-fn put_word(out: &mut [u8], at: usize, w: u32) -> usize {
-    let one = put(out, at, (w % 256) as u8);
-    let two = put(out, one, (w / 256 % 256) as u8);
-    let three = put(out, two, (w / 65536 % 256) as u8);
-    put(out, three, (w / 16777216 % 256) as u8)
-}
+    fn put_word(&mut self, w: u32) {
+        for b in w.to_le_bytes() {
+            self.put(b);
+        }
+    }
 
-fn put_points(out: &mut [u8], at: usize, count: u32) -> usize {
-    let mut end = at;
-    let mut x: u32 = 0;
-    while x < count {
-        end = put(out, end, 80);
-        end = put_word(out, end, x);
-        end = put_word(out, end, 0);
-        x += 1;
+    fn put_points(&mut self, count: u32) {
+        for x in 0..count {
+            self.put(b'P');
+            self.put_word(x);
+            self.put_word(0);
+        }
     }
-    end
-}
 
-fn between(at: usize, coordinates: u8) -> Writing {
-    Writing {
-        at,
-        coordinates,
-        number: 0,
-        is_negative: false,
-        has_digits: false,
-        is_count: false,
+    // A number begins, after a mark.
+    fn begin(&mut self, mark: Mark, coordinates: u8) {
+        self.mark = mark;
+        self.number = None;
+        self.coordinates = coordinates;
     }
-}
 
-// The number read so far has ended, if there was one.
-fn ended(out: &mut [u8], w: Writing) -> Writing {
-    if !w.has_digits {
-        return between(w.at, w.coordinates);
+    fn begin_record(&mut self, kind: u8, coordinates: u8) {
+        self.put(kind);
+        self.begin(Mark::Plain, coordinates);
     }
-    if w.is_count {
-        return between(put_points(out, w.at, w.number), 0);
-    }
-    if w.coordinates == 0 {
-        return between(put(out, w.at, (w.number % 256) as u8), 0);
-    }
-    let mut word = w.number;
-    if w.is_negative {
-        word = std::num::wrapping_sub_u32(0, word);
-    }
-    between(put_word(out, w.at, word), w.coordinates - 1)
-}
 
-fn digit(w: Writing, d: u8) -> Writing {
-    let mut number = w.number;
-    if number < 100_000_000 {
-        number = number * 10 + d as u32;
+    fn digit(&mut self, d: u8) {
+        let number = self.number.unwrap_or(0);
+        self.number = Some(if number < 100_000_000 {
+            number * 10 + u32::from(d)
+        } else {
+            number
+        });
     }
-    Writing {
-        at: w.at,
-        coordinates: w.coordinates,
-        number,
-        is_negative: w.is_negative,
-        has_digits: true,
-        is_count: w.is_count,
-    }
-}
 
-fn read(out: &mut [u8], w: Writing, c: u8) -> Writing {
-    match c {
-        48..=57 => digit(w, c - 48),
-        b'-' => Writing {
-            at: w.at,
-            coordinates: w.coordinates,
-            number: 0,
-            is_negative: true,
-            has_digits: false,
-            is_count: false,
-        },
-        b'#' => Writing {
-            at: w.at,
-            coordinates: 0,
-            number: 0,
-            is_negative: false,
-            has_digits: false,
-            is_count: true,
-        },
-        b'P' => between(put(out, w.at, 80), 2),
-        b'L' => between(put(out, w.at, 76), 4),
-        b'R' => between(put(out, w.at, 82), 4),
-        _ => ended(out, w),
+    fn put_number(&mut self, number: u32) {
+        match self.mark {
+            Mark::Count => self.put_points(number),
+            _ if self.coordinates == 0 => self.put((number % 256) as u8),
+            Mark::Minus => self.put_word(0u32.wrapping_sub(number)),
+            Mark::Plain => self.put_word(number),
+        }
+    }
+
+    // The number read so far has ended, if there was one.
+    fn end(&mut self) {
+        if let Some(number) = self.number {
+            self.put_number(number);
+            self.coordinates = self.coordinates.saturating_sub(1);
+        }
+        self.begin(Mark::Plain, self.coordinates);
+    }
+
+    fn read(&mut self, c: u8) {
+        match c {
+            b'0'..=b'9' => self.digit(c - b'0'),
+            b'-' => self.begin(Mark::Minus, self.coordinates),
+            b'#' => self.begin(Mark::Count, 0),
+            b'P' => self.begin_record(c, 2),
+            b'L' | b'R' => self.begin_record(c, 4),
+            _ => self.end(),
+        }
+    }
+
+    // The bytes written.
+    fn finish(self) -> &'a [u8] {
+        let Writer { out, at, .. } = self;
+        &out[..at]
     }
 }
 
-// Writes the bytes that a text stands for at the start of out, and answers how many they are. The second part of its contract follows from the first,
-// and is there for callers that take `&out[..n]`.
-pub fn write(out: &mut [u8], text: &[u8]) -> usize
-    ensures { (result ≤ length out.new) × (result ≡ length (take result out.new)) }
-{
-    let mut w = between(0, 0);
-    let mut i: usize = 0;
-    while i < text.len() {
-        w = read(out, w, text[i]);
-        i += 1;
+// Writes the bytes that a text stands for at the start of out, as far as there is room, and answers them.
+pub fn write<'a>(out: &'a mut [u8], text: &[u8]) -> &'a [u8] {
+    let mut writer = Writer {
+        out,
+        at: 0,
+        coordinates: 0,
+        mark: Mark::Plain,
+        number: None,
+    };
+    for c in text {
+        writer.read(*c);
     }
-    let last = ended(out, w);
-    if last.at > out.len() {
-        return out.len();
-    }
-    last.at
+    writer.end();
+    writer.finish()
 }

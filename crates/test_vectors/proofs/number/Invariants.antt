@@ -1,9 +1,0 @@
--- The measure is what is left of the text.
-use Rattle.std.proofs.Common.{length, ◌-◌, ◌≤◌}
-use Rattle.test_vectors.proofs.number.Given as goal
-
-abbrev pub invariant-loop-i : goal.invariant-loop-i
-invariant-loop-i l = l.i ≤ length l.text
-
-abbrev pub decreases-loop-i : goal.decreases-loop-i
-decreases-loop-i l = length l.text - l.i
