@@ -78,7 +78,10 @@ pub fn object_verdict(s: &[u8], l: Layout) -> Result<(), Refusal>
     requires { IsObject s.now l }
     ensures { result ≡ object_verdict s.now l }
 {
-    first_refusal(&OBJECT_FLAWS, |flaw| check_conditions::fault_under(s, l, l, flaw))
+    first_refusal(
+        &OBJECT_FLAWS,
+        |flaw| check_conditions::fault_under(s, l, l, flaw),
+    )
 }
 
 // The first refusal under 10 to 15 of a scene, condition by condition.
