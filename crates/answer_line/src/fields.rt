@@ -23,6 +23,7 @@ pub fn write_bytes(out: &mut [u8], at: usize, bytes: &[u8]) -> usize
 }
 
 // The digits of a number: those of all but the last, then the last.
+// Kept by hand: a formatter's text would have to be copied into the lent bytes, and says no more.
 pub fn write_decimal(out: &mut [u8], at: usize, n: u64) -> usize
     requires { at + length (decimal n) ≤ length out.old }
     ensures { Written out.old at (decimal n) result out.new }

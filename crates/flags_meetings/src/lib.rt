@@ -68,6 +68,7 @@ fn first(s: &[u8], l: Layout) -> Cursor
 }
 
 // From the element of a cursor past those that have the key k; records stand a step apart.
+// Kept as a while: it ends by the key, and index, offset and key run along together.
 fn pass(s: &[u8], l: Layout, step: usize, c: Cursor, k: u64) -> Cursor
     requires { IsObject s.now l × (step ≡ size l.shape) × Reached s.now l c × (k < top) }
     ensures { Reached s.now l result × Passed l.count (keys s.now l) k c.index result.index }
@@ -157,6 +158,8 @@ pub fn named(marks: u16) -> Meetings
     }
 }
 
+// How elements of both objects meet, point by point.
+// Kept as a while: each cursor moves by the elements that have the point, which no range or slice gives.
 pub fn meetings_of(s: &[u8], scene: Scene, notes: &[u8]) -> Meetings
     requires { IsObject s.now scene.f × IsObject s.now scene.g × (out_of_order s.now scene.f ≡ None) × (out_of_order s.now scene.g ≡ None) × (2048 ≤ length notes.now) }
     ensures { result ≡ meetings s.now scene notes.now }
