@@ -46,7 +46,7 @@ impl<'a> Iterator for Cases<'a> {
 }
 
 // What stood before a number.
-#[derive(Clone, Copy, PartialEq)]
+#[derive(Clone, Copy)]
 enum Mark {
     Plain,
     Minus,
@@ -103,6 +103,7 @@ impl<'a> Writer<'a> {
         self.begin(Mark::Plain, coordinates);
     }
 
+    // A number of more than nine digits is that of its first nine.
     fn digit(&mut self, d: u8) {
         let number = self.number.unwrap_or(0);
         self.number = Some(if number < 100_000_000 {
@@ -116,7 +117,7 @@ impl<'a> Writer<'a> {
         match self.mark {
             Mark::Count => self.put_points(number),
             _ if self.coordinates == 0 => self.put((number % 256) as u8),
-            Mark::Minus => self.put_word(0u32.wrapping_sub(number)),
+            Mark::Minus => self.put_word(number.wrapping_neg()),
             Mark::Plain => self.put_word(number),
         }
     }
