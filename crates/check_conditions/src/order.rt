@@ -15,15 +15,12 @@ fn points_ascend(s: &[u8], l: Layout) -> bool
     ensures { Decides (out_of_order s.now l ≡ None) result }
 {
     let mut at = l.start + 2;
-    let mut i: usize = 1;
-    while i < l.count {
-        let p = bytes::point(s, at);
-        let q = bytes::point(s, at + 9);
-        if !plane::is_before(p, q) {
+    for _ in 1..l.count {
+        let next = at + 9;
+        if bytes::point(s, next) <= bytes::point(s, at) {
             return false;
         }
-        at += 9;
-        i += 1;
+        at = next;
     }
     true
 }
@@ -34,15 +31,12 @@ fn halfsegments_ascend(s: &[u8], l: Layout, step: usize) -> bool
     ensures { Decides (out_of_order s.now l ≡ None) result }
 {
     let mut at = l.start + 2;
-    let mut i: usize = 1;
-    while i < l.count {
-        let h = bytes::halfsegment(s, at);
-        let k = bytes::halfsegment(s, at + step);
-        if !plane_segments::comes_before(h, k) {
+    for _ in 1..l.count {
+        let next = at + step;
+        if !plane_segments::comes_before(bytes::halfsegment(s, at), bytes::halfsegment(s, next)) {
             return false;
         }
-        at += step;
-        i += 1;
+        at = next;
     }
     true
 }
@@ -51,8 +45,7 @@ pub fn is_ordered(s: &[u8], l: Layout) -> bool
     requires { IsObject s.now l }
     ensures { Decides (out_of_order s.now l ≡ None) result }
 {
-    let k = l.shape;
-    match k {
+    match l.shape {
         Shape::Points => points_ascend(s, l),
         Shape::Line => halfsegments_ascend(s, l, 18),
         Shape::Region => halfsegments_ascend(s, l, 19),
@@ -67,11 +60,10 @@ fn in_order(s: &[u8], l: Layout, i: usize, j: usize) -> bool
 {
     let at = records::place(l, i);
     let next = records::place(l, j);
-    let k = l.shape;
-    if scene_segments::has_segments(k) {
+    if scene_segments::has_segments(l.shape) {
         plane_segments::comes_before(bytes::halfsegment(s, at), bytes::halfsegment(s, next))
     } else {
-        plane::is_before(bytes::point(s, at), bytes::point(s, next))
+        bytes::point(s, at) < bytes::point(s, next)
     }
 }
 
@@ -79,8 +71,5 @@ pub fn is_misplaced(s: &[u8], l: Layout, i: usize) -> bool
     requires { IsObject s.now l × (i < l.count) }
     ensures { result ≡ is_misplaced s.now l i }
 {
-    if i == 0 {
-        return false;
-    }
-    !in_order(s, l, i - 1, i)
+    i != 0 && !in_order(s, l, i - 1, i)
 }
