@@ -10,6 +10,7 @@ use scene::{Layout, Shape, bytes, records};
 
 // ---- an object in one pass
 
+// Kept beside `halfsegments_ascend`: one function over the test of two records would have to say of it, in its contract, all that the two loops say.
 fn points_ascend(s: &[u8], l: Layout) -> bool
     requires { IsObject s.now l × (l.shape ≡ Points) }
     ensures { Decides (out_of_order s.now l ≡ None) result }

@@ -98,7 +98,7 @@ pub fn touches_from(s: &[u8], l: Layout, t: Segment, k: usize) -> bool
 }
 
 // How many segments of l pass a test?
-pub fn count<F: Fn(Segment) -> bool>(s: &[u8], l: Layout, test: F) -> usize
+fn count<F: Fn(Segment) -> bool>(s: &[u8], l: Layout, test: F) -> usize
     requires { IsObject s.now l × TakesSegments (F.pre test) }
     ensures { (passes : Segment → Bool) → Tests (F.post test) passes → result ≡ count passes (segments s.now l) }
 {
