@@ -15,6 +15,7 @@ fn point_at(s: &[u8], l: Layout, i: usize) -> Point
     plane_segments::dominating_point(bytes::halfsegment(s, records::place(l, i)))
 }
 
+#[tactic(auto, using(plane::proofs::Compared::same_points))]
 fn is_first_at(s: &[u8], l: Layout, i: usize) -> bool
     requires { IsObject s.now l × (i < l.count) × T (has_segments l.shape) }
     ensures { result ≡ is_first_at s.now l i }

@@ -1,40 +1,44 @@
 // Condition 10: each element comes strictly after the one before. First of an object in one pass, where the offset runs along with the index and where a
 // fault lies is not said; then as a test of one element, by its index, which finds the place.
-ghost use Rattle.std.specs.Prelude.{◌≡◌, ◌<◌, T};
+ghost use Rattle.std.specs.Prelude.{◌≡◌, ◌+◌, ◌<◌, ◌≤◌, ◌^◌, ℕ, List, length};
 ghost use Rattle.whole.specs.Decides.{Decides};
-ghost use Rattle.scene.specs.declared.Shape.TheVariants.{Points};
-ghost use Rattle.scene.specs.Read.{size, IsObject};
-ghost use Rattle.scene.specs.Conditions.{has_segments, is_in_order, is_misplaced, out_of_order};
+ghost use Rattle.plane.specs.Plane.{before, comes_before};
+ghost use Rattle.scene.specs.Read.{point_at, halfsegment_at, size, after, IsObject};
+ghost use Rattle.scene.specs.Conditions.{is_in_order, is_misplaced, out_of_order};
+ghost use Rattle.scene_segments.specs.Walked.{Readable};
+ghost use Rattle.check_conditions.specs.Ordered.{AsksNeighbours, TellsOrder};
 
 use scene::{Layout, Shape, bytes, records};
 
-// ---- an object in one pass
+// ---- the records at two offsets
 
-// Kept beside `halfsegments_ascend`: one function over the test of two records would have to say of it, in its contract, all that the two loops say.
-fn points_ascend(s: &[u8], l: Layout) -> bool
-    requires { IsObject s.now l × (l.shape ≡ Points) }
-    ensures { Decides (out_of_order s.now l ≡ None) result }
+#[tactic(auto, unfolding(plane::specs::Plane::before))]
+fn are_points_in_order(s: &[u8], at: usize, next: usize) -> bool
+    requires { (at + 9 ≤ length s.now) × (next + 9 ≤ length s.now) }
+    ensures { result ≡ before (point_at s.now at) (point_at s.now next) }
 {
-    let mut at = l.start + 2;
-    for _ in 1..l.count {
-        let next = at + 9;
-        if bytes::point(s, next) <= bytes::point(s, at) {
-            return false;
-        }
-        at = next;
-    }
-    true
+    bytes::point(s, at) < bytes::point(s, next)
 }
 
-// A record takes `step` bytes: a literal at each call, so that the loop is compiled for each type.
-fn halfsegments_ascend(s: &[u8], l: Layout, step: usize) -> bool
-    requires { IsObject s.now l × T (has_segments l.shape) × (step ≡ size l.shape) }
-    ensures { Decides (out_of_order s.now l ≡ None) result }
+fn are_halves_in_order(s: &[u8], at: usize, next: usize) -> bool
+    requires { Readable s.now at × Readable s.now next }
+    ensures { result ≡ comes_before (halfsegment_at s.now at) (halfsegment_at s.now next) }
+{
+    plane_segments::comes_before(bytes::halfsegment(s, at), bytes::halfsegment(s, next))
+}
+
+// ---- an object in one pass
+
+// Does each record come after the one before, by a test of the two at their offsets? A record takes `step` bytes: a literal at each call, so that the loop is
+// compiled for each type.
+fn ascends<F: Fn(usize, usize) -> bool>(l: Layout, step: usize, in_order: F) -> bool
+    requires { (after l < 2 ^ 64) × (step ≡ size l.shape) × AsksNeighbours l (F.pre in_order) }
+    ensures { (s : List ℕ) → TellsOrder l s (F.post in_order) → Decides (out_of_order s l ≡ None) result }
 {
     let mut at = l.start + 2;
     for _ in 1..l.count {
         let next = at + step;
-        if !plane_segments::comes_before(bytes::halfsegment(s, at), bytes::halfsegment(s, next)) {
+        if !in_order(at, next) {
             return false;
         }
         at = next;
@@ -47,9 +51,9 @@ pub fn is_ordered(s: &[u8], l: Layout) -> bool
     ensures { Decides (out_of_order s.now l ≡ None) result }
 {
     match l.shape {
-        Shape::Points => points_ascend(s, l),
-        Shape::Line => halfsegments_ascend(s, l, 18),
-        Shape::Region => halfsegments_ascend(s, l, 19),
+        Shape::Points => ascends(l, 9, |at, next| are_points_in_order(s, at, next)),
+        Shape::Line => ascends(l, 18, |at, next| are_halves_in_order(s, at, next)),
+        Shape::Region => ascends(l, 19, |at, next| are_halves_in_order(s, at, next)),
     }
 }
 
@@ -62,9 +66,9 @@ fn in_order(s: &[u8], l: Layout, i: usize, j: usize) -> bool
     let at = records::place(l, i);
     let next = records::place(l, j);
     if scene_segments::has_segments(l.shape) {
-        plane_segments::comes_before(bytes::halfsegment(s, at), bytes::halfsegment(s, next))
+        are_halves_in_order(s, at, next)
     } else {
-        bytes::point(s, at) < bytes::point(s, next)
+        are_points_in_order(s, at, next)
     }
 }
 
