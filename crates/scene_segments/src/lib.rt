@@ -2,10 +2,10 @@
 // halfsegments.
 #![tactic(auto)]
 
-ghost use Rattle.std.specs.Prelude.{◌≡◌, Bool, ◌*◌, ◌≤◌, T};
+ghost use Rattle.std.specs.Prelude.{◌≡◌, Bool, ◌+◌, ◌*◌, ◌≤◌, length, T};
 ghost use Rattle.whole.specs.Count.{count};
 ghost use Rattle.plane.specs.Plane.{limit, within, segment_in_range, ordered, grid, halved, midpoint, is_end, ends_at, counts_below, counts_below_left, touch};
-ghost use Rattle.scene.specs.Read.{segment_at, IsObject};
+ghost use Rattle.scene.specs.Read.{segment_at, halfsegment_at, IsObject};
 ghost use Rattle.scene.specs.Conditions.{has_segments, is_region, segments};
 ghost use Rattle.scene_segments.specs.Walked.{Readable, left_with, beyond, is_below, TakesSegments, Tests, touches_from, count_below};
 ghost use Rattle.plane.specs.declared.Segment.{Segment};
@@ -35,11 +35,18 @@ pub fn is_region(k: Shape) -> bool
 
 // ---- the tests on the record at an offset
 
+fn is_left_at(s: &[u8], at: usize) -> bool
+    requires { at + 18 ≤ length s.now }
+    ensures { result ≡ (halfsegment_at s.now at).is_left }
+{
+    s[at + 17] == 1
+}
+
 fn is_beyond(s: &[u8], at: usize, t: Segment) -> bool
     requires { Readable s.now at }
     ensures { result ≡ left_with (beyond t) s.now at }
 {
-    s[at + 17] == 1 && t.right.x < bytes::coordinate(s, at + 1)
+    is_left_at(s, at) && t.right.x < bytes::coordinate(s, at + 1)
 }
 
 fn is_touched(t: Segment, u: Segment) -> bool
@@ -53,7 +60,7 @@ fn is_touched_at(s: &[u8], at: usize, t: Segment) -> bool
     requires { Readable s.now at × T (ordered (segment_at s.now at)) × T (segment_in_range t) × T (ordered t) }
     ensures { result ≡ left_with (touch t) s.now at }
 {
-    s[at + 17] == 1 && is_touched(t, bytes::segment(s, at))
+    is_left_at(s, at) && is_touched(t, bytes::segment(s, at))
 }
 
 // Does u count for the ia of t, the doubled coordinates of whose midpoint are m's?
@@ -72,7 +79,7 @@ fn is_below_at(s: &[u8], at: usize, t: Segment, m: Point) -> bool
     requires { Readable s.now at × T (within (2 * limit) m) × (halved m ≡ midpoint t) }
     ensures { result ≡ left_with (is_below t) s.now at }
 {
-    s[at + 17] == 1 && is_below(bytes::segment(s, at), t, m)
+    is_left_at(s, at) && is_below(bytes::segment(s, at), t, m)
 }
 
 // ---- the searches
@@ -108,7 +115,7 @@ fn count<F: Fn(Segment) -> bool>(s: &[u8], l: Layout, test: F) -> usize
     let mut n = 0;
     for i in 0..l.count {
         let at = records::place(l, i);
-        if s[at + 17] == 1 && test(bytes::segment(s, at)) {
+        if is_left_at(s, at) && test(bytes::segment(s, at)) {
             n += 1;
         }
     }
