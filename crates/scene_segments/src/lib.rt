@@ -139,6 +139,7 @@ pub fn count_below(s: &[u8], l: Layout, m: Point) -> usize
 }
 
 // How many segments of l count for the ia of t? The search ends where one begins right of t's end.
+// Kept beside `touches_from`, which ends there too: that one answers at the first segment, and this one counts.
 pub fn count_for_ia(s: &[u8], l: Layout, t: Segment) -> usize
     requires { IsObject s.now l × T (has_segments l.shape) × T (segment_in_range t) }
     ensures { result ≡ count_below s.now l t }
