@@ -16,11 +16,9 @@ pub fn explored(scene: Scene, both: Vectors) -> Explored
 {
     let first = order::given_first(scene);
     let second = order::given_second(scene);
-    let f = first.shape;
-    let g = second.shape;
     Explored {
-        f,
-        g,
+        f: first.shape,
+        g: second.shape,
         v: both.f,
         w: both.g,
         f_empty: first.count == 0,

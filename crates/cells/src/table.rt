@@ -63,6 +63,7 @@ fn length_or_points(segment: bool, point: bool) -> Dimension
 }
 
 // One matrix for each pair of types that does not descend: rows are interior, boundary, exterior of F, columns the same of G.
+// Kept as a function each: every one is a table of nine cells with names of its own for the bits.
 fn points_points(v: u16, w: u16) -> [[Dimension; 3]; 3]
     ensures { result ≡ matrix_of Shape.Points Shape.Points v w true true }
 {

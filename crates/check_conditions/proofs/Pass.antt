@@ -6,12 +6,10 @@ use native.Mathlib.Omega.{arith}
 use mathlib.Core.Path.{◌≡◌, refl, sym, ap, ◌∙◌}
 use mathlib.Core.Bool.{Bool, true, false, not}
 use mathlib.Core.List.{List}
-use lib.ListN.{length}
 use borrow.Author.Tests.{lt-ltb}
 use Rattle.scene.specs.declared.Layout.{Layout}
-use Rattle.scene.specs.Read.{size, place, IsObject}
+use Rattle.scene.specs.Read.{size, place}
 use Rattle.scene.specs.Conditions.{earliest, is_in_order, is_misplaced, out_of_order}
-use Rattle.scene_segments.proofs.Elements.{fits}
 use Rattle.scene_segments.proofs.Indices.{not_nothing}
 use Rattle.scene_segments.proofs.Walk.{between, all_between, earliest_here, earliest_later, earliest_none}
 
@@ -24,7 +22,6 @@ pub record Reached (s : List ℕ) (l : Layout) (at i : ℕ) : Type 0 where
 -- a turn at the element i, whose records take `step` bytes each
 pub record Turn (s : List ℕ) (l : Layout) (step at i : ℕ) : Type 0 where
   pub next : at + step ≡ place l i
-  pub fits : at + step + step ≤ length s
   pub on : is_in_order s l (i - 1) i ≡ true → Reached s l (at + step) (i + 1)
   pub off : is_in_order s l (i - 1) i ≡ false → out_of_order s l ≡ None → ⊥
 
@@ -44,10 +41,9 @@ module _ (s : List ℕ) (l : Layout) where
   pub done : {at i : ℕ} → Reached s l at i → l.count ≤ i → out_of_order s l ≡ None
   done {at} {i} r h = r.rest ∙ earliest_none l (is_misplaced s l) i l.count h
 
-  pub turn : {step at i : ℕ} → IsObject s l → step ≡ size l.shape → Reached s l at i → i < l.count → Turn s l step at i
-  turn {step} {at} {i} is e r h = record {
+  pub turn : {step at i : ℕ} → step ≡ size l.shape → Reached s l at i → i < l.count → Turn s l step at i
+  turn {step} {at} {i} e r h = record {
     next = next;
-    fits = omega (arith, next, fits s l is i h);
     on = λ o. record {
       after_first = omega arith;
       here = next ∙ ap (place l) back;

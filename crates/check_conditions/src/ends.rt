@@ -15,27 +15,19 @@ fn point_at(s: &[u8], l: Layout, i: usize) -> Point
     plane_segments::dominating_point(bytes::halfsegment(s, records::place(l, i)))
 }
 
+#[tactic(auto, using(plane::proofs::Compared::same_points))]
 fn is_first_at(s: &[u8], l: Layout, i: usize) -> bool
     requires { IsObject s.now l × (i < l.count) × T (has_segments l.shape) }
     ensures { result ≡ is_first_at s.now l i }
 {
-    if i == 0 {
-        return true;
-    }
-    !plane::is_same_point(point_at(s, l, i - 1), point_at(s, l, i))
+    i == 0 || point_at(s, l, i - 1) != point_at(s, l, i)
 }
 
 pub fn ends_oddly(s: &[u8], l: Layout, i: usize) -> bool
     requires { IsObject s.now l × (i < l.count) }
     ensures { result ≡ begins_oddly s.now l i }
 {
-    let k = l.shape;
-    if !scene_segments::is_region(k) {
-        return false;
-    }
-    if !is_first_at(s, l, i) {
-        return false;
-    }
-    let p = point_at(s, l, i);
-    scene_segments::count_ends(s, l, p) % 2 == 1
+    scene_segments::is_region(l.shape)
+        && is_first_at(s, l, i)
+        && scene_segments::count_ends(s, l, point_at(s, l, i)) % 2 == 1
 }

@@ -23,8 +23,7 @@ pub fn has_wrong_ia(s: &[u8], l: Layout, i: usize) -> bool
     requires { IsObject s.now l × (i < l.count) }
     ensures { result ≡ is_mismarked s.now l i }
 {
-    let k = l.shape;
-    if !scene_segments::is_region(k) {
+    if !scene_segments::is_region(l.shape) {
         return false;
     }
     let at = records::place(l, i);

@@ -1,48 +1,47 @@
 // Condition 10: each element comes strictly after the one before. First of an object in one pass, where the offset runs along with the index and where a
 // fault lies is not said; then as a test of one element, by its index, which finds the place.
-ghost use Rattle.std.specs.Prelude.{◌≡◌, ◌<◌, T};
+ghost use Rattle.std.specs.Prelude.{◌≡◌, ◌+◌, ◌<◌, ◌≤◌, ◌^◌, ℕ, List, length};
 ghost use Rattle.whole.specs.Decides.{Decides};
-ghost use Rattle.scene.specs.declared.Shape.TheVariants.{Points};
-ghost use Rattle.scene.specs.Read.{size, IsObject};
-ghost use Rattle.scene.specs.Conditions.{has_segments, is_in_order, is_misplaced, out_of_order};
+ghost use Rattle.plane.specs.Plane.{before, comes_before};
+ghost use Rattle.scene.specs.Read.{point_at, halfsegment_at, size, after, IsObject};
+ghost use Rattle.scene.specs.Conditions.{is_in_order, is_misplaced, out_of_order};
+ghost use Rattle.scene_segments.specs.Walked.{Readable};
+ghost use Rattle.check_conditions.specs.Ordered.{AsksNeighbours, TellsOrder};
 
 use scene::{Layout, Shape, bytes, records};
 
-// ---- an object in one pass
+// ---- the records at two offsets
 
-fn points_ascend(s: &[u8], l: Layout) -> bool
-    requires { IsObject s.now l × (l.shape ≡ Points) }
-    ensures { Decides (out_of_order s.now l ≡ None) result }
+#[tactic(auto, unfolding(plane::specs::Plane::before))]
+fn are_points_in_order(s: &[u8], at: usize, next: usize) -> bool
+    requires { (at + 9 ≤ length s.now) × (next + 9 ≤ length s.now) }
+    ensures { result ≡ before (point_at s.now at) (point_at s.now next) }
 {
-    let mut at = l.start + 2;
-    let mut i: usize = 1;
-    while i < l.count {
-        let p = bytes::point(s, at);
-        let q = bytes::point(s, at + 9);
-        if !plane::is_before(p, q) {
-            return false;
-        }
-        at += 9;
-        i += 1;
-    }
-    true
+    bytes::point(s, at) < bytes::point(s, next)
 }
 
-// A record takes `step` bytes: a literal at each call, so that the loop is compiled for each type.
-fn halfsegments_ascend(s: &[u8], l: Layout, step: usize) -> bool
-    requires { IsObject s.now l × T (has_segments l.shape) × (step ≡ size l.shape) }
-    ensures { Decides (out_of_order s.now l ≡ None) result }
+fn are_halves_in_order(s: &[u8], at: usize, next: usize) -> bool
+    requires { Readable s.now at × Readable s.now next }
+    ensures { result ≡ comes_before (halfsegment_at s.now at) (halfsegment_at s.now next) }
+{
+    plane_segments::comes_before(bytes::halfsegment(s, at), bytes::halfsegment(s, next))
+}
+
+// ---- an object in one pass
+
+// Does each record come after the one before, by a test of the two at their offsets? A record takes `step` bytes: a literal at each call, so that the loop is
+// compiled for each type.
+fn ascends<F: Fn(usize, usize) -> bool>(l: Layout, step: usize, in_order: F) -> bool
+    requires { (after l < 2 ^ 64) × (step ≡ size l.shape) × AsksNeighbours l (F.pre in_order) }
+    ensures { (s : List ℕ) → TellsOrder l s (F.post in_order) → Decides (out_of_order s l ≡ None) result }
 {
     let mut at = l.start + 2;
-    let mut i: usize = 1;
-    while i < l.count {
-        let h = bytes::halfsegment(s, at);
-        let k = bytes::halfsegment(s, at + step);
-        if !plane_segments::comes_before(h, k) {
+    for _ in 1..l.count {
+        let next = at + step;
+        if !in_order(at, next) {
             return false;
         }
-        at += step;
-        i += 1;
+        at = next;
     }
     true
 }
@@ -51,11 +50,10 @@ pub fn is_ordered(s: &[u8], l: Layout) -> bool
     requires { IsObject s.now l }
     ensures { Decides (out_of_order s.now l ≡ None) result }
 {
-    let k = l.shape;
-    match k {
-        Shape::Points => points_ascend(s, l),
-        Shape::Line => halfsegments_ascend(s, l, 18),
-        Shape::Region => halfsegments_ascend(s, l, 19),
+    match l.shape {
+        Shape::Points => ascends(l, 9, |at, next| are_points_in_order(s, at, next)),
+        Shape::Line => ascends(l, 18, |at, next| are_halves_in_order(s, at, next)),
+        Shape::Region => ascends(l, 19, |at, next| are_halves_in_order(s, at, next)),
     }
 }
 
@@ -67,11 +65,10 @@ fn in_order(s: &[u8], l: Layout, i: usize, j: usize) -> bool
 {
     let at = records::place(l, i);
     let next = records::place(l, j);
-    let k = l.shape;
-    if scene_segments::has_segments(k) {
-        plane_segments::comes_before(bytes::halfsegment(s, at), bytes::halfsegment(s, next))
+    if scene_segments::has_segments(l.shape) {
+        are_halves_in_order(s, at, next)
     } else {
-        plane::is_before(bytes::point(s, at), bytes::point(s, next))
+        are_points_in_order(s, at, next)
     }
 }
 
@@ -79,8 +76,5 @@ pub fn is_misplaced(s: &[u8], l: Layout, i: usize) -> bool
     requires { IsObject s.now l × (i < l.count) }
     ensures { result ≡ is_misplaced s.now l i }
 {
-    if i == 0 {
-        return false;
-    }
-    !in_order(s, l, i - 1, i)
+    i != 0 && !in_order(s, l, i - 1, i)
 }

@@ -16,8 +16,7 @@ fn ia_at(s: &[u8], k: Shape, at: usize) -> bool
     ensures { result ≡ (is_region k && ia_at s.now at) }
 {
     match k {
-        Shape::Points => false,
-        Shape::Line => false,
+        Shape::Points | Shape::Line => false,
         Shape::Region => bytes::ia(s, at),
     }
 }
@@ -27,16 +26,11 @@ fn is_partner_at(s: &[u8], k: Shape, at: usize, h: Halfsegment, ia: bool) -> boo
     ensures { result ≡ partners h ia (halfsegment_at s.now at) (is_region k && ia_at s.now at) }
 {
     let other = bytes::halfsegment(s, at);
-    if h.is_left == other.is_left {
-        return false;
-    }
-    if !plane::is_same_segment(h.segment, other.segment) {
-        return false;
-    }
-    ia == ia_at(s, k, at)
+    h.is_left != other.is_left && h.segment == other.segment && ia == ia_at(s, k, at)
 }
 
 // Where h stands among the elements, or would.
+// Kept as a loop: the library's search by halving wants a slice, and here each element is read out of the bytes.
 fn place_for(s: &[u8], l: Layout, h: Halfsegment) -> usize
     requires { IsObject s.now l × T (has_segments l.shape) × T (segment_in_range h.segment) }
     ensures { result ≡ place_for s.now l h }
@@ -58,26 +52,19 @@ fn has_partner(s: &[u8], l: Layout, i: usize) -> bool
     requires { IsObject s.now l × (i < l.count) × T (has_segments l.shape) }
     ensures { result ≡ has_partner s.now l i }
 {
-    let k = l.shape;
     let own = records::place(l, i);
     let h = bytes::halfsegment(s, own);
-    let segment = h.segment;
-    let is_left = !h.is_left;
-    let j = place_for(s, l, Halfsegment { segment, is_left });
-    if j < l.count {
-        is_partner_at(s, k, records::place(l, j), h, ia_at(s, k, own))
-    } else {
-        false
-    }
+    let turned = Halfsegment {
+        is_left: !h.is_left,
+        ..h
+    };
+    let j = place_for(s, l, turned);
+    j < l.count && is_partner_at(s, l.shape, records::place(l, j), h, ia_at(s, l.shape, own))
 }
 
 pub fn is_unpaired(s: &[u8], l: Layout, i: usize) -> bool
     requires { IsObject s.now l × (i < l.count) }
     ensures { result ≡ (has_segments l.shape && not (has_partner s.now l i)) }
 {
-    let k = l.shape;
-    if !scene_segments::has_segments(k) {
-        return false;
-    }
-    !has_partner(s, l, i)
+    scene_segments::has_segments(l.shape) && !has_partner(s, l, i)
 }

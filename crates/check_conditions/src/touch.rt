@@ -11,8 +11,7 @@ pub fn is_touching(s: &[u8], l: Layout, other: Layout, k: usize, i: usize) -> bo
     requires { IsObject s.now l × IsObject s.now other × (k ≤ other.count) × (i < l.count) }
     ensures { result ≡ touches_any s.now l other k i }
 {
-    let shape = l.shape;
-    if !scene_segments::has_segments(shape) {
+    if !scene_segments::has_segments(l.shape) {
         return false;
     }
     let h = bytes::halfsegment(s, records::place(l, i));

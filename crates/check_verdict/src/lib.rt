@@ -139,6 +139,7 @@ pub fn check_scene(s: &[u8]) -> Result<Scene, Refusal>
 }
 
 // One object's bytes alone, and what the verdict says of the points that its segments share.
+// Kept beside `check_scene`: reading, verdict and meaning are each another, and only the two `?` are alike.
 pub fn check_object(s: &[u8]) -> Result<Layout, Refusal>
     ensures { (result ≡ check_object s.now) × CheckedObjectMeans s.now result }
 {

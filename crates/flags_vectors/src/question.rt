@@ -23,11 +23,7 @@ fn wanted_meetings(s: &[u8], scene: Scene, masks: FlagMasks, notes: &[u8]) -> Me
     requires { (check_scene s.now ≡ Ok scene) × (2048 ≤ length notes.now) }
     ensures { T (reads_meetings scene.f.shape scene.g.shape masks.f masks.g) → result ≡ meetings s.now scene notes.now }
 {
-    let f = scene.f;
-    let g = scene.g;
-    let of_f = f.shape;
-    let of_g = g.shape;
-    if walks::reads_meetings(of_f, of_g, masks.f, masks.g) {
+    if walks::reads_meetings(scene.f.shape, scene.g.shape, masks.f, masks.g) {
         flags_meetings::meetings_of(s, scene, notes)
     } else {
         flags_meetings::named(0)
@@ -40,11 +36,7 @@ fn wanted_classes(s: &[u8], scene: Scene, masks: FlagMasks, notes: &[u8]) -> Cla
     ensures { T (reads_classes scene.f.shape scene.g.shape masks.f masks.g)
         → (result.f ≡ classes_of_f s.now scene notes.now) × (result.g ≡ classes_of_g s.now scene notes.now) }
 {
-    let f = scene.f;
-    let g = scene.g;
-    let of_f = f.shape;
-    let of_g = g.shape;
-    if walks::reads_classes(of_f, of_g, masks.f, masks.g) {
+    if walks::reads_classes(scene.f.shape, scene.g.shape, masks.f, masks.g) {
         flags_classes::classes_of(s, scene, notes)
     } else {
         ClassesOfBoth {
@@ -54,39 +46,16 @@ fn wanted_classes(s: &[u8], scene: Scene, masks: FlagMasks, notes: &[u8]) -> Cla
     }
 }
 
-// The flags that are wanted of F, and of G: an object of which none is wanted has none looked up.
-fn wanted_of_f(f: Shape, g: Shape, m: Meetings, c: Classes, mask: u16) -> u16
-    ensures { result ≡ only mask (pack (flags_of_f_by f g m c)) }
-{
-    if mask == 0 {
-        return 0;
-    }
-    flags_table::flags_of_f(f, g, m, c) & mask
-}
-
-fn wanted_of_g(f: Shape, g: Shape, m: Meetings, c: Classes, mask: u16) -> u16
-    ensures { result ≡ only mask (pack (flags_of_g_by f g m c)) }
-{
-    if mask == 0 {
-        return 0;
-    }
-    flags_table::flags_of_g(f, g, m, c) & mask
-}
-
 // The wanted flags of both objects of a scene that is taken, from what the sweep noted.
 fn swept_vectors(s: &[u8], scene: Scene, masks: FlagMasks, notes: &[u8]) -> Vectors
     requires { (check_scene s.now ≡ Ok scene) × (2048 ≤ length notes.now) × Noted s.now scene notes.now }
     ensures { result ≡ scene_vectors s.now scene masks }
 {
-    let f = scene.f;
-    let g = scene.g;
-    let of_f = f.shape;
-    let of_g = g.shape;
     let met = wanted_meetings(s, scene, masks, notes);
     let beside = wanted_classes(s, scene, masks, notes);
     Vectors {
-        f: wanted_of_f(of_f, of_g, met, beside.f, masks.f),
-        g: wanted_of_g(of_f, of_g, met, beside.g, masks.g),
+        f: flags_table::flags_of_f(scene.f.shape, scene.g.shape, met, beside.f) & masks.f,
+        g: flags_table::flags_of_g(scene.f.shape, scene.g.shape, met, beside.g) & masks.g,
     }
 }
 

@@ -123,6 +123,7 @@ pub fn counts_below_left(s: Segment, m: Point) -> bool
 }
 
 // Does the line through s have p and q strictly on opposite sides?
+// Kept as three arms: the turn opposite to a given one has no shorter name.
 fn separates(s: Segment, p: Point, q: Point) -> bool
     requires { T (segment_in_range s) × T (in_range p) × T (in_range q) }
     ensures { result ≡ opposite (side s.left s.right p) (side s.left s.right q) }

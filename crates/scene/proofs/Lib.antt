@@ -2,6 +2,7 @@
 pub mod Flags
 pub mod Outcomes
 pub mod Passed
+pub mod Shapes
 pub mod Taken
 pub mod Given
 pub mod Indices

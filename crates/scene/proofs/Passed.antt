@@ -3,7 +3,6 @@ use Rattle.scene.proofs.Outcomes.{never_taken, same_taken}
 use Rattle.std.specs.Prelude.{Err, Ok}
 use Rattle.scene.specs.Read.{Record}
 use Prim.Native.Nat.{ℕ, ◌+◌, ◌<◌, ◌≤◌}
-use native.Mathlib.Omega.{arith}
 use mathlib.Core.Path.{◌≡◌, refl, subst, ◌∙◌}
 use mathlib.Core.Bool.{Bool, true, false}
 use mathlib.Core.List.{List}

@@ -5,8 +5,8 @@
 ghost use Rattle.std.specs.Prelude.{◌≡◌};
 ghost use Rattle.scene.specs.Read.{flaw_number, number_of};
 
-// An object's type: 1, 2, 3 in a type record.
-#[derive(Clone, Copy)]
+// An object's type: 1, 2, 3 in a type record, and in the order of these numbers.
+#[derive(Clone, Copy, PartialEq, Eq, PartialOrd, Ord)]
 pub enum Shape {
     Points,
     Line,

@@ -2,15 +2,13 @@
 ghost use Rattle.std.specs.Prelude.{◌≡◌};
 ghost use Rattle.scene.specs.Read.{arranged, turned, given_first, given_second};
 
-use crate::{Layout, Scene, records};
+use crate::{Layout, Scene};
 
 // The scene of two objects as the bytes have them.
 pub fn arranged(a: Layout, b: Layout) -> Scene
     ensures { result ≡ arranged a b }
 {
-    let of_a = a.shape;
-    let of_b = b.shape;
-    if records::shape_number(of_b) < records::shape_number(of_a) {
+    if b.shape < a.shape {
         Scene { f: b, g: a }
     } else {
         Scene { f: a, g: b }
@@ -21,9 +19,7 @@ pub fn arranged(a: Layout, b: Layout) -> Scene
 pub fn is_turned(scene: Scene) -> bool
     ensures { result ≡ turned scene }
 {
-    let f = scene.f;
-    let g = scene.g;
-    g.start < f.start
+    scene.g.start < scene.f.start
 }
 
 // The object that the bytes have first, and the one that they have second.

@@ -4,19 +4,24 @@ ghost use Rattle.scene.specs.Read.{kind_of, shape_number, shape_of, size, place,
 
 use crate::{Kind, Layout, Shape};
 
-pub fn kind(b: u8) -> Kind
-    ensures { result ≡ kind_of b }
-{
-    match b {
-        84 => Kind::Start,
-        80 => Kind::Element(Shape::Points),
-        76 => Kind::Element(Shape::Line),
-        82 => Kind::Element(Shape::Region),
-        69 => Kind::End,
-        _ => Kind::Unknown,
+impl From<u8> for Kind {
+    ghost from_gives = { λ byte kind. kind ≡ kind_of byte };
+
+    #[tactic(auto, unfolding(crate::specs::Read::kind_of))]
+    fn from(byte: u8) -> Kind {
+        match byte {
+            84 => Kind::Start,
+            80 => Kind::Element(Shape::Points),
+            76 => Kind::Element(Shape::Line),
+            82 => Kind::Element(Shape::Region),
+            69 => Kind::End,
+            _ => Kind::Unknown,
+        }
     }
 }
 
+// Kept as a function and no `From`: of the numbers that no type has, whose records are refused, it makes a region's.
+#[tactic(auto, unfolding(crate::specs::Read::shape_of))]
 pub fn shape(n: u8) -> Shape
     ensures { result ≡ shape_of n }
 {
@@ -53,8 +58,7 @@ pub fn place(l: Layout, i: usize) -> usize
     requires { place l i < 2 ^ 64 }
     ensures { result ≡ place l i }
 {
-    let k = l.shape;
-    l.start + 2 + i * size(k)
+    l.start + 2 + i * size(l.shape)
 }
 
 // The first offset after an object.

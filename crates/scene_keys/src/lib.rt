@@ -48,8 +48,7 @@ fn point_of(s: &[u8], k: Shape, at: usize) -> Point
 {
     match k {
         Shape::Points => bytes::point(s, at),
-        Shape::Line => dominating(s, at),
-        Shape::Region => dominating(s, at),
+        Shape::Line | Shape::Region => dominating(s, at),
     }
 }
 
@@ -59,8 +58,7 @@ pub fn key_of(s: &[u8], l: Layout, i: usize, at: usize) -> u64
     ensures { result ≡ next_key s.now l i }
 {
     if i < l.count {
-        let k = l.shape;
-        key(point_of(s, k, at))
+        key(point_of(s, l.shape, at))
     } else {
         TOP
     }

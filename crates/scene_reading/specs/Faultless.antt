@@ -5,13 +5,17 @@ use Rattle.plane.specs.declared.Segment.{Segment}
 use Rattle.plane.specs.Plane.{segment_in_range, ordered}
 use Rattle.scene.specs.declared.Shape.{Shape}
 use Rattle.scene.specs.declared.Kind.TheVariants.{Element}
-use Rattle.scene.specs.Read.{record_at, stands_in, size, most}
+use Rattle.scene.specs.Read.{record_at, stands_in, fields_good, coordinates_good, ends_good, size, most}
 
 -- neither 4 nor 5
 abbrev pub is_sound : Segment → Bool
 is_sound t = segment_in_range t && ordered t
 
 module _ (s : List ℕ) (k : Shape) where
+  -- of an element at an offset neither 3 nor 4 nor 5
+  abbrev pub are_fields_good : ℕ → Bool
+  are_fields_good at = fields_good s at (Element k) && (coordinates_good s at (Element k) && ends_good s at (Element k))
+
   -- the record at an offset is an element without fault, where one more may stand
   abbrev pub IsElement : ℕ → Type 0
   IsElement at = record_at s at (stands_in k) false ≡ Ok (Element k)

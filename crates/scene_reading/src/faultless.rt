@@ -1,16 +1,30 @@
 // How many elements in a row are without fault: all that stand before the first record that is none, as far as an object may have them. It is reading's one
 // loop over elements. What is wrong with the record at which it stops, if anything is, reading decides.
-ghost use Rattle.std.specs.Prelude.{◌≡◌, ◌≤◌, length, T};
-ghost use Rattle.scene_reading.specs.Faultless.{is_sound, IsElement, Faultless};
+ghost use Rattle.std.specs.Prelude.{◌≡◌, ◌+◌, ◌≤◌, length, T};
+ghost use Rattle.scene.specs.Read.{size};
+ghost use Rattle.scene_reading.specs.Faultless.{is_sound, are_fields_good, IsElement, Faultless};
 
 use plane::Segment;
-use scene::{Shape, bytes, records};
+use scene::{Kind, Shape, bytes, records};
 
 // Is a segment in range, its left end before its right one?
+#[tactic(auto, unfolding(plane::specs::Plane::ordered, plane::specs::Plane::before))]
 fn is_sound(t: Segment) -> bool
     ensures { result ≡ is_sound t }
 {
-    plane::is_in_range(t.left) && plane::is_in_range(t.right) && plane::is_before(t.left, t.right)
+    plane::is_in_range(t.left) && plane::is_in_range(t.right) && t.left < t.right
+}
+
+// Are the fields of an element without fault?
+fn are_fields_good(s: &[u8], k: Shape, at: usize) -> bool
+    requires { at + size k ≤ length s.now }
+    ensures { result ≡ are_fields_good s.now k at }
+{
+    match k {
+        Shape::Points => plane::is_in_range(bytes::point(s, at)),
+        Shape::Line => s[at + 17] <= 1 && is_sound(bytes::segment(s, at)),
+        Shape::Region => s[at + 17] <= 1 && s[at + 18] <= 1 && is_sound(bytes::segment(s, at)),
+    }
 }
 
 // Does an element of the object's type stand at an offset, without fault?
@@ -21,27 +35,9 @@ fn is_faultless(s: &[u8], k: Shape, at: usize) -> bool
     if s.len() - at < records::size(k) {
         return false;
     }
-    let kind = s[at];
-    match kind {
-        80 => {
-            let Shape::Points = k else {
-                return false;
-            };
-            plane::is_in_range(bytes::point(s, at))
-        }
-        76 => {
-            let Shape::Line = k else {
-                return false;
-            };
-            s[at + 17] <= 1 && is_sound(bytes::segment(s, at))
-        }
-        82 => {
-            let Shape::Region = k else {
-                return false;
-            };
-            s[at + 17] <= 1 && s[at + 18] <= 1 && is_sound(bytes::segment(s, at))
-        }
-        _ => false,
+    match Kind::from(s[at]) {
+        Kind::Element(e) => e == k && are_fields_good(s, k, at),
+        Kind::Start | Kind::End | Kind::Unknown => false,
     }
 }
 

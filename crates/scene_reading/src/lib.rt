@@ -20,13 +20,10 @@ fn bad(reason: Reason, place: usize) -> Result<Kind, Refusal>
 fn segment_fields(segment: Segment, at: usize, k: Shape) -> Result<Kind, Refusal>
     ensures { result ≡ segment_fields segment at k }
 {
-    if !plane::is_in_range(segment.left) {
+    if !plane::is_in_range(segment.left) || !plane::is_in_range(segment.right) {
         return bad(Reason::OutOfRange, at);
     }
-    if !plane::is_in_range(segment.right) {
-        return bad(Reason::OutOfRange, at);
-    }
-    if !plane::is_before(segment.left, segment.right) {
+    if segment.right <= segment.left {
         return bad(Reason::EndsReversed, at);
     }
     Ok(Kind::Element(k))
@@ -69,9 +66,9 @@ fn element_record(s: &[u8], at: usize, k: Shape, full: bool) -> Result<Kind, Ref
     if s.len() <= at {
         return bad(Reason::CutShort, s.len());
     }
-    match records::kind(s[at]) {
+    match Kind::from(s[at]) {
         Kind::Element(e) => {
-            if records::shape_number(e) != records::shape_number(k) {
+            if e != k {
                 return bad(Reason::WrongKind, at);
             }
             if full {
@@ -94,7 +91,7 @@ fn type_record(s: &[u8], at: usize) -> Result<Kind, Refusal>
     if s.len() <= at {
         return bad(Reason::CutShort, s.len());
     }
-    match records::kind(s[at]) {
+    match Kind::from(s[at]) {
         Kind::Start => {
             if s.len() - at < 2 {
                 return bad(Reason::CutShort, at);

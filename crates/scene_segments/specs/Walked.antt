@@ -1,5 +1,5 @@
 -- What the searches over the elements of an object ask of one record, and what those that stop early find.
-use Rattle.std.specs.Prelude.{ℕ, ◌+◌, ◌-◌, ◌≤◌, Bool, false, not, ◌&&◌, ◌||◌, cond, List, [], ◌∷◌, length, T}
+use Rattle.std.specs.Prelude.{ℕ, ◌+◌, ◌-◌, ◌≤◌, ◌≡◌, Bool, false, not, ◌&&◌, ◌||◌, cond, List, [], ◌∷◌, length, T}
 use Rattle.std.specs.Bool.{beq}
 use Rattle.std.specs.Int.Signed.{lt_z}
 use Rattle.whole.specs.Count.{eq_z, bit}
@@ -17,6 +17,13 @@ Readable s at = (at + 18 ≤ length s) × T (segment_in_range (segment_at s at))
 -- it is a left one, and its segment passes a test
 abbrev pub left_with : (Segment → Bool) → List ℕ → ℕ → Bool
 left_with f s at = (halfsegment_at s at).is_left && f (segment_at s at)
+
+-- a test may be asked of every segment in range; and what it may answer is what passes
+abbrev pub TakesSegments : (Segment → Type 0) → Type 0
+TakesSegments Takes = (t : Segment) → T (segment_in_range t) → Takes t
+
+abbrev pub Tests : (Segment → Bool → Type 0) → (Segment → Bool) → Type 0
+Tests Answers passes = (t : Segment) (r : Bool) → Answers t r → r ≡ passes t
 
 -- 11: two halfsegments, with their ia, "of opposite d, equal ends and ia"
 abbrev pub partners : Halfsegment → Bool → Halfsegment → Bool → Bool

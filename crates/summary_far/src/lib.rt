@@ -40,6 +40,7 @@ fn are_far(s: Summary, t: Summary) -> bool
 
 // ---- the vectors of far objects, F's type not above G's
 
+// Kept as two functions, of F and of G: they are tables that differ in every row.
 fn vector_f(k: Shape, l: Shape, filled: bool, boundary: bool) -> u16
     ensures { result ≡ pack (flags_f k l filled boundary) }
 {

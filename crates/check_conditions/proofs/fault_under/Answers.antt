@@ -1,6 +1,6 @@
-use Rattle.std.proofs.Common.{◌≡◌, ◌∙◌, sym, ap, ℕ, Bool, Some, arith}
+use Rattle.std.proofs.Common.{◌∙◌, sym, ap, Some, arith}
 use Rattle.scene.specs.Conditions.{earliest}
-use Rattle.check_conditions.specs.Faults.{is_at_fault, fault_under}
+use Rattle.check_conditions.specs.Faults.{is_at_fault}
 use Rattle.scene_segments.proofs.Elements.{fits}
 use Rattle.scene_segments.proofs.Walk.{all_between, earliest_here, earliest_later, earliest_none}
 use Rattle.check_conditions.proofs.fault_under.Goals as goal

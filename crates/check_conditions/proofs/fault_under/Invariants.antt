@@ -1,5 +1,5 @@
 -- No element before i is at fault, so the answer is that of the rest.
-use Rattle.std.proofs.Common.{◌≡◌, ◌≤◌}
+use Rattle.std.proofs.Common.{◌≡◌}
 use Rattle.scene.specs.Conditions.{earliest}
 use Rattle.scene_segments.proofs.Walk.{between}
 use Rattle.check_conditions.specs.Faults.{is_at_fault, fault_under}

@@ -1,5 +1,5 @@
 -- The definition passes over the elements that were counted, and the record after them is no element that could follow, so it decides.
-use Rattle.std.proofs.Common.{◌≡◌, ◌∙◌, ◌+◌, ◌<◌, ◌≤◌, sym, refl, ap, ℕ, Bool, zero, suc, true, false, List, length, eqb, Ok, Err, add-one, arith, ne_eqb, le_refl}
+use Rattle.std.proofs.Common.{◌≡◌, ◌∙◌, ◌+◌, ◌<◌, ◌≤◌, sym, refl, ap, ℕ, Bool, zero, suc, true, false, List, eqb, Ok, Err, add-one, arith, ne_eqb, le_refl}
 use Rattle.scene.specs.declared.Shape.{Shape}
 use Rattle.scene.specs.declared.Kind.{Kind}
 use Rattle.scene.specs.declared.Kind.TheVariants.{Element}

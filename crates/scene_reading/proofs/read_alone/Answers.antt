@@ -1,9 +1,9 @@
 -- One object, and no byte after it.
-use Rattle.std.proofs.Common.{◌≡◌, ◌∙◌, ◌≤◌, sym, ℕ, List, [], ◌∷◌, length, Result, Ok, Err, arith}
+use Rattle.std.proofs.Common.{◌≡◌, ◌∙◌, sym, ℕ, List, [], ◌∷◌, Ok, Err, arith}
 use Rattle.scene.specs.declared.Layout.{Layout}
 use Rattle.scene.specs.declared.Refusal.{Refusal}
-use Rattle.scene.specs.Read.{judge, ends_with, read_object, read_alone, CheckedObject}
-use Rattle.scene.proofs.Outcomes.{handed_on, passed, all_passed, not_passed}
+use Rattle.scene.specs.Read.{judge, ends_with, read_object, read_alone}
+use Rattle.scene.proofs.Outcomes.{handed_on, all_passed, not_passed}
 use Rattle.scene.proofs.Taken.{taken_object}
 use Rattle.scene_reading.proofs.read_alone.Goals as goal
 

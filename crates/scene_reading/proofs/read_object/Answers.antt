@@ -1,9 +1,9 @@
 -- A type record stands there, or the object is refused as that record is.
-use Rattle.std.proofs.Common.{◌≡◌, ◌∙◌, ◌+◌, ◌≤◌, sym, ap, ℕ, Bool, true, false, List, length, Ok, Err, arith}
+use Rattle.std.proofs.Common.{◌≡◌, ◌∙◌, ◌+◌, sym, ap, ℕ, false, List, Ok, Err, arith}
 use Rattle.scene.specs.declared.Kind.{Kind}
 use Rattle.scene.specs.declared.Refusal.{Refusal}
 use Rattle.scene.specs.declared.Shape.{Shape}
-use Rattle.scene.specs.Read.{byte, shape_of, most, record_at, starts_object, elements_from, read_object, CheckedObject}
+use Rattle.scene.specs.Read.{byte, shape_of, record_at, starts_object, read_object, CheckedObject}
 use Rattle.scene.proofs.Outcomes.{handed_on}
 use Rattle.scene.proofs.Taken.{rest, type_record}
 use Rattle.scene_reading.proofs.read_object.Goals as goal

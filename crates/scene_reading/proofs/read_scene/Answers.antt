@@ -1,8 +1,8 @@
 -- One object, another where it ends, and no byte after that.
-use Rattle.std.proofs.Common.{◌≡◌, ◌∙◌, ◌≤◌, sym, ap, ℕ, List, [], ◌∷◌, length, Result, Ok, Err, arith}
+use Rattle.std.proofs.Common.{◌≡◌, ◌∙◌, sym, ap, ℕ, List, [], ◌∷◌, Result, Ok, Err, arith}
 use Rattle.scene.specs.declared.Layout.{Layout}
 use Rattle.scene.specs.declared.Refusal.{Refusal}
-use Rattle.scene.specs.Read.{after, arranged, judge, ends_with, read_object, read_scene, CheckedScene}
+use Rattle.scene.specs.Read.{after, arranged, judge, ends_with, read_object, read_scene}
 use Rattle.scene.proofs.Outcomes.{handed_on, all_passed, not_passed}
 use Rattle.scene.proofs.Taken.{taken_object}
 use Rattle.scene_reading.proofs.read_scene.Goals as goal

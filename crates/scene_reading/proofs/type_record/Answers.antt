@@ -1,6 +1,6 @@
 -- The tests that led to each return decide the definition.
 use Rattle.scene.specs.declared.Reason.TheVariants.{CutShort, WrongKind, WrongField}
-use Rattle.std.proofs.Common.{◌≡◌, ◌∙◌, ◌+◌, ◌<◌, ◌≤◌, ⊎_elim, sym, refl, ℕ, true, false, List, length, Ok, Err, arith}
+use Rattle.std.proofs.Common.{◌≡◌, ◌∙◌, ◌+◌, ◌<◌, ◌≤◌, ⊎_elim, sym, refl, ℕ, false, List, length, Ok, Err, arith}
 use borrow.Author.Tests.{le-leb, lt-leb}
 use Rattle.scene.specs.declared.Kind.{Kind}
 use Rattle.scene.specs.declared.Kind.TheVariants.{Start, Element, End, Unknown}
@@ -34,20 +34,20 @@ pub returns-then-s-at : goal.returns-then-s-at
 returns-then-s-at c = c.bad.ensures ∙ sym (no_byte c.args.s.now c.args.at starts_object false c.if-s-at.true)
 
 pub returns-then-s-at-lt2 : goal.returns-then-s-at-lt2
-returns-then-s-at-lt2 c = c.bad-then-s-at-lt2.ensures ∙ sym (cut c.args.s.now c.args.at c.if-s-at.false (sym c.kind.ensures ∙ c.in-Start.is) (omega (arith, c.if-s-at-lt2.true, c.if-s-at.false)))
+returns-then-s-at-lt2 c = c.bad-then-s-at-lt2.ensures ∙ sym (cut c.args.s.now c.args.at c.if-s-at.false (sym c.from.ensures ∙ c.in-Start.is) (omega (arith, c.if-s-at-lt2.true, c.if-s-at.false)))
 
 pub returns-then-n-lt1 : goal.returns-then-n-lt1
 returns-then-n-lt1 c =
     let s = c.args.s.now in
     let at = c.args.at in
-    let is = sym c.kind.ensures ∙ c.in-Start.is in
+    let is = sym c.from.ensures ∙ c.in-Start.is in
     let h : at + 2 ≤ length s = omega (arith, c.if-s-at-lt2.false, c.if-s-at.false) in
     c.bad-then-n-lt1.ensures ∙ sym (⊎_elim (below s at c.if-s-at.false is h) (λ o. above s at c.if-s-at.false is h o.0 o.1) c.then-n-lt1.either)
 
 pub returns-else-n-gt3 : goal.returns-else-n-gt3
 returns-else-n-gt3 c =
     let at = c.args.at in
-    sym (good c.args.s.now at c.if-s-at.false (sym c.kind.ensures ∙ c.in-Start.is) (omega (arith, c.if-s-at-lt2.false, c.if-s-at.false)) c.if-n-lt1.false c.if-n-gt3.false)
+    sym (good c.args.s.now at c.if-s-at.false (sym c.from.ensures ∙ c.in-Start.is) (omega (arith, c.if-s-at-lt2.false, c.if-s-at.false)) c.if-n-lt1.false c.if-n-gt3.false)
 
 pub returns-in-Element : goal.returns-in-Element
 returns-in-Element c =
@@ -55,4 +55,4 @@ returns-in-Element c =
     let at = c.args.at in
     let no = λ (k : Kind) (is : kind_at s at ≡ k) (n : starts_object k ≡ false). sym (other s at c.if-s-at.false k is n) in
     c.bad-in-Element.ensures
-    ∙ ⊎_elim (λ e. no (Element e.0) (sym c.kind.ensures ∙ e.1) refl) (⊎_elim (λ e. no End (sym c.kind.ensures ∙ e) refl) (λ e. no Unknown (sym c.kind.ensures ∙ e) refl)) c.in-Element.is
+    ∙ ⊎_elim (λ e. no (Element e.0) (sym c.from.ensures ∙ e.1) refl) (⊎_elim (λ e. no End (sym c.from.ensures ∙ e) refl) (λ e. no Unknown (sym c.from.ensures ∙ e) refl)) c.in-Element.is

@@ -1,7 +1,6 @@
 -- The record at which the loop stops is no element without fault, or no more may follow.
-use Rattle.std.proofs.Common.{◌≡◌, ◌∙◌, ◌+◌, ◌*◌, ◌<◌, ◌≤◌, sym, subst, ℕ, List, length, true, false, arith, not-suc-le-zero}
+use Rattle.std.proofs.Common.{◌≡◌, ◌+◌, ◌*◌, ◌<◌, ◌≤◌, sym, subst, ℕ, List, length, false, arith, not-suc-le-zero}
 use borrow.Author.Count.{below_more}
-use Rattle.whole.proofs.Logic.{is_true}
 use Rattle.scene.specs.declared.Shape.{Shape}
 use Rattle.scene.specs.declared.Kind.TheVariants.{Element}
 use Rattle.scene.specs.Read.{size, most, stands_in}
