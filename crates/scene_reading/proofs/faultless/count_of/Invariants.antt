@@ -3,7 +3,7 @@ use Rattle.std.proofs.Common.{◌≡◌, ◌+◌, ◌*◌, ◌<◌, ◌≤◌, �
 use Rattle.scene.specs.declared.Shape.{Shape}
 use Rattle.scene.specs.Read.{size, most}
 use Rattle.scene_reading.specs.Faultless.{IsElement}
-use Rattle.scene_reading.proofs.faultless.count.Given as goal
+use Rattle.scene_reading.proofs.faultless.count_of.Given as goal
 
 -- so many elements without fault, whatever follows them
 pub record SoFar (s : List ℕ) (k : Shape) (start n : ℕ) : Type 0 where

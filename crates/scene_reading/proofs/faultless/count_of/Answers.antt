@@ -6,8 +6,8 @@ use Rattle.scene.specs.declared.Kind.TheVariants.{Element}
 use Rattle.scene.specs.Read.{size, most, stands_in}
 use Rattle.scene.proofs.Passed.{passed}
 use Rattle.scene_reading.specs.Faultless.{IsElement, Faultless}
-use Rattle.scene_reading.proofs.faultless.count.Invariants.{SoFar}
-use Rattle.scene_reading.proofs.faultless.count.Goals as goal
+use Rattle.scene_reading.proofs.faultless.count_of.Invariants.{SoFar}
+use Rattle.scene_reading.proofs.faultless.count_of.Goals as goal
 
 -- an element is whole
 beyond : (s : List ℕ) (k : Shape) (at : ℕ) → IsElement s k at → at + size k ≤ length s

@@ -1,7 +1,7 @@
 use Rattle.std.proofs.Common.{rules}
 use Rattle.plane.specs.Plane.{grid, is_end, ends_at}
 use Rattle.plane.specs.declared.Segment.{Segment}
-use Rattle.scene_segments.proofs.count_ends.Goals as goal
+use Rattle.scene_segments.proofs.Object.count_ends.Goals as goal
 
 pub returns : goal.returns
 unfolding ends_at
