@@ -1,11 +1,11 @@
--- What the code of one event asks of the status: its entries, and the event's own record, can be read.
-use Rattle.std.specs.Prelude.{ℕ, ◌<◌, ◌≡◌, Bool, List, length, get_or}
+-- What the code of one event asks of the status: its entries are records of the scene, which can be read.
+use Rattle.std.specs.Prelude.{ℕ, ◌<◌, ◌≡◌, List, length, get_or}
 use Rattle.whole.specs.Count.{◌∈◌}
 use Rattle.scene.specs.declared.Layout.{Layout}
 use Rattle.scene.specs.declared.Scene.{Scene}
-use Rattle.scene.specs.Read.{place, IsScene}
+use Rattle.scene.specs.Read.{place}
 use Rattle.scene.proofs.Given.{GoodHalfsegment}
-use Rattle.sweep_laws.specs.Swept.{is_first, Entry}
+use Rattle.sweep_laws.specs.Swept.{Entry}
 
 -- the offset is the record of an element
 pub record Placed (l : Layout) (at : ℕ) : Type 0 where
@@ -20,10 +20,3 @@ pub record Readable (s entries : List ℕ) : Type 0 where
 -- they are records of a scene
 pub record Held (s : List ℕ) (sc : Scene) (entries : List ℕ) : Type 0 where
   pub each : (e : ℕ) → e ∈ entries → Entry s sc e
-
--- and so is the event's, which is of F or not
-pub record Ready (s : List ℕ) (sc : Scene) (first : Bool) (at : ℕ) (entries : List ℕ) : Type 0 where
-  pub scene : IsScene s sc
-  pub event : Entry s sc at
-  pub object : is_first s sc at ≡ first
-  pub held : Held s sc entries
