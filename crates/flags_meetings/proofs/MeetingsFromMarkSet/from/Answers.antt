@@ -1,11 +1,11 @@
--- `flags_meetings::named` meets its contract: a mark is a bit.
+-- A mark is a bit.
 use Rattle.std.proofs.Common.{◌∙◌}
 use Rattle.flags.proofs.Bits.{test_bit}
-use Rattle.flags_meetings.proofs.named.Goals as goal
+use Rattle.flags_meetings.proofs.MeetingsFromMarkSet.from.Goals as goal
 
 pub returns : goal.returns
 returns c =
-    let m = c.args.marks in
+    let m = c.args.marks.0 in
     λ i. record {
       bound_outside = (c.has.ensures ∙ test_bit m 0) i;
       bound_inside = (c.has-2.ensures ∙ test_bit m 1) i;
