@@ -175,16 +175,28 @@ decimal_only =
 
 -- ---- how long it is
 
-pub length_one : (n : ℕ) → n < 10 → length (decimal n) ≡ 1
+length_one : (n : ℕ) → n < 10 → length (decimal n) ≡ 1
 length_one n h = ap length (decimal_one n h)
 
-pub length_more : (n : ℕ) → 10 ≤ n → length (decimal n) ≡ length (decimal (n / 10)) + 1
+length_more : (n : ℕ) → 10 ≤ n → length (decimal n) ≡ length (decimal (n / 10)) + 1
 length_more n h = ap length (decimal_more n h) ∙ length-append (decimal (n / 10)) (digit (n % 10) ∷ [])
 
-pub decimal_length : (k n : ℕ) → n < 10 ^ suc k → length (decimal n) ≤ suc k
+decimal_length : (k n : ℕ) → n < 10 ^ suc k → length (decimal n) ≤ suc k
 decimal_length zero n h = omega (arith, length_one n h)
 decimal_length (suc k) n h =
     below_ten
     n
     (λ h₁. omega (arith, length_one n h₁))
     (λ h₁₀. omega (arith, length_more n h₁₀, decimal_length k (n / 10) (omega (arith, pow-suc 10 (suc k)))))
+
+-- the most digits of a byte, of 16 bits and of 64 bits
+pub length_u8 : (n : ℕ) → n < 2 ^ 8 → length (decimal n) ≤ 3
+length_u8 n h = decimal_length 2 n (omega arith)
+
+pub length_u16 : (n : ℕ) → n < 2 ^ 16 → length (decimal n) ≤ 5
+length_u16 n h = decimal_length 4 n (omega arith)
+
+pub length_u64 : (n : ℕ) → n < 2 ^ 64 → length (decimal n) ≤ 20
+length_u64 n h = decimal_length 19 n (omega arith)
+
+pub ruleset lengths = (length_u8, length_u16, length_u64)

@@ -1,4 +1,4 @@
--- The one line that answers a scene, document 01's section "The twelve scenes", as the list of its bytes in ASCII; and what it is to write bytes
+-- The one line that answers a scene, document 01's section "The twelve scenes", as the list of its bytes in ASCII; and what it is to write it
 -- into a lent buffer.
 use Rattle.scene.specs.Read.{number_of}
 use Rattle.std.specs.Prelude.{Err, Ok}
@@ -89,13 +89,7 @@ abbrev pub Numbered : CellsAnswer → Type 0
 Numbered (Ok e) = Unit {0}
 Numbered (Err r) = 0 < number_of r.reason
 
--- ---- writing into a lent buffer
-
--- `bytes` stand at `at`, `next` is the offset after them, and every other byte of the buffer is as it was
-pub record Written (before : List ℕ) (at : ℕ) (bytes : List ℕ) (next : ℕ) (after : List ℕ) : Type 0 where
-  pub ends : next ≡ at + length bytes
-  pub within : next ≤ length before
-  pub holds : after ≡ take at before ++ (bytes ++ drop next before)
+-- ---- the lent buffer
 
 -- With room for the line: its length comes back, the buffer begins with it, and every later byte is as it was. Without: 0, and the buffer as it was.
 pub record Lent (line before : List ℕ) (r : ℕ) (after : List ℕ) : Type 0 where

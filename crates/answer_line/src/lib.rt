@@ -1,70 +1,70 @@
 // The one line that answers a scene, written into a lent buffer.
-// Each function but `write_line` writes at 0 and answers the offset after what it wrote.
 #![tactic(auto)]
 
-ghost use Rattle.std.specs.Prelude.{◌≤◌, length};
+ghost use Rattle.std.specs.Prelude.{◌≡◌, ◌≤◌, length};
 ghost use Rattle.cells.specs.Explored.{cells_values};
-ghost use Rattle.answer_line.specs.Line.{ok_line, no_line, line_of, line_of_scene, Numbered, Written, Lent};
+ghost use Rattle.answer_line.specs.Line.{ok_line, no_line, line_of, line_of_scene, Numbered, Lent};
 
 use cells::{Explored, question, table};
+use line::Line;
 use plane_dimensions::Dimension;
-use scene::{Refusal, records};
+use scene::Refusal;
 
-pub mod fields;
+mod line;
 
 // No line is longer than this: a buffer of this length has room for any.
 pub const LINE_LIMIT: usize = 33;
 
-fn write_ok(out: &mut [u8], f: u8, g: u8, v: u16, w: u16, cells: [[Dimension; 3]; 3]) -> usize
-    requires { LINE_LIMIT ≤ length out.old }
-    ensures { Written out.old 0 (ok_line f g v w cells) result out.new }
+#[tactic(auto, unfolding(crate::specs::Line::ok_line), using(crate::proofs::Decimal::lengths, std::proofs::lemmas::Grind::common_steps))]
+fn ok_line(f: u8, g: u8, v: u16, w: u16, cells: [[Dimension; 3]; 3]) -> Line
+    ensures { result ≡ ok_line f g v w cells }
 {
-    let first = fields::write_bytes(out, 0, b"ok");
-    let second = fields::write_field(out, first, f as u64);
-    let third = fields::write_field(out, second, g as u64);
-    let fourth = fields::write_field(out, third, v as u64);
-    let fifth = fields::write_field(out, fourth, w as u64);
-    let matrix = fields::write_byte(out, fifth, b' ');
-    let end = fields::write_cells(out, matrix, cells);
-    fields::write_byte(out, end, b'\n')
+    let mut line = Line::new();
+    line.append(b"ok");
+    line.field(f as u64);
+    line.field(g as u64);
+    line.field(v as u64);
+    line.field(w as u64);
+    line.push(b' ');
+    line.cells(cells);
+    line.push(b'\n');
+    line
 }
 
-fn write_no(out: &mut [u8], number: u8, place: usize) -> usize
-    requires { LINE_LIMIT ≤ length out.old }
-    ensures { Written out.old 0 (no_line number place) result out.new }
+#[tactic(auto, unfolding(crate::specs::Line::no_line), using(crate::proofs::Decimal::lengths, std::proofs::lemmas::Grind::common_steps))]
+fn no_line(number: u8, place: usize) -> Line
+    ensures { result ≡ no_line number place }
 {
-    let first = fields::write_bytes(out, 0, b"no");
-    let second = fields::write_field(out, first, number as u64);
-    let end = fields::write_field(out, second, place as u64);
-    fields::write_byte(out, end, b'\n')
+    let mut line = Line::new();
+    line.append(b"no");
+    line.field(number as u64);
+    line.field(place as u64);
+    line.push(b'\n');
+    line
 }
 
-fn write_answer(out: &mut [u8], answer: Result<Explored, Refusal>) -> usize
-    requires numbered { Numbered answer }
-    requires line_limit_in_bounds { LINE_LIMIT ≤ length out.old }
-    ensures { Written out.old 0 (line_of (cells_values answer)) result out.new }
+#[tactic(auto, unfolding(crate::specs::Line::line_of))]
+fn line_of(answer: Result<Explored, Refusal>) -> Line
+    requires { Numbered answer }
+    ensures { result ≡ line_of (cells_values answer) }
 {
     match answer {
-        Ok(e) => {
-            let of_f = e.f;
-            let of_g = e.g;
-            let f = records::shape_number(of_f);
-            let g = records::shape_number(of_g);
-            write_ok(out, f, g, e.v, e.w, table::matrix(e))
-        }
-        Err(r) => write_no(out, r.reason.number(), r.place),
+        Ok(e) => ok_line(u8::from(e.f), u8::from(e.g), e.v, e.w, table::matrix(e)),
+        Err(r) => no_line(u8::from(r.reason), r.place),
     }
 }
 
-// Writes the line of a scene's bytes and answers its length; or, if there is no room for it, writes nothing and answers 0.
+// Writes the line of a scene's bytes and answers its length; or, if there is no room for it, writes nothing, and answers 0, the length of that.
+#[tactic(auto, unfolding(crate::specs::Line::line_of_scene), using(crate::proofs::Numbered::numbered))]
 pub fn write_line(s: &[u8], out: &mut [u8]) -> usize
     ensures lent { Lent (line_of_scene s.now) out.old result out.new }
     ensures s_len_bound { length (line_of_scene s.now) ≤ LINE_LIMIT }
 {
-    let mut line = [0u8; LINE_LIMIT];
-    let length = write_answer(&mut line, question::explore(s));
-    if out.len() < length {
+    let answer = line_of(question::explore(s));
+    let line = answer.bytes();
+    if out.len() < line.len() {
         return 0;
     }
-    fields::write_bytes(out, 0, &line[..length])
+    out[..line.len()].copy_from_slice(line);
+    line.len()
 }

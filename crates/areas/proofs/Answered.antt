@@ -1,7 +1,7 @@
 -- What is answered of two regions that are taken: they stand in the caller's order, and two parts make up each of them.
 use Rattle.std.specs.Prelude.{Ok}
 use Prim.Native.Nat.{ℕ}
-use mathlib.Core.Path.{◌≡◌, refl, sym, ap, ap₂, subst, ◌∙◌}
+use mathlib.Core.Path.{◌≡◌, refl, sym, ap, ap₂, ◌∙◌}
 use mathlib.Core.Bool.{Bool, false, cond}
 use mathlib.Core.List.{List}
 use lib.Dec.{T}
@@ -10,14 +10,13 @@ use Rattle.scene.specs.declared.Shape.{Shape}
 use Rattle.scene.specs.declared.Shape.TheVariants.{Points, Line, Region}
 use Rattle.scene.specs.declared.Layout.{Layout}
 use Rattle.scene.specs.declared.Scene.{Scene}
-use Rattle.scene.specs.Read.{descends, turned, given_first, given_second, IsScene}
+use Rattle.scene.specs.Read.{descends, turned, given_first, given_second}
 use Rattle.scene.specs.Conditions.{is_region}
 use Rattle.scene.proofs.Taken.{taken_scene, given_of_both}
-use Rattle.check_verdict.specs.SharedPoints.{CheckedMeans}
 use Rattle.flags.specs.Elements.{edges}
 use Rattle.overlap.specs.Rules.{check_regions}
 use Rattle.overlap.specs.Walked.{TwoRegions}
-use Rattle.overlap.proofs.Checked.{two_regions, regions_mean}
+use Rattle.overlap.proofs.Checked.{two_regions, regions_read}
 use Rattle.areas.specs.Parts.{Part, in_both, in_f_only, in_g_only, own_area}
 use Rattle.areas.specs.Areas.{area_in, AreasAnswer, answer, areas_values, areas_of, PartsMakeWhole}
 use Rattle.areas.proofs.Whole.{area_of_f, area_of_g}
@@ -34,13 +33,10 @@ module _ (s : List ℕ) (sc : Scene) (taken : check_regions s ≡ Ok sc) where
   pub good : TwoRegions s sc
   good = two_regions s sc taken
 
-  is_scene : IsScene s sc
-  is_scene = (subst (CheckedMeans s) taken (regions_mean s)).0
-
   in_order : turned sc ≡ false
   in_order =
       let w = given_of_both (λ (l : Layout). T (is_region l.shape)) sc good.1 good.2 in
-      (taken_scene s sc is_scene).by_types ∙ alike (given_first sc).shape (given_second sc).shape w.0 w.1
+      (taken_scene s sc (regions_read s sc taken)).by_types ∙ alike (given_first sc).shape (given_second sc).shape w.0 w.1
 
   f_first : sc.f ≡ given_first sc
   f_first = ap (λ (b : Bool). cond b sc.g sc.f) (sym in_order)

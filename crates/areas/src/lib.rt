@@ -7,8 +7,11 @@ ghost use Rattle.overlap.specs.Rules.{check_regions};
 ghost use Rattle.areas.specs.Areas.{areas_of, areas_values, PartsMakeWhole};
 
 use overlap::refusals;
+use overlap::regions::Regions;
 use scene::Refusal;
+use scene_segments::ReadScene;
 use sums::Sums;
+use sweep_notes::Notes;
 
 pub mod sums;
 
@@ -18,7 +21,8 @@ pub fn areas_of(s: &[u8]) -> Result<Sums, Refusal>
         × PartsMakeWhole s.now (areas_values result).both (areas_values result).f_only (areas_values result).g_only
         × CheckedMeans s.now (check_regions s.now) }
 {
-    let mut notes = [0u8; 2048];
+    let mut notes = Notes::new();
     let scene = refusals::check_regions(s, &mut notes)?;
-    Ok(sums::sums_of(s, scene, &notes))
+    let regions = Regions::of(ReadScene { bytes: s, scene }, &notes);
+    Ok(sums::sums_of(regions))
 }

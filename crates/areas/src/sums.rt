@@ -1,15 +1,13 @@
 // The three sums over the different segments of two regions: what each segment adds to a part, by the sides where the regions adjoin it, and the walk.
-ghost use Rattle.std.specs.Prelude.{◌≡◌, ◌≤◌, ◌^◌, length, T, nat_abs, ◌+ℤ◌};
+ghost use Rattle.std.specs.Prelude.{◌≡◌, ◌≤◌, ◌^◌, T, nat_abs, ◌+ℤ◌};
 ghost use Rattle.plane.specs.Plane.{segment_in_range};
-ghost use Rattle.sweep_laws.specs.Noted.{Noted};
-ghost use Rattle.overlap.specs.Walked.{TwoRegions};
 ghost use Rattle.areas.specs.Parts.{shoelace, weighed};
 ghost use Rattle.areas.specs.Areas.{Small, Added, Summed};
 
 use overlap::adjoining::Sides;
-use overlap::walk;
+use overlap::regions::Regions;
+use overlap::walk::MergedSides;
 use plane::{Point, Segment};
-use scene::Scene;
 
 // The sums, one for each part.
 #[derive(Clone, Copy)]
@@ -24,7 +22,7 @@ fn shoelace(t: Segment) -> i64
     requires { T (segment_in_range t) }
     ensures { result ≡ shoelace t }
 {
-    plane::side(Point { x: 0, y: 0 }, t.left, t.right)
+    plane::side(Point::ORIGIN, t.left, t.right)
 }
 
 // A sum and a term, which is added for what adjoins above and taken away for what adjoins below, so that both or neither leave the sum alone.
@@ -55,21 +53,16 @@ fn add(sums: Sums, t: Segment, f: Sides, g: Sides) -> Sums
 }
 
 // Over all segments of two regions, by the sweep's notes.
-pub fn sums_of(s: &[u8], scene: Scene, notes: &[u8]) -> Sums
-    requires { TwoRegions s.now scene × (2048 ≤ length notes.now) × Noted s.now scene notes.now }
-    ensures { Summed s.now scene result }
+pub fn sums_of(regions: Regions<'_>) -> Sums
+    ensures { Summed regions.entry.read.bytes.now regions.entry.read.scene result }
 {
     let mut sums = Sums {
         both: 0,
         f_only: 0,
         g_only: 0,
     };
-    let mut i: usize = 0;
-    let mut j: usize = 0;
-    while let Some(next) = walk::next_sides(s, scene, notes, i, j) {
+    for next in MergedSides::of(regions) {
         sums = add(sums, next.segment, next.of_f, next.of_g);
-        i = next.i;
-        j = next.j;
     }
     sums
 }

@@ -224,8 +224,3 @@ unfolding cells_answer_of
 as_explored s k e {x} q =
     let p : x ≡ cells_answer_of s = q ∙ ap (answered s) (sym e) in
     (p, subst (λ (x : CellsAnswer). NoDimensionWrong s (cells_values x).cells) (sym p) (scene_cells s), checked_means s)
-
--- a scene with two vectors, from its parts
-pub explored_by_lem : (sc : Scene) (both : Vectors) {first second : Layout} → first ≡ given_first sc → second ≡ given_second sc
-    → record { f = first.shape; g = second.shape; v = both.f; w = both.g; f_empty = E.is_empty first; g_empty = E.is_empty second } ≡ explored_by sc both
-explored_by_lem sc both a b = λ i. record { f = (a i).shape; g = (b i).shape; v = both.f; w = both.g; f_empty = E.is_empty (a i); g_empty = E.is_empty (b i) }

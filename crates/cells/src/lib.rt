@@ -4,6 +4,7 @@
 use scene::Shape;
 
 // What a taken scene's cells follow from, in the caller's order: the two types, the two vectors with every flag wanted, and which objects are empty.
+// Kept flat, and no pair of the two objects' parts: the definitions of the cells take the six one by one.
 #[derive(Clone, Copy)]
 pub struct Explored {
     pub f: Shape,

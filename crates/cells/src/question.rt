@@ -8,14 +8,14 @@ use crate::{Explored, table};
 use flags_masks::Wanted;
 use flags_vectors::{Vectors, question};
 use plane_dimensions::Dimension;
-use scene::{Refusal, Scene, order};
+use scene::{Refusal, Scene};
 
 // A scene that is taken, with two vectors of it.
 pub fn explored(scene: Scene, both: Vectors) -> Explored
     ensures { result ≡ explored_by scene both }
 {
-    let first = order::given_first(scene);
-    let second = order::given_second(scene);
+    let first = scene.given_first();
+    let second = scene.given_second();
     Explored {
         f: first.shape,
         g: second.shape,

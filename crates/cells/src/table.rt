@@ -8,7 +8,8 @@ ghost use Rattle.cells.specs.Explored.{matrix_from};
 
 use crate::Explored;
 use plane_dimensions::Dimension;
-use scene::{Shape, records};
+use plane_dimensions::Dimension::{Area, Empty, Length, Points};
+use scene::Shape;
 
 // Is bit k of a vector set?
 fn has(v: u16, k: u32) -> bool
@@ -30,25 +31,7 @@ fn has_either(v: u16, k: u32, l: u32) -> bool
 fn value_if(value: Dimension, holds: bool) -> Dimension
     ensures { result ≡ value_if value holds }
 {
-    if holds { value } else { Dimension::Empty }
-}
-
-fn points_if(holds: bool) -> Dimension
-    ensures { result ≡ value_if Dimension.Points holds }
-{
-    value_if(Dimension::Points, holds)
-}
-
-fn length_if(holds: bool) -> Dimension
-    ensures { result ≡ value_if Dimension.Length holds }
-{
-    value_if(Dimension::Length, holds)
-}
-
-fn area_if(holds: bool) -> Dimension
-    ensures { result ≡ value_if Dimension.Area holds }
-{
-    value_if(Dimension::Area, holds)
+    if holds { value } else { Empty }
 }
 
 // A cell of two curves: a length where a segment is common, else points where an end is.
@@ -56,9 +39,9 @@ fn length_or_points(segment: bool, point: bool) -> Dimension
     ensures { result ≡ length_or_points segment point }
 {
     if segment {
-        Dimension::Length
+        Length
     } else {
-        points_if(point)
+        value_if(Points, point)
     }
 }
 
@@ -68,9 +51,13 @@ fn points_points(v: u16, w: u16) -> [[Dimension; 3]; 3]
     ensures { result ≡ matrix_of Shape.Points Shape.Points v w true true }
 {
     [
-        [points_if(has(v, 1)), Dimension::Empty, points_if(has(v, 0))],
-        [Dimension::Empty; 3],
-        [points_if(has(w, 0)), Dimension::Empty, Dimension::Area],
+        [
+            value_if(Points, has(v, 1)),
+            Empty,
+            value_if(Points, has(v, 0)),
+        ],
+        [Empty; 3],
+        [value_if(Points, has(w, 0)), Empty, Area],
     ]
 }
 
@@ -79,12 +66,16 @@ fn points_line(v: u16, w: u16, g_empty: bool) -> [[Dimension; 3]; 3]
 {
     [
         [
-            points_if(has(v, 1)),
-            points_if(has(v, 2)),
-            points_if(has(v, 0)),
+            value_if(Points, has(v, 1)),
+            value_if(Points, has(v, 2)),
+            value_if(Points, has(v, 0)),
         ],
-        [Dimension::Empty; 3],
-        [length_if(!g_empty), points_if(has(w, 0)), Dimension::Area],
+        [Empty; 3],
+        [
+            value_if(Length, !g_empty),
+            value_if(Points, has(w, 0)),
+            Area,
+        ],
     ]
 }
 
@@ -93,12 +84,12 @@ fn points_region(v: u16, g_empty: bool) -> [[Dimension; 3]; 3]
 {
     [
         [
-            points_if(has(v, 0)),
-            points_if(has(v, 1)),
-            points_if(has(v, 2)),
+            value_if(Points, has(v, 0)),
+            value_if(Points, has(v, 1)),
+            value_if(Points, has(v, 2)),
         ],
-        [Dimension::Empty; 3],
-        [area_if(!g_empty), length_if(!g_empty), Dimension::Area],
+        [Empty; 3],
+        [value_if(Area, !g_empty), value_if(Length, !g_empty), Area],
     ]
 }
 
@@ -108,15 +99,19 @@ fn line_line(v: u16, w: u16) -> [[Dimension; 3]; 3]
     [
         [
             length_or_points(has(v, 0), has(v, 1)),
-            points_if(has(w, 1)),
-            length_if(has(v, 2)),
+            value_if(Points, has(w, 1)),
+            value_if(Length, has(v, 2)),
         ],
         [
-            points_if(has(v, 3)),
-            points_if(has(v, 4)),
-            points_if(has(v, 5)),
+            value_if(Points, has(v, 3)),
+            value_if(Points, has(v, 4)),
+            value_if(Points, has(v, 5)),
         ],
-        [length_if(has(w, 0)), points_if(has(w, 2)), Dimension::Area],
+        [
+            value_if(Length, has(w, 0)),
+            value_if(Points, has(w, 2)),
+            Area,
+        ],
     ]
 }
 
@@ -125,16 +120,16 @@ fn line_region(v: u16, w: u16, g_empty: bool) -> [[Dimension; 3]; 3]
 {
     [
         [
-            length_if(has(v, 0)),
+            value_if(Length, has(v, 0)),
             length_or_points(has(v, 1), has(v, 3)),
-            length_if(has(v, 2)),
+            value_if(Length, has(v, 2)),
         ],
         [
-            points_if(has(v, 4)),
-            points_if(has(v, 5)),
-            points_if(has(v, 6)),
+            value_if(Points, has(v, 4)),
+            value_if(Points, has(v, 5)),
+            value_if(Points, has(v, 6)),
         ],
-        [area_if(!g_empty), length_if(has(w, 0)), Dimension::Area],
+        [value_if(Area, !g_empty), value_if(Length, has(w, 0)), Area],
     ]
 }
 
@@ -157,9 +152,9 @@ fn both_boundaries(v: u16) -> Dimension
     ensures { result ≡ length_or_points (has_bit v 4 || has_bit v 5 || has_bit v 6) (has_bit v 7) }
 {
     if has(v, 4) || has(v, 5) || has(v, 6) {
-        Dimension::Length
+        Length
     } else {
-        points_if(has(v, 7))
+        value_if(Points, has(v, 7))
     }
 }
 
@@ -167,17 +162,17 @@ fn region_region(v: u16, w: u16) -> [[Dimension; 3]; 3]
     ensures { result ≡ matrix_of Shape.Region Shape.Region v w true true }
 {
     let opposite = has(v, 6);
-    let inner = area_if(both_interiors(v, w));
-    let only_f = area_if(own_interior(v, w, opposite));
-    let only_g = area_if(own_interior(w, v, opposite));
+    let inner = value_if(Area, both_interiors(v, w));
+    let only_f = value_if(Area, own_interior(v, w, opposite));
+    let only_g = value_if(Area, own_interior(w, v, opposite));
     [
-        [inner, length_if(has_either(w, 2, 3)), only_f],
+        [inner, value_if(Length, has_either(w, 2, 3)), only_f],
         [
-            length_if(has_either(v, 2, 3)),
+            value_if(Length, has_either(v, 2, 3)),
             both_boundaries(v),
-            length_if(has_either(v, 0, 1)),
+            value_if(Length, has_either(v, 0, 1)),
         ],
-        [only_g, length_if(has_either(w, 0, 1)), Dimension::Area],
+        [only_g, value_if(Length, has_either(w, 0, 1)), Area],
     ]
 }
 
@@ -185,7 +180,7 @@ fn region_region(v: u16, w: u16) -> [[Dimension; 3]; 3]
 pub fn none() -> [[Dimension; 3]; 3]
     ensures { result ≡ no_cells }
 {
-    [[Dimension::Empty; 3]; 3]
+    [[Empty; 3]; 3]
 }
 
 // The matrix of two objects whose types do not descend.
@@ -232,7 +227,7 @@ fn transposed(m: [[Dimension; 3]; 3]) -> [[Dimension; 3]; 3]
 pub fn matrix(e: Explored) -> [[Dimension; 3]; 3]
     ensures { result ≡ matrix_from e }
 {
-    if records::shape_number(e.g) < records::shape_number(e.f) {
+    if e.g < e.f {
         transposed(ascending(exchanged(e)))
     } else {
         ascending(e)

@@ -1,19 +1,15 @@
 -- The check of a scene and a pattern: that of the scene, then 22 and 23 of the pattern.
 use Rattle.scene.specs.declared.Reason.TheVariants.{NotNine, NoCharacter}
-use Rattle.std.specs.Prelude.{Err, None, Ok, Some}
+use Rattle.std.specs.Prelude.{Result, Err, None, Ok, Some}
 use Rattle.scene.specs.Read.{CheckedScene, Fault}
 use Rattle.check_verdict.specs.Refusals.{Verdict}
 use Prim.Native.Nat.{ℕ}
 use native.Mathlib.Omega.{arith}
 use mathlib.Core.Path.{◌≡◌, refl, sym, ap, ◌∙◌}
-use mathlib.Core.Bool.{Bool, true, false}
 use mathlib.Core.List.{List, []}
-use lib.Dec.{eqb}
-use lib.ListN.{length}
-use borrow.Author.Tests.{eqb-true}
 use Rattle.scene.specs.declared.Scene.{Scene}
 use Rattle.scene.specs.declared.Refusal.{Refusal}
-use Rattle.scene.specs.Read.{decide, unless, read_scene}
+use Rattle.scene.specs.Read.{decide, read_scene}
 use Rattle.scene.specs.Conditions.{scene_rules, check_scene_by, check_scene}
 use Rattle.scene.proofs.Outcomes.{never_taken}
 use Rattle.check_verdict.specs.Refusals.{settle, geometry_verdict}
@@ -21,26 +17,25 @@ use Rattle.check_verdict.specs.SharedPoints.{CheckedMeans}
 use Rattle.check_verdict.proofs.Verdicts.{check_refused, check_read}
 use Rattle.check_verdict.proofs.CheckedMeans.{checked_means_by}
 use Rattle.cells_pattern.specs.Pattern.{first_other, not_nine}
-use Rattle.cells_pattern.specs.Asked.{pattern_verdict}
+use Rattle.cells_pattern.specs.Asked.{pattern_verdict, parsed}
 use Rattle.cells_pattern.specs.Related.{pattern_rules, check_relate}
 
 -- ---- a pattern alone
 
-pub sound_nine : (p : List ℕ) → pattern_verdict p ≡ (Ok tt) → length p ≡ 9
-unfolding pattern_verdict
-sound_nine p e = eqb-true (length p) 9 (go (eqb (length p) 9) e)
-  where
-    go : (b : Bool) → decide {A = Verdict} Err NotNine (unless b 0) (decide Err NoCharacter (first_other p 0) (Ok tt)) ≡ Ok tt → b ≡ true
-    go true e = refl
-    go false e = absurd (never_taken e)
+module _ (p : List ℕ) where
+  pub turned_away : (r : Refusal) → parsed p ≡ Err r → pattern_verdict p ≡ Err r
+  turned_away r e = go (pattern_verdict p) e
+    where
+      go : (v : Verdict) → settle {A = Result (List ℕ) Refusal} Err v (Ok p) ≡ Err r → v ≡ Err r
+      go (Err q) e = cc
+      go (Ok tt) e = cc
 
-pub not_nine_lem : (p : List ℕ) → eqb (length p) 9 ≡ false → Err (record { reason = NotNine; place = 0 }) ≡ pattern_verdict p
-unfolding pattern_verdict
-not_nine_lem p e = rw e
-
-pub nine : (p : List ℕ) → eqb (length p) 9 ≡ true → decide Err NoCharacter (first_other p 0) (Ok tt) ≡ pattern_verdict p
-unfolding pattern_verdict
-nine p e = rw e
+  pub its_bytes : (q : List ℕ) → parsed p ≡ Ok q → (pattern_verdict p ≡ Ok tt) × (q ≡ p)
+  its_bytes q e = go (pattern_verdict p) e
+    where
+      go : (v : Verdict) → settle {A = Result (List ℕ) Refusal} Err v (Ok p) ≡ Ok q → (v ≡ Ok tt) × (q ≡ p)
+      go (Err r) e = absurd (never_taken e)
+      go (Ok tt) e = (refl, cc)
 
 -- ---- after the scene
 

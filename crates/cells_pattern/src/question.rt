@@ -3,7 +3,7 @@ ghost use Rattle.std.specs.Prelude.{◌≡◌};
 ghost use Rattle.check_verdict.specs.SharedPoints.{CheckedMeans};
 ghost use Rattle.cells_pattern.specs.Related.{check_relate, relate_of, relate_values, NoPatternWrong};
 
-use crate::pattern;
+use crate::pattern::Pattern;
 use cells::table;
 use flags_masks::Wanted;
 use flags_vectors::question;
@@ -16,10 +16,10 @@ pub fn relate(s: &[u8], p: &[u8]) -> Result<bool, Refusal>
         × NoPatternWrong s.now p.now (relate_values result).holds
         × CheckedMeans s.now (check_relate s.now p.now) }
 {
-    let verdict = pattern::verdict(p);
-    let cells = pattern::wanted_cells(p, verdict);
+    let pattern = Pattern::parse(p);
+    let cells = pattern.as_ref().map_or(0, Pattern::asked_cells);
     let answer = question::answer(s, Wanted::Cells(cells))?;
-    verdict?;
+    let pattern = pattern?;
     let explored = cells::question::explored(answer.scene, answer.vectors);
-    Ok(pattern::fits_all(p, table::matrix(explored)))
+    Ok(pattern.fits_all(table::matrix(explored)))
 }

@@ -1,32 +1,30 @@
 // Condition 14 as a test of one element, by its index: wrong ia.
 ghost use Rattle.std.specs.Prelude.{◌≡◌, ◌<◌, T};
 ghost use Rattle.plane.specs.Plane.{segment_in_range};
-ghost use Rattle.scene.specs.Read.{IsObject};
 ghost use Rattle.scene.specs.Conditions.{has_segments};
 ghost use Rattle.check_conditions.specs.Odd.{interior_by, is_mismarked};
 
 use plane::Segment;
-use scene::{Layout, bytes, records};
+use scene_segments::Object;
 
-fn interior_above(s: &[u8], l: Layout, t: Segment) -> bool
-    requires { IsObject s.now l × T (has_segments l.shape) × T (segment_in_range t) }
-    ensures { result ≡ interior_by s.now l t }
+fn interior_above(o: Object<'_>, t: Segment) -> bool
+    requires { T (has_segments o.layout.shape) × T (segment_in_range t) }
+    ensures { result ≡ interior_by o.entry.bytes.now o.entry.layout t }
 {
     if t.left.x == t.right.x {
-        scene_segments::count_for_ia(s, l, t) % 2 == 1
+        o.count_for_ia(t) % 2 == 1
     } else {
-        scene_segments::count_for_ia(s, l, t) % 2 != 1
+        o.count_for_ia(t) % 2 != 1
     }
 }
 
-pub fn has_wrong_ia(s: &[u8], l: Layout, i: usize) -> bool
-    requires { IsObject s.now l × (i < l.count) }
-    ensures { result ≡ is_mismarked s.now l i }
+pub fn has_wrong_ia(o: Object<'_>, i: usize) -> bool
+    requires { i < o.layout.count }
+    ensures { result ≡ is_mismarked o.entry.bytes.now o.entry.layout i }
 {
-    if !scene_segments::is_region(l.shape) {
+    if !o.layout.shape.is_region() {
         return false;
     }
-    let at = records::place(l, i);
-    let h = bytes::halfsegment(s, at);
-    h.is_left && bytes::ia(s, at) != interior_above(s, l, h.segment)
+    let h = o.half(i);
+    h.is_left && o.ia(i) != interior_above(o, h.segment)
 }

@@ -3,10 +3,10 @@
 #![tactic(auto)]
 
 ghost use Rattle.std.specs.Prelude.{◌≡◌, ◌<◌};
-ghost use Rattle.scene.specs.Read.{IsObject};
 ghost use Rattle.check_conditions.specs.Faults.{is_at_fault, fault_under};
 
-use scene::{Flaw, Layout, records};
+use scene::Flaw;
+use scene_segments::Pair;
 
 pub mod ends;
 pub mod interior;
@@ -14,28 +14,28 @@ pub mod order;
 pub mod partners;
 pub mod touch;
 
-fn is_at_fault(s: &[u8], l: Layout, other: Layout, flaw: Flaw, i: usize) -> bool
-    requires { IsObject s.now l × IsObject s.now other × (i < l.count) }
-    ensures { result ≡ is_at_fault s.now l other flaw i }
+// Kept as a match, and no closure for each flaw: which test is asked is what the flaw says, and the contract says it so.
+fn is_at_fault(pair: Pair<'_>, flaw: Flaw, i: usize) -> bool
+    requires { i < pair.own.count }
+    ensures { result ≡ is_at_fault pair.entry.bytes.now pair.entry.own pair.entry.other flaw i }
 {
     match flaw {
-        Flaw::Misplaced => order::is_misplaced(s, l, i),
-        Flaw::Unpaired => partners::is_unpaired(s, l, i),
-        Flaw::Touching => touch::is_touching(s, l, l, i + 1, i),
-        Flaw::OddEnd => ends::ends_oddly(s, l, i),
-        Flaw::WrongIa => interior::has_wrong_ia(s, l, i),
-        Flaw::TouchingAcross => touch::is_touching(s, l, other, 0, i),
+        Flaw::Misplaced => order::is_misplaced(pair.own(), i),
+        Flaw::Unpaired => partners::is_unpaired(pair.own(), i),
+        Flaw::Touching => touch::is_touching(pair.own().with_itself(), i + 1, i),
+        Flaw::OddEnd => ends::ends_oddly(pair.own(), i),
+        Flaw::WrongIa => interior::has_wrong_ia(pair.own(), i),
+        Flaw::TouchingAcross => touch::is_touching(pair, 0, i),
     }
 }
 
-// The earliest record of l that has a flaw. For 15, other is the scene's other object.
-pub fn fault_under(s: &[u8], l: Layout, other: Layout, flaw: Flaw) -> Option<usize>
-    requires { IsObject s.now l × IsObject s.now other }
-    ensures { result ≡ fault_under s.now l other flaw }
+// The earliest record of an object that has a flaw. For 15, the other one is the scene's other object.
+pub fn fault_under(pair: Pair<'_>, flaw: Flaw) -> Option<usize>
+    ensures { result ≡ fault_under pair.entry.bytes.now pair.entry.own pair.entry.other flaw }
 {
-    for i in 0..l.count {
-        if is_at_fault(s, l, other, flaw, i) {
-            return Some(records::place(l, i));
+    for i in 0..pair.own.count {
+        if is_at_fault(pair, flaw, i) {
+            return Some(pair.own().place(i));
         }
     }
     None

@@ -3,12 +3,13 @@
 ghost use Rattle.std.specs.Prelude.{◌≡◌, ◌+◌, ◌<◌, ◌≤◌, ◌^◌, ℕ, List, length};
 ghost use Rattle.whole.specs.Decides.{Decides};
 ghost use Rattle.plane.specs.Plane.{before, comes_before};
-ghost use Rattle.scene.specs.Read.{point_at, halfsegment_at, size, after, IsObject};
+ghost use Rattle.scene.specs.Read.{point_at, halfsegment_at, size, after};
 ghost use Rattle.scene.specs.Conditions.{is_in_order, is_misplaced, out_of_order};
 ghost use Rattle.scene_segments.specs.Walked.{Readable};
 ghost use Rattle.check_conditions.specs.Ordered.{AsksNeighbours, TellsOrder};
 
-use scene::{Layout, Shape, bytes, records};
+use scene::{Layout, Shape, bytes};
+use scene_segments::Object;
 
 // ---- the records at two offsets
 
@@ -46,10 +47,11 @@ fn ascends<F: Fn(usize, usize) -> bool>(l: Layout, step: usize, in_order: F) -> 
     true
 }
 
-pub fn is_ordered(s: &[u8], l: Layout) -> bool
-    requires { IsObject s.now l }
-    ensures { Decides (out_of_order s.now l ≡ None) result }
+pub fn is_ordered(o: Object<'_>) -> bool
+    ensures { Decides (out_of_order o.entry.bytes.now o.entry.layout ≡ None) result }
 {
+    let s = o.bytes;
+    let l = o.layout;
     match l.shape {
         Shape::Points => ascends(l, 9, |at, next| are_points_in_order(s, at, next)),
         Shape::Line => ascends(l, 18, |at, next| are_halves_in_order(s, at, next)),
@@ -59,22 +61,21 @@ pub fn is_ordered(s: &[u8], l: Layout) -> bool
 
 // ---- one element
 
-fn in_order(s: &[u8], l: Layout, i: usize, j: usize) -> bool
-    requires { IsObject s.now l × (i < l.count) × (j < l.count) }
-    ensures { result ≡ is_in_order s.now l i j }
+#[tactic(auto, unfolding(plane::specs::Plane::before), using(scene_segments::proofs::Elements::order_of_points, scene_segments::proofs::Elements::order_of_halves))]
+fn in_order(o: Object<'_>, i: usize, j: usize) -> bool
+    requires { (i < o.layout.count) × (j < o.layout.count) }
+    ensures { result ≡ is_in_order o.entry.bytes.now o.entry.layout i j }
 {
-    let at = records::place(l, i);
-    let next = records::place(l, j);
-    if scene_segments::has_segments(l.shape) {
-        are_halves_in_order(s, at, next)
+    if o.has_segments() {
+        plane_segments::comes_before(o.half(i), o.half(j))
     } else {
-        are_points_in_order(s, at, next)
+        o.point(i) < o.point(j)
     }
 }
 
-pub fn is_misplaced(s: &[u8], l: Layout, i: usize) -> bool
-    requires { IsObject s.now l × (i < l.count) }
-    ensures { result ≡ is_misplaced s.now l i }
+pub fn is_misplaced(o: Object<'_>, i: usize) -> bool
+    requires { i < o.layout.count }
+    ensures { result ≡ is_misplaced o.entry.bytes.now o.entry.layout i }
 {
-    i != 0 && !in_order(s, l, i - 1, i)
+    i != 0 && !in_order(o, i - 1, i)
 }

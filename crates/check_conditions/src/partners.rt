@@ -1,45 +1,34 @@
 // Condition 11 as a test of one element, by its index: a halfsegment with no partner of opposite d, equal ends and ia, which is looked for at its one
 // place in the order.
-ghost use Rattle.std.specs.Prelude.{◌≡◌, not, ◌&&◌, ◌+◌, ◌<◌, ◌≤◌, length, T};
+ghost use Rattle.std.specs.Prelude.{◌≡◌, not, ◌&&◌, ◌<◌, T};
 ghost use Rattle.plane.specs.Plane.{segment_in_range};
-ghost use Rattle.scene.specs.Read.{halfsegment_at, ia_at, size, IsObject};
-ghost use Rattle.scene.specs.Conditions.{has_segments, is_region};
+ghost use Rattle.scene.specs.Conditions.{has_segments};
 ghost use Rattle.scene_segments.specs.Walked.{partners};
 ghost use Rattle.check_conditions.specs.Partners.{place_for, has_partner};
 
 use plane::Halfsegment;
-use scene::{Layout, Shape, bytes, records};
+use scene_segments::Object;
 
-// ia, which a region's halfsegment alone has.
-fn ia_at(s: &[u8], k: Shape, at: usize) -> bool
-    requires { at + size k ≤ length s.now }
-    ensures { result ≡ (is_region k && ia_at s.now at) }
+// Are two halfsegments, each with its ia, partners?
+#[tactic(auto, using(plane::proofs::Compared::same_segments))]
+fn are_partners(h: Halfsegment, ia: bool, other: Halfsegment, other_ia: bool) -> bool
+    ensures { result ≡ partners h ia other other_ia }
 {
-    match k {
-        Shape::Points | Shape::Line => false,
-        Shape::Region => bytes::ia(s, at),
-    }
-}
-
-fn is_partner_at(s: &[u8], k: Shape, at: usize, h: Halfsegment, ia: bool) -> bool
-    requires { (at + size k ≤ length s.now) × (at + 18 ≤ length s.now) }
-    ensures { result ≡ partners h ia (halfsegment_at s.now at) (is_region k && ia_at s.now at) }
-{
-    let other = bytes::halfsegment(s, at);
-    h.is_left != other.is_left && h.segment == other.segment && ia == ia_at(s, k, at)
+    h.is_left != other.is_left && h.segment == other.segment && ia == other_ia
 }
 
 // Where h stands among the elements, or would.
-// Kept as a loop: the library's search by halving wants a slice, and here each element is read out of the bytes.
-fn place_for(s: &[u8], l: Layout, h: Halfsegment) -> usize
-    requires { IsObject s.now l × T (has_segments l.shape) × T (segment_in_range h.segment) }
-    ensures { result ≡ place_for s.now l h }
+// Kept as a loop: the library's search by halving wants a slice, and here each element is read out of the bytes. Kept beside that of the sweep's status: this one
+// says which place it finds, that one promises a place between two neighbours, and a loop in common would have to promise both.
+fn place_for(o: Object<'_>, h: Halfsegment) -> usize
+    requires { T (has_segments o.layout.shape) × T (segment_in_range h.segment) }
+    ensures { result ≡ place_for o.entry.bytes.now o.entry.layout h }
 {
     let mut low: usize = 0;
-    let mut high = l.count;
+    let mut high = o.layout.count;
     while low < high {
         let middle = (low + high) / 2;
-        if plane_segments::comes_before(bytes::halfsegment(s, records::place(l, middle)), h) {
+        if plane_segments::comes_before(o.half(middle), h) {
             low = middle + 1;
         } else {
             high = middle;
@@ -48,23 +37,22 @@ fn place_for(s: &[u8], l: Layout, h: Halfsegment) -> usize
     low
 }
 
-fn has_partner(s: &[u8], l: Layout, i: usize) -> bool
-    requires { IsObject s.now l × (i < l.count) × T (has_segments l.shape) }
-    ensures { result ≡ has_partner s.now l i }
+fn has_partner(o: Object<'_>, i: usize) -> bool
+    requires { (i < o.layout.count) × T (has_segments o.layout.shape) }
+    ensures { result ≡ has_partner o.entry.bytes.now o.entry.layout i }
 {
-    let own = records::place(l, i);
-    let h = bytes::halfsegment(s, own);
+    let h = o.half(i);
     let turned = Halfsegment {
         is_left: !h.is_left,
         ..h
     };
-    let j = place_for(s, l, turned);
-    j < l.count && is_partner_at(s, l.shape, records::place(l, j), h, ia_at(s, l.shape, own))
+    let j = place_for(o, turned);
+    j < o.layout.count && are_partners(h, o.ia(i), o.half(j), o.ia(j))
 }
 
-pub fn is_unpaired(s: &[u8], l: Layout, i: usize) -> bool
-    requires { IsObject s.now l × (i < l.count) }
-    ensures { result ≡ (has_segments l.shape && not (has_partner s.now l i)) }
+pub fn is_unpaired(o: Object<'_>, i: usize) -> bool
+    requires { i < o.layout.count }
+    ensures { result ≡ (has_segments o.entry.layout.shape && not (has_partner o.entry.bytes.now o.entry.layout i)) }
 {
-    scene_segments::has_segments(l.shape) && !has_partner(s, l, i)
+    o.has_segments() && !has_partner(o, i)
 }

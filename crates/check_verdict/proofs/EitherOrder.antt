@@ -1,7 +1,7 @@
 -- Two objects' bytes one after the other, and the other way round: a condition finds a fault in the one scene exactly where it finds one in the other, so both
 -- are taken, or both are refused under one number.
 use Rattle.scene.specs.declared.Reason.TheVariants.{Flawed}
-use Rattle.scene.specs.declared.Flaw.TheVariants.{Misplaced, Unpaired, Touching, OddEnd, WrongIa, TouchingAcross}
+use Rattle.scene.specs.declared.Flaw.TheVariants.{TouchingAcross}
 use Rattle.std.specs.Prelude.{Err, None, Ok, Some}
 use Rattle.scene.specs.Read.{CheckedScene, Fault}
 use Rattle.check_verdict.specs.Refusals.{Verdict}

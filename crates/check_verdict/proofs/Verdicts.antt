@@ -2,10 +2,10 @@
 -- parts, whatever conditions of its own it has.
 use Rattle.std.specs.Prelude.{Err, None, Ok, Some}
 use Rattle.scene.specs.Read.{Fault}
-use Prim.Native.Nat.{ℕ, ◌+◌, ◌<◌, ◌≤◌}
+use Prim.Native.Nat.{ℕ}
 use mathlib.Core.Path.{◌≡◌, refl, sym, ap, ap₂, ◌∙◌}
 use mathlib.Core.Bool.{Bool, true, false}
-use mathlib.Core.List.{List, [], ◌∷◌, ◌++◌, map}
+use mathlib.Core.List.{List, [], ◌∷◌, ◌++◌}
 use Rattle.scene.specs.declared.Layout.{Layout}
 use Rattle.scene.specs.declared.Scene.{Scene}
 use Rattle.scene.specs.declared.Refusal.{Refusal}
@@ -15,7 +15,6 @@ use Rattle.scene.specs.declared.Reason.{Reason}
 use Rattle.scene.specs.declared.Reason.TheVariants.{Flawed}
 use Rattle.scene.specs.Read.{Condition, condition, decide, judge, given_first, given_second, read_scene, read_alone, IsObject, IsScene}
 use Rattle.scene.specs.Conditions.{out_of_order, unpaired, touching_itself, odd_end, wrong_ia, or_else, touching_across, Rule, conditions, scene_rules, checked_scene, check_scene_by, checked_object, check_object, object_rules}
-use native.Mathlib.Omega.{arith}
 use Rattle.sweep_laws.specs.Swept.{object_of, InOrder, Passes}
 use Rattle.check_conditions.specs.Faults.{fault_under}
 use Rattle.check_verdict.specs.Refusals.{scene_fault_under, flawed, object_flaws, scene_flaws, Verdict, verdict, settle, object_verdict, geometry_rules, geometry_verdict}

@@ -2,10 +2,10 @@
 // A question with conditions of its own calls them in their order: its 9, `geometry_verdict` or `noted_verdict`, then its 16 and 17.
 #![tactic(auto)]
 
-ghost use Rattle.std.specs.Prelude.{◌≡◌, ◌≤◌, T, length, Ok};
+ghost use Rattle.std.specs.Prelude.{◌≡◌, T, Ok};
 ghost use Rattle.scene.specs.declared.Flaw.{Flaw};
 ghost use Rattle.whole.specs.Decides.{Decides};
-ghost use Rattle.scene.specs.Read.{Fault, given_first, given_second, IsObject, IsScene};
+ghost use Rattle.scene.specs.Read.{Fault};
 ghost use Rattle.scene.specs.Conditions.{or_else, check_scene, check_object};
 ghost use Rattle.check_conditions.specs.Faults.{fault_under};
 ghost use Rattle.sweep_laws.specs.Swept.{InOrder};
@@ -13,17 +13,14 @@ ghost use Rattle.sweep_laws.specs.Noted.{Noted};
 ghost use Rattle.check_verdict.specs.Refusals.{scene_fault_under, flawed, verdict, Finds, object_verdict, geometry_verdict};
 ghost use Rattle.check_verdict.specs.SharedPoints.{CheckedMeans, CheckedObjectMeans};
 
-use scene::{Flaw, Layout, Reason, Refusal, Scene, order};
+use scene::{Flaw, Layout, Reason, Refusal, Scene};
+use scene_segments::{Object, Pair, ReadScene};
+use sweep::OrderedScene;
+use sweep_notes::Notes;
 
-// The flaws of one object and those of a scene, in the order of their conditions.
-const OBJECT_FLAWS: [Flaw; 5] = [
-    Flaw::Misplaced,
-    Flaw::Unpaired,
-    Flaw::Touching,
-    Flaw::OddEnd,
-    Flaw::WrongIa,
-];
+pub mod taken;
 
+// The flaws of a scene, in the order of their conditions. One object can have all but the last.
 const SCENE_FLAWS: [Flaw; 6] = [
     Flaw::Misplaced,
     Flaw::Unpaired,
@@ -34,26 +31,23 @@ const SCENE_FLAWS: [Flaw; 6] = [
 ];
 
 // The earliest record of one of two objects that has a flaw: of the first, or else of the second.
-fn fault_in_either(s: &[u8], first: Layout, second: Layout, flaw: Flaw) -> Option<usize>
-    requires { IsObject s.now first × IsObject s.now second }
-    ensures { result ≡ or_else (fault_under s.now first second flaw) (fault_under s.now second first flaw) }
+// Kept as a match: tried with `Option::or_else`, where the check knows nothing of what the closure answers, so the proof did not close.
+fn fault_in_either(pair: Pair<'_>, flaw: Flaw) -> Option<usize>
+    ensures { result ≡ or_else (fault_under pair.entry.bytes.now pair.entry.own pair.entry.other flaw) (fault_under pair.entry.bytes.now pair.entry.other pair.entry.own flaw) }
 {
-    match check_conditions::fault_under(s, first, second, flaw) {
+    match check_conditions::fault_under(pair, flaw) {
         Some(place) => Some(place),
-        None => check_conditions::fault_under(s, second, first, flaw),
+        None => check_conditions::fault_under(pair.exchanged(), flaw),
     }
 }
 
 // The earliest record of a scene that has a flaw.
-fn scene_fault(s: &[u8], scene: Scene, flaw: Flaw) -> Option<usize>
-    requires { IsObject s.now (given_first scene) × IsObject s.now (given_second scene) }
-    ensures { result ≡ scene_fault_under s.now scene flaw }
+fn scene_fault(read: ReadScene<'_>, flaw: Flaw) -> Option<usize>
+    ensures { result ≡ scene_fault_under read.entry.bytes.now read.entry.scene flaw }
 {
-    let first = order::given_first(scene);
-    let second = order::given_second(scene);
     match flaw {
-        Flaw::TouchingAcross => check_conditions::fault_under(s, first, second, flaw),
-        _ => fault_in_either(s, first, second, flaw),
+        Flaw::TouchingAcross => check_conditions::fault_under(read.as_given(), flaw),
+        _ => fault_in_either(read.as_given(), flaw),
     }
 }
 
@@ -64,69 +58,60 @@ fn first_refusal<F: Fn(Flaw) -> Option<usize>>(flaws: &[Flaw], fault: F) -> Resu
 {
     for &flaw in flaws {
         if let Some(place) = fault(flaw) {
-            return Err(Refusal {
-                reason: Reason::Flawed(flaw),
-                place,
-            });
+            return Reason::Flawed(flaw).at(place);
         }
     }
     Ok(())
 }
 
 // The first refusal under 10 to 14 of one object.
-pub fn object_verdict(s: &[u8], l: Layout) -> Result<(), Refusal>
-    requires { IsObject s.now l }
-    ensures { result ≡ object_verdict s.now l }
+pub fn object_verdict(o: Object<'_>) -> Result<(), Refusal>
+    ensures { result ≡ object_verdict o.entry.bytes.now o.entry.layout }
 {
+    let pair = o.with_itself();
     first_refusal(
-        &OBJECT_FLAWS,
-        |flaw| check_conditions::fault_under(s, l, l, flaw),
+        &SCENE_FLAWS[..5],
+        |flaw| check_conditions::fault_under(pair, flaw),
     )
 }
 
 // The first refusal under 10 to 15 of a scene, condition by condition.
-fn plain_verdict(s: &[u8], scene: Scene) -> Result<(), Refusal>
-    requires { IsObject s.now (given_first scene) × IsObject s.now (given_second scene) }
-    ensures { result ≡ geometry_verdict s.now scene }
+fn plain_verdict(read: ReadScene<'_>) -> Result<(), Refusal>
+    ensures { result ≡ geometry_verdict read.entry.bytes.now read.entry.scene }
 {
-    first_refusal(&SCENE_FLAWS, |flaw| scene_fault(s, scene, flaw))
+    first_refusal(&SCENE_FLAWS, |flaw| scene_fault(read, flaw))
 }
 
 // Does each element of either object come strictly after the one before?
-fn is_in_order(s: &[u8], scene: Scene) -> bool
-    requires { IsScene s.now scene }
-    ensures { Decides (InOrder s.now scene) result }
+fn is_in_order(read: ReadScene<'_>) -> bool
+    ensures { Decides (InOrder read.entry.bytes.now read.entry.scene) result }
 {
-    check_conditions::order::is_ordered(s, scene.f)
-        && check_conditions::order::is_ordered(s, scene.g)
+    check_conditions::order::is_ordered(read.object(true))
+        && check_conditions::order::is_ordered(read.object(false))
 }
 
 // Is a scene sound, by its order and by the sweep, which is fast? If so, each element is noted.
-fn is_swept(s: &[u8], scene: Scene, notes: &mut [u8]) -> bool
-    requires { IsScene s.now scene × (2048 ≤ length notes.old) }
-    ensures { (length notes.new ≡ length notes.old) × Decides (geometry_verdict s.now scene ≡ Ok tt) result × (T result → Noted s.now scene notes.new) }
+fn is_swept(read: ReadScene<'_>, notes: &mut Notes) -> bool
+    ensures { Decides (geometry_verdict read.entry.bytes.now read.entry.scene ≡ Ok tt) result × (T result → Noted read.entry.bytes.now read.entry.scene notes.new) }
 {
-    is_in_order(s, scene) && sweep::accepts(s, scene, notes)
+    is_in_order(read) && sweep::accepts(OrderedScene { read }, notes)
 }
 
 // The first refusal under 10 to 15 of a scene: none, by the sweep, which leaves its notes; else condition by condition, which says where the fault lies.
-pub fn noted_verdict(s: &[u8], scene: Scene, notes: &mut [u8]) -> Result<(), Refusal>
-    requires { IsScene s.now scene × (2048 ≤ length notes.old) }
-    ensures { (length notes.new ≡ length notes.old) × (result ≡ geometry_verdict s.now scene) × (result ≡ Ok tt → Noted s.now scene notes.new) }
+pub fn noted_verdict(read: ReadScene<'_>, notes: &mut Notes) -> Result<(), Refusal>
+    ensures { (result ≡ geometry_verdict read.entry.bytes.now read.entry.scene) × (result ≡ Ok tt → Noted read.entry.bytes.now read.entry.scene notes.new) }
 {
-    if is_swept(s, scene, notes) {
+    if is_swept(read, notes) {
         return Ok(());
     }
-    plain_verdict(s, scene)
+    plain_verdict(read)
 }
 
 // The verdict alone.
-pub fn geometry_verdict(s: &[u8], scene: Scene) -> Result<(), Refusal>
-    requires { IsScene s.now scene }
-    ensures { result ≡ geometry_verdict s.now scene }
+pub fn geometry_verdict(read: ReadScene<'_>) -> Result<(), Refusal>
+    ensures { result ≡ geometry_verdict read.entry.bytes.now read.entry.scene }
 {
-    let mut notes = [0u8; 2048];
-    noted_verdict(s, scene, &mut notes)
+    noted_verdict(read, &mut Notes::new())
 }
 
 // A scene's bytes, checked whole: taken, or refused with one number and one place; and what that says of the points that its segments share.
@@ -134,7 +119,7 @@ pub fn check_scene(s: &[u8]) -> Result<Scene, Refusal>
     ensures { (result ≡ check_scene s.now) × CheckedMeans s.now result }
 {
     let scene = scene_reading::read_scene(s)?;
-    geometry_verdict(s, scene)?;
+    geometry_verdict(ReadScene { bytes: s, scene })?;
     Ok(scene)
 }
 
@@ -143,7 +128,7 @@ pub fn check_scene(s: &[u8]) -> Result<Scene, Refusal>
 pub fn check_object(s: &[u8]) -> Result<Layout, Refusal>
     ensures { (result ≡ check_object s.now) × CheckedObjectMeans s.now result }
 {
-    let l = scene_reading::read_alone(s)?;
-    object_verdict(s, l)?;
-    Ok(l)
+    let layout = scene_reading::read_alone(s)?;
+    object_verdict(Object { bytes: s, layout })?;
+    Ok(layout)
 }

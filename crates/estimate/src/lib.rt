@@ -89,9 +89,3 @@ impl From<Side> for i32 {
         }
     }
 }
-
-pub fn side_number(side: Side) -> i32
-    ensures { result ≡ side_number side }
-{
-    i32::from(side)
-}

@@ -6,6 +6,7 @@ ghost use Rattle.std.specs.Int.Bits.{bit_and, bit_or};
 ghost use Rattle.flags.specs.Flags.{pack};
 
 // The vector of some flags, bit 0 first.
+// Kept as a loop: that each sum fits is told by its invariant, and the closure of a fold would have to ask for it.
 pub fn packed<const N: usize>(flags: [bool; N]) -> u16
     requires { N ≤ 16 }
     ensures { (result ≡ pack flags.entry) × (result < 2 ^ N) }
@@ -18,6 +19,7 @@ pub fn packed<const N: usize>(flags: [bool; N]) -> u16
 }
 
 // A set of marks, a bit of a number for each.
+// Kept as bits, and no struct of bools: a walk joins the marks of each step to those so far, whichever they are.
 #[derive(Clone, Copy)]
 pub struct MarkSet(pub u16);
 

@@ -40,9 +40,6 @@ abbrev pub Behind : List ℕ → Layout → Layout → ℕ → ℕ → Type 0
 Behind s own other i j = (k : ℕ) → k < i → left_test s own k ≡ true → Ahead s other j (half s own k).segment
 
 module _ (s : List ℕ) (own other : Layout) where
-  pub behind_start : Behind s own other 0 0
-  behind_start k h = absurd (omega arith)
-
   module _ {i j : ℕ} (q : Behind s own other i j) where
     -- over right halfsegments of either
     pub behind_passed : {a b : ℕ} → NoneLeft s own i a → j ≤ b → Behind s own other a b

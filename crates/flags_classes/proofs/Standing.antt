@@ -1,5 +1,6 @@
 -- Where the walk over the left halfsegments of two objects stands after each step, and that a segment of one object that comes next alone is none of
 -- the other's.
+use Rattle.std.specs.Prelude.{Option, Some, None}
 use Prim.Native.Nat.{ℕ, ◌+◌, ◌<◌}
 use native.Mathlib.Decide.{dec_lt}
 use native.Mathlib.Omega.{arith}
@@ -13,18 +14,17 @@ use Rattle.scene.specs.declared.Scene.{Scene}
 use Rattle.scene.specs.Conditions.{half, left_test, segments}
 use Rattle.check_verdict.proofs.Laws.{SoundScene, left_in, all_ordered, across}
 use Rattle.flags.specs.Flags.{has_segment}
-use Rattle.flags_classes.specs.Walked.{Nexts, same, earlier, NextOfF, NextOfG, NextOfBoth}
+use Rattle.flags_classes.specs.declared.merged.Step.{Step}
+use Rattle.flags_classes.specs.declared.merged.Step.TheVariants.{OfF, OfG, OfBoth}
+use Rattle.flags_classes.specs.Walked.{Nexts, same, earlier, NextOfF, NextOfG, NextOfBoth, Stepped, f_after, g_after}
 use Rattle.flags_classes.proofs.Comparable.{compare_across}
 use Rattle.flags_classes.proofs.Merging.{none_yet}
-use Rattle.flags_classes.proofs.Behind.{Ahead, Behind, behind_start, behind_passed, behind_one, left_ordered, ahead_none, ahead_first, ahead_same, unshared}
+use Rattle.flags_classes.proofs.Behind.{Ahead, Behind, behind_passed, behind_one, left_ordered, ahead_none, ahead_first, ahead_same, unshared}
 
 module _ (s : List ℕ) (f g : Layout) where
   pub record Standing (i j : ℕ) : Type 0 where
     pub behind_f : Behind s f g i j
     pub behind_g : Behind s g f j i
-
-  pub standing : Standing 0 0
-  standing = record { behind_f = behind_start s f g; behind_g = behind_start s g f }
 
   pub stands_next : {i j a b : ℕ} → Standing i j → Nexts s f g i j a b → Standing a b
   stands_next w n = record {
@@ -113,3 +113,10 @@ module _ {s : List ℕ} {sc : Scene} (o : SoundScene s sc) where
       where
         v : Standing s f g a b
         v = stands_next s f g w n.nexts
+
+  -- of any
+  pub standing_after : {i j : ℕ} → Standing s f g i j → (step : Option Step) → Stepped s f g i j step → Standing s f g (f_after i step) (g_after j step)
+  standing_after w (Some (OfF a b)) n = standing_f w n
+  standing_after w (Some (OfG a b)) n = standing_g w n
+  standing_after w (Some (OfBoth a b)) n = standing_both w n
+  standing_after w None n = w

@@ -14,12 +14,12 @@ use Rattle.check_verdict.proofs.Laws.{SoundScene}
 use Rattle.flags.specs.Flags.{pack, has_bit}
 use Rattle.flags.proofs.Bits.{pack_bit}
 use Rattle.flags.proofs.Elements.{some_same}
-use Rattle.flags.proofs.Marks.{gather, gather_bit, Gathering, gathering, gathered_one, gathered_none, gathered_all}
+use Rattle.flags.proofs.Marks.{gather, gather_bit, Gathering, gathered_one, gathered_none, gathered_all}
 use Rattle.flags_classes.specs.Classed.{classes, classes_of_f, classes_of_g}
 use Rattle.flags_classes.specs.Marked.{unshared_marks, shared_marks, named}
 use Rattle.flags_classes.specs.Walked.{NextLeft, Nexts, NextOfF, NextOfG, NextOfBoth}
 use Rattle.flags_classes.proofs.Behind.{tests_at, marks_unshared, marks_shared}
-use Rattle.flags_classes.proofs.Standing.{Standing, standing, stands_next, one_segment, standing_f, alone_f, standing_g, alone_g, standing_both}
+use Rattle.flags_classes.proofs.Standing.{Standing, stands_next, one_segment, standing_f, alone_f, standing_g, alone_g, standing_both}
 
 -- ---- over one object
 
@@ -61,13 +61,6 @@ module _ (s : List ℕ) (f g : Layout) (notes : List ℕ) where
     pub found_f : Gathering marks_of_f f.count of_f_lem i
     pub found_g : Gathering marks_of_g g.count of_g_lem j
     pub stands : Standing s f g i j
-
-  pub walking : Walking 0 0 0 0
-  walking = record {
-    found_f = gathering marks_of_f f.count;
-    found_g = gathering marks_of_g g.count;
-    stands = standing s f g;
-  }
 
   to_next : {of_f_lem of_g_lem : ℕ} {i j a b : ℕ} → Walking of_f_lem of_g_lem i j → Nexts s f g i j a b → Walking of_f_lem of_g_lem a b
   to_next w n = record {

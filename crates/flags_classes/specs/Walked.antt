@@ -1,6 +1,6 @@
 -- What the walk over the left halfsegments of two objects promises: which of F and of G comes next, in the order of left halfsegments, from an element
--- of each on.
-use Rattle.std.specs.Prelude.{ℕ, ◌<◌, ◌≤◌, ◌≡◌, Bool, true, false, cond, List, Option, Some, None}
+-- of each on, and where it goes on.
+use Rattle.std.specs.Prelude.{ℕ, ◌+◌, ◌<◌, ◌≤◌, ◌≡◌, Bool, true, false, cond, List, Option, Some, None}
 use Rattle.plane.specs.declared.Segment.{Segment}
 use Rattle.plane.specs.declared.Halfsegment.{Halfsegment}
 use Rattle.plane.specs.Plane.{is_same_segment, comes_before}
@@ -26,6 +26,11 @@ pub record NextLeft (s : List ℕ) (l : Layout) (i k : ℕ) : Type 0 where
   pub within : k ≤ l.count
   pub passed : NoneLeft s l i k
   pub there : k < l.count → left_test s l k ≡ true
+
+-- the first one from i on, if there is one
+abbrev pub FirstLeft : List ℕ → Layout → ℕ → Option ℕ → Type 0
+FirstLeft s l i (Some k) = NextLeft s l i k × (k < l.count)
+FirstLeft s l i None = NextLeft s l i l.count
 
 -- the first of t, at i, and u, at j
 abbrev pub step_of : Segment → Segment → ℕ → ℕ → Step
@@ -66,3 +71,16 @@ module _ (s : List ℕ) (f g : Layout) where
   Stepped i j (Some (OfG a b)) = NextOfG i j a b
   Stepped i j (Some (OfBoth a b)) = NextOfBoth i j a b
   Stepped i j None = Nexts i j f.count g.count
+
+-- where the walk goes on in F and in G, from i and from j: past what came, and of the other from its first one on
+abbrev pub f_after : ℕ → Option Step → ℕ
+f_after i (Some (OfF a b)) = a + 1
+f_after i (Some (OfG a b)) = a
+f_after i (Some (OfBoth a b)) = a + 1
+f_after i None = i
+
+abbrev pub g_after : ℕ → Option Step → ℕ
+g_after j (Some (OfF a b)) = b
+g_after j (Some (OfG a b)) = b + 1
+g_after j (Some (OfBoth a b)) = b + 1
+g_after j None = j

@@ -7,7 +7,7 @@ use mathlib.Core.Logic.{◌⊎◌}
 use mathlib.Core.Bool.{Bool, false, not}
 use mathlib.Core.List.{List}
 use lib.Arith.{le→nltb}
-use lib.Bits.{bit_and, and_mask, and_zero_r}
+use lib.Bits.{bit_and, and_mask}
 use lib.Dec.{T, ltb, nltb→le}
 use lib.ListN.{length}
 use Rattle.whole.specs.Decides.{Decides}
@@ -58,10 +58,6 @@ module _ (all : ℕ) (flags : List Bool) (ones : all ≡ 2 ^ length flags - 1) w
   whole = ap (bit_and (pack flags)) ones ∙ and_mask (pack flags) (length flags) ∙ mod-eq_of_lt (pack_lt flags)
 
 -- ---- refusal StrayFlag, and the vectors
-
--- a mask that wants nothing leaves nothing of a vector
-pub none_wanted : (mask v : ℕ) → mask ≡ 0 → 0 ≡ only mask v
-none_wanted mask v e = sym (ap (bit_and v) e ∙ and_zero_r v)
 
 -- a bit of what is wanted of a vector
 only_bit : {P : Type 0} (mask v k : ℕ) → Decides P (has_bit v k) → Decides (T (has_bit mask k) × P) (has_bit (only mask v) k)

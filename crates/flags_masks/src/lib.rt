@@ -5,9 +5,10 @@ ghost use Rattle.std.specs.Prelude.{◌≡◌, cond, map, ◌<◌, get_or};
 ghost use Rattle.scene.specs.Read.{shape_number};
 ghost use Rattle.flags_masks.specs.Wanted.{mask_of_f, mask_of_g, entry_of, place_in, cell_masks_in, masks_for, has_stray, any_stray};
 
-use scene::{Scene, Shape, order, records};
+use scene::{Scene, Shape};
 
 // A mask for each object, a bit for each flag.
+// Kept beside `flags_vectors::Vectors`, and no type for both: by its type a vector is not taken for a mask.
 #[derive(Clone, Copy)]
 pub struct FlagMasks {
     pub f: u16,
@@ -18,7 +19,7 @@ pub struct FlagMasks {
 const NONE: FlagMasks = FlagMasks { f: 0, g: 0 };
 
 // What is wanted of a scene: the flags of two masks, all that its pair of types has, or those that some of the nine cells are read off. Cells are a bit each, row
-// by row, in the caller's order.
+// by row, in the caller's order. Kept as a word, and no nine bools: it is packed and read as flags are.
 #[derive(Clone, Copy)]
 pub enum Wanted {
     These(FlagMasks),
@@ -43,76 +44,82 @@ pub fn masks_of(f: Shape, g: Shape) -> FlagMasks
     FLAG_MASKS[f as usize][g as usize]
 }
 
-// The flags that each cell is read off: a row for each pair of types, and in it the nine cells row by row.
-const CELL_MASKS: [[FlagMasks; 9]; 9] = [
+// The flags that each cell is read off: for each type of F and each type of G the nine cells, row by row.
+const CELL_MASKS: [[[FlagMasks; 9]; 3]; 3] = [
     [
-        FlagMasks { f: 2, g: 0 },
-        NONE,
-        FlagMasks { f: 1, g: 0 },
-        NONE,
-        NONE,
-        NONE,
-        FlagMasks { f: 0, g: 1 },
-        NONE,
-        NONE,
+        [
+            FlagMasks { f: 2, g: 0 },
+            NONE,
+            FlagMasks { f: 1, g: 0 },
+            NONE,
+            NONE,
+            NONE,
+            FlagMasks { f: 0, g: 1 },
+            NONE,
+            NONE,
+        ],
+        [
+            FlagMasks { f: 2, g: 0 },
+            FlagMasks { f: 4, g: 0 },
+            FlagMasks { f: 1, g: 0 },
+            NONE,
+            NONE,
+            NONE,
+            NONE,
+            FlagMasks { f: 0, g: 1 },
+            NONE,
+        ],
+        [
+            FlagMasks { f: 1, g: 0 },
+            FlagMasks { f: 2, g: 0 },
+            FlagMasks { f: 4, g: 0 },
+            NONE,
+            NONE,
+            NONE,
+            NONE,
+            NONE,
+            NONE,
+        ],
     ],
     [
-        FlagMasks { f: 2, g: 0 },
-        FlagMasks { f: 4, g: 0 },
-        FlagMasks { f: 1, g: 0 },
-        NONE,
-        NONE,
-        NONE,
-        NONE,
-        FlagMasks { f: 0, g: 1 },
-        NONE,
+        [NONE; 9],
+        [
+            FlagMasks { f: 3, g: 0 },
+            FlagMasks { f: 0, g: 2 },
+            FlagMasks { f: 4, g: 0 },
+            FlagMasks { f: 8, g: 0 },
+            FlagMasks { f: 16, g: 0 },
+            FlagMasks { f: 32, g: 0 },
+            FlagMasks { f: 0, g: 1 },
+            FlagMasks { f: 0, g: 4 },
+            NONE,
+        ],
+        [
+            FlagMasks { f: 1, g: 0 },
+            FlagMasks { f: 10, g: 0 },
+            FlagMasks { f: 4, g: 0 },
+            FlagMasks { f: 16, g: 0 },
+            FlagMasks { f: 32, g: 0 },
+            FlagMasks { f: 64, g: 0 },
+            NONE,
+            FlagMasks { f: 0, g: 1 },
+            NONE,
+        ],
     ],
     [
-        FlagMasks { f: 1, g: 0 },
-        FlagMasks { f: 2, g: 0 },
-        FlagMasks { f: 4, g: 0 },
-        NONE,
-        NONE,
-        NONE,
-        NONE,
-        NONE,
-        NONE,
-    ],
-    [NONE; 9],
-    [
-        FlagMasks { f: 3, g: 0 },
-        FlagMasks { f: 0, g: 2 },
-        FlagMasks { f: 4, g: 0 },
-        FlagMasks { f: 8, g: 0 },
-        FlagMasks { f: 16, g: 0 },
-        FlagMasks { f: 32, g: 0 },
-        FlagMasks { f: 0, g: 1 },
-        FlagMasks { f: 0, g: 4 },
-        NONE,
-    ],
-    [
-        FlagMasks { f: 1, g: 0 },
-        FlagMasks { f: 10, g: 0 },
-        FlagMasks { f: 4, g: 0 },
-        FlagMasks { f: 16, g: 0 },
-        FlagMasks { f: 32, g: 0 },
-        FlagMasks { f: 64, g: 0 },
-        NONE,
-        FlagMasks { f: 0, g: 1 },
-        NONE,
-    ],
-    [NONE; 9],
-    [NONE; 9],
-    [
-        FlagMasks { f: 60, g: 12 },
-        FlagMasks { f: 0, g: 12 },
-        FlagMasks { f: 67, g: 12 },
-        FlagMasks { f: 12, g: 0 },
-        FlagMasks { f: 240, g: 0 },
-        FlagMasks { f: 3, g: 0 },
-        FlagMasks { f: 76, g: 3 },
-        FlagMasks { f: 0, g: 3 },
-        NONE,
+        [NONE; 9],
+        [NONE; 9],
+        [
+            FlagMasks { f: 60, g: 12 },
+            FlagMasks { f: 0, g: 12 },
+            FlagMasks { f: 67, g: 12 },
+            FlagMasks { f: 12, g: 0 },
+            FlagMasks { f: 240, g: 0 },
+            FlagMasks { f: 3, g: 0 },
+            FlagMasks { f: 76, g: 3 },
+            FlagMasks { f: 0, g: 3 },
+            NONE,
+        ],
     ],
 ];
 
@@ -120,7 +127,7 @@ const CELL_MASKS: [[FlagMasks; 9]; 9] = [
 fn cell_masks(scene: Scene) -> [FlagMasks; 9]
     ensures { result ≡ map entry_of (cell_masks_in scene) }
 {
-    CELL_MASKS[3 * scene.f.shape as usize + scene.g.shape as usize]
+    CELL_MASKS[scene.f.shape as usize][scene.g.shape as usize]
 }
 
 // Where a cell of the caller's stands in the row of its pair: with the objects exchanged, rows are columns.
@@ -136,7 +143,7 @@ fn masks_of_cells(cells: u16, scene: Scene) -> FlagMasks
     ensures { result ≡ masks_for (Wanted.Cells cells) scene }
 {
     let row = cell_masks(scene);
-    let turned = order::is_turned(scene);
+    let turned = scene.is_turned();
     let mut f: u16 = 0;
     let mut g: u16 = 0;
     for at in 0..9 {
@@ -154,7 +161,7 @@ fn masks_of_cells(cells: u16, scene: Scene) -> FlagMasks
 fn arranged(masks: FlagMasks, scene: Scene) -> FlagMasks
     ensures { result ≡ masks_for (Wanted.These masks) scene }
 {
-    if order::is_turned(scene) {
+    if scene.is_turned() {
         FlagMasks {
             f: masks.g,
             g: masks.f,
@@ -184,9 +191,9 @@ fn has_stray(all: u16, mask: u16) -> bool
 }
 
 // 9: is a bit wanted that has no flag?
-pub fn any_stray(scene: Scene, f: u16, g: u16) -> bool
-    ensures { result ≡ any_stray (shape_number scene.f.shape) (shape_number scene.g.shape) f g }
+pub fn any_stray(scene: Scene, wanted: FlagMasks) -> bool
+    ensures { result ≡ any_stray (shape_number scene.f.shape) (shape_number scene.g.shape) wanted.f wanted.g }
 {
     let masks = masks_of(scene.f.shape, scene.g.shape);
-    has_stray(masks.f, f) || has_stray(masks.g, g)
+    has_stray(masks.f, wanted.f) || has_stray(masks.g, wanted.g)
 }

@@ -1,13 +1,10 @@
 -- How far a walk over the points of an object's elements has come, and the marks that it collects.
 use Rattle.std.specs.Prelude.{ℕ, ◌-◌, ◌<◌, ◌≤◌, ◌≡◌, Bool, false, List, [], ◌∷◌, eqb, ltb, get_or}
 use Rattle.std.specs.Int.Bits.{bit_or}
-use Rattle.scene.specs.declared.Layout.{Layout}
-use Rattle.scene.specs.Read.{place}
-use Rattle.scene_keys.specs.Keyed.{next, next_key}
+use Rattle.scene_keys.specs.Keyed.{next}
 use Rattle.scene_segments.proofs.Walk.{between}
 use Rattle.flags.specs.Flags.{pack, has_bit}
 use Rattle.flags.proofs.Marks.{gather}
-use Rattle.flags_meetings.specs.declared.Cursor.{Cursor}
 use Rattle.flags_meetings.specs.declared.Meetings.{Meetings}
 use Rattle.flags_meetings.specs.Met.{bound_outside_test, bound_inside_test, bound_on_test, bound_bound_test, bound_inner_test, inner_bound_test, inner_inner_test, bound_of_g_test}
 
@@ -18,11 +15,6 @@ pub record Passed (n : ℕ) (u : ℕ → ℕ) (k i j : ℕ) : Type 0 where
   pub on : i ≤ j
   pub same : (m : ℕ) → i ≤ m → m < j → next n u m ≡ k
   pub other : next n u j ≡ k → ⊥
-
-pub record Reached (s : List ℕ) (l : Layout) (c : Cursor) : Type 0 where
-  pub few : c.index ≤ l.count
-  pub stands : c.at ≡ place l c.index
-  pub key_is : c.key ≡ next_key s l c.index
 
 -- ---- marks: a bit of a number for each test
 

@@ -1,22 +1,24 @@
 // Where elements of two objects meet: one walk over the points of both, in their order, by their keys.
 #![tactic(auto)]
 
-ghost use Rattle.std.specs.Prelude.{◌≡◌, ◌<◌, ◌≤◌, length};
+ghost use Rattle.std.specs.Prelude.{◌≡◌, ◌<◌, ◌≤◌};
 ghost use Rattle.plane.specs.Plane.{is_boundary};
-ghost use Rattle.scene.specs.Read.{size, IsObject};
 ghost use Rattle.scene.specs.Conditions.{out_of_order};
 ghost use Rattle.flags_meetings.specs.Met.{meetings};
 ghost use Rattle.scene_keys.specs.Keyed.{top, keys};
-ghost use Rattle.flags_meetings.specs.Keyed.{Passed, Reached, mark_of_note, marks_of_notes, marks, named};
+ghost use Rattle.sweep_notes.specs.Numbers.{note_number};
+ghost use Rattle.flags_meetings.specs.Keyed.{Passed, mark_of_note, marks_of_notes, marks, named};
 
 use flags::MarkSet;
-use scene::{Layout, Scene, records};
+use scene_keys::Cursor;
+use scene_segments::Pair;
+use sweep_notes::{Note, Notes};
 
-// How elements of F and of G meet at points: for each kind of point, whether there is one. By the number of an object's elements that have it, its degree
-// there, a point is bound in the object if the boundary rule holds of the degree, and inner if some element has it and the rule does not hold.
+/// How elements of F and of G meet at points: for each kind of point, whether there is one. By the number of an object's elements that have it, its degree
+/// there, a point is bound in the object if the boundary rule holds of the degree, and inner if some element has it and the rule does not hold.
 #[derive(Clone, Copy)]
 pub struct Meetings {
-    // Bound in F, and none of G's: outside G, inside G or on it, by a note of 0, of 1 or of more. Beside a line the first two are both "off it".
+    // Bound in F, and none of G's: outside G, inside G or on it, by an even note, an odd one, or `On`. Beside a line the first two are both "off it".
     pub bound_outside: bool,
     pub bound_inside: bool,
     pub bound_on: bool,
@@ -46,40 +48,16 @@ const INNER_INNER: MarkSet = MarkSet(64);
 
 const BOUND_OF_G: MarkSet = MarkSet(128);
 
-// How far the elements of an object are walked: the next one's index, the offset of its record, and the key of its point.
-#[derive(Clone, Copy)]
-pub struct Cursor {
-    pub index: usize,
-    pub at: usize,
-    pub key: u64,
-}
-
-// Some the first element.
-fn first(s: &[u8], l: Layout) -> Cursor
-    requires { IsObject s.now l }
-    ensures { Reached s.now l result × (result.index ≡ 0) }
-{
-    let at = l.start + 2;
-    Cursor {
-        index: 0,
-        at,
-        key: scene_keys::key_of(s, l, 0, at),
-    }
-}
-
-// From the element of a cursor past those that have the key k; records stand a step apart.
+// Moves a cursor from its element past those that have the key k. In place, as `advance` is.
 // Kept as a while: it ends by the key, and index, offset and key run along together.
-fn pass(s: &[u8], l: Layout, step: usize, c: Cursor, k: u64) -> Cursor
-    requires { IsObject s.now l × (step ≡ size l.shape) × Reached s.now l c × (k < top) }
-    ensures { Reached s.now l result × Passed l.count (keys s.now l) k c.index result.index }
+fn pass(c: &mut Cursor<'_>, k: u64)
+    requires { k < top }
+    ensures of { (c.new.object.bytes.now ≡ c.old.object.bytes.now) × (c.new.object.layout ≡ c.old.object.layout) }
+    ensures passed { Passed c.old.object.layout.count (keys c.old.object.bytes.now c.old.object.layout) k c.old.index c.new.index }
 {
-    let mut next = c;
-    while next.key == k {
-        next.index += 1;
-        next.at += step;
-        next.key = scene_keys::key_of(s, l, next.index, next.at);
+    while c.key == k {
+        c.advance();
     }
-    next
 }
 
 // The boundary rule of a line: an odd number of its segments end at the point.
@@ -91,31 +69,31 @@ fn is_bound(degree: usize) -> bool
 }
 
 // The mark of a note, of a point that is bound in F and none of G's.
-fn mark_of_note(note: u8) -> MarkSet
-    ensures { result.0 ≡ mark_of_note note }
+fn mark_of_note(note: Note) -> MarkSet
+    ensures { result.0 ≡ mark_of_note (note_number note) }
 {
     match note {
-        0 => BOUND_OUTSIDE,
-        1 => BOUND_INSIDE,
-        _ => BOUND_ON,
+        Note::Even => BOUND_OUTSIDE,
+        Note::Odd => BOUND_INSIDE,
+        Note::On => BOUND_ON,
     }
 }
 
 // Those of the notes of the elements of F from i up to j, which have such a point. Beside a region the notes are alike; beside a line they need not be.
-fn marks_of_notes(notes: &[u8], i: usize, j: usize) -> MarkSet
-    requires { (i ≤ j) × (j ≤ length notes.now) }
+fn marks_of_notes(notes: &Notes, i: usize, j: usize) -> MarkSet
+    requires { (i ≤ j) × (j ≤ 1024) }
     ensures { result.0 ≡ marks_of_notes notes.now i j }
 {
     let mut marks = MarkSet::NONE;
     for m in i..j {
-        marks = marks.with(mark_of_note(notes[m]));
+        marks = marks.with(mark_of_note(notes.of(true, m)));
     }
     marks
 }
 
 // The marks of a point that the elements of F from i up to j have, and b of G.
-fn meeting(notes: &[u8], i: usize, j: usize, b: usize) -> MarkSet
-    requires { (i ≤ j) × (j ≤ length notes.now) }
+fn meeting(notes: &Notes, i: usize, j: usize, b: usize) -> MarkSet
+    requires { (i ≤ j) × (j ≤ 1024) }
     ensures { result.0 ≡ marks notes.now i j b }
 {
     let a = j - i;
@@ -142,43 +120,40 @@ fn meeting(notes: &[u8], i: usize, j: usize, b: usize) -> MarkSet
 }
 
 // What marks stand for; of none there are no meetings.
-pub fn named(marks: u16) -> Meetings
-    ensures { result ≡ named marks }
-{
-    let marks = MarkSet(marks);
-    Meetings {
-        bound_outside: marks.has(BOUND_OUTSIDE),
-        bound_inside: marks.has(BOUND_INSIDE),
-        bound_on: marks.has(BOUND_ON),
-        bound_bound: marks.has(BOUND_BOUND),
-        bound_inner: marks.has(BOUND_INNER),
-        inner_bound: marks.has(INNER_BOUND),
-        inner_inner: marks.has(INNER_INNER),
-        bound_of_g: marks.has(BOUND_OF_G),
+impl From<MarkSet> for Meetings {
+    ghost from_gives = { λ marks all. all ≡ named marks.0 };
+
+    fn from(marks: MarkSet) -> Meetings {
+        Meetings {
+            bound_outside: marks.has(BOUND_OUTSIDE),
+            bound_inside: marks.has(BOUND_INSIDE),
+            bound_on: marks.has(BOUND_ON),
+            bound_bound: marks.has(BOUND_BOUND),
+            bound_inner: marks.has(BOUND_INNER),
+            inner_bound: marks.has(INNER_BOUND),
+            inner_inner: marks.has(INNER_INNER),
+            bound_of_g: marks.has(BOUND_OF_G),
+        }
     }
 }
 
-// How elements of both objects meet, point by point.
+// How elements of both objects meet, point by point: F is the own one, whose notes count, and G the other.
 // Kept as a while: each cursor moves by the elements that have the point, which no range or slice gives.
-pub fn meetings_of(s: &[u8], scene: Scene, notes: &[u8]) -> Meetings
-    requires { IsObject s.now scene.f × IsObject s.now scene.g × (out_of_order s.now scene.f ≡ None) × (out_of_order s.now scene.g ≡ None) × (2048 ≤ length notes.now) }
-    ensures { result ≡ meetings s.now scene notes.now }
+pub fn meetings_of(pair: Pair<'_>, notes: &Notes) -> Meetings
+    requires { (out_of_order pair.bytes.now pair.own ≡ None) × (out_of_order pair.bytes.now pair.other ≡ None) }
+    ensures { result ≡ meetings pair.entry.bytes.now (record { f = pair.entry.own; g = pair.entry.other }) notes.now }
 {
-    let f = scene.f;
-    let g = scene.g;
-    let step_f = records::size(f.shape);
-    let step_g = records::size(g.shape);
-    let mut c = first(s, f);
-    let mut d = first(s, g);
+    let mut c = Cursor::first(pair.own());
+    let mut d = Cursor::first(pair.other());
     let mut sofar = MarkSet::NONE;
     let mut k = c.key.min(d.key);
     while k < scene_keys::TOP {
-        let next_c = pass(s, f, step_f, c, k);
-        let next_d = pass(s, g, step_g, d, k);
-        sofar = sofar.with(meeting(notes, c.index, next_c.index, next_d.index - d.index));
-        c = next_c;
-        d = next_d;
+        let i = c.index;
+        let j = d.index;
+        pass(&mut c, k);
+        pass(&mut d, k);
+        sofar = sofar.with(meeting(notes, i, c.index, d.index - j));
         k = c.key.min(d.key);
     }
-    named(sofar.0)
+    sofar.into()
 }

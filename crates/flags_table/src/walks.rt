@@ -3,38 +3,33 @@ ghost use Rattle.std.specs.Prelude.{◌≡◌};
 ghost use Rattle.flags.specs.Flags.{pack};
 ghost use Rattle.flags_table.specs.Walks.{off_classes_f, off_classes_g, reads_meetings, reads_classes};
 
+use flags_masks::FlagMasks;
 use scene::Shape;
 
-// The flags of F and of G that are read off the classes of segments, a bit for each. Every other flag is read off the meetings at points.
-#[derive(Clone, Copy)]
-pub struct ClassFlags {
-    pub f: u16,
-    pub g: u16,
-}
-
-fn class_flags(f: Shape, g: Shape) -> ClassFlags
+// The flags that are read off the classes of segments. Every other flag is read off the meetings at points.
+fn class_flags(f: Shape, g: Shape) -> FlagMasks
     ensures { (result.f ≡ pack (off_classes_f f g)) × (result.g ≡ pack (off_classes_g f g)) }
 {
     match (f, g) {
-        (Shape::Line, Shape::Line) => ClassFlags { f: 5, g: 1 },
-        (Shape::Line, Shape::Region) => ClassFlags { f: 7, g: 1 },
-        (Shape::Region, Shape::Region) => ClassFlags { f: 127, g: 15 },
-        _ => ClassFlags { f: 0, g: 0 },
+        (Shape::Line, Shape::Line) => FlagMasks { f: 5, g: 1 },
+        (Shape::Line, Shape::Region) => FlagMasks { f: 7, g: 1 },
+        (Shape::Region, Shape::Region) => FlagMasks { f: 127, g: 15 },
+        _ => FlagMasks { f: 0, g: 0 },
     }
 }
 
 // Is one of the wanted flags read off the meetings?
-pub fn reads_meetings(f: Shape, g: Shape, want_f: u16, want_g: u16) -> bool
-    ensures { result ≡ reads_meetings f g want_f want_g }
+pub fn reads_meetings(f: Shape, g: Shape, want: FlagMasks) -> bool
+    ensures { result ≡ reads_meetings f g want.f want.g }
 {
     let classes = class_flags(f, g);
-    want_f & classes.f != want_f || want_g & classes.g != want_g
+    want.f & classes.f != want.f || want.g & classes.g != want.g
 }
 
 // Is one of the wanted flags read off the classes?
-pub fn reads_classes(f: Shape, g: Shape, want_f: u16, want_g: u16) -> bool
-    ensures { result ≡ reads_classes f g want_f want_g }
+pub fn reads_classes(f: Shape, g: Shape, want: FlagMasks) -> bool
+    ensures { result ≡ reads_classes f g want.f want.g }
 {
     let classes = class_flags(f, g);
-    want_f & classes.f != 0 || want_g & classes.g != 0
+    want.f & classes.f != 0 || want.g & classes.g != 0
 }

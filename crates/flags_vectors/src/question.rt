@@ -1,7 +1,5 @@
 // The vectors question.
-ghost use Rattle.std.specs.Prelude.{◌≡◌, ◌≤◌, T, length, Ok};
-ghost use Rattle.scene.specs.Conditions.{check_scene};
-ghost use Rattle.sweep_laws.specs.Noted.{Noted};
+ghost use Rattle.std.specs.Prelude.{◌≡◌, T};
 ghost use Rattle.check_verdict.specs.SharedPoints.{CheckedMeans};
 ghost use Rattle.flags_meetings.specs.Met.{meetings};
 ghost use Rattle.flags_classes.specs.Classed.{classes_of_f, classes_of_g};
@@ -12,47 +10,51 @@ ghost use Rattle.flags_table.specs.Walks.{reads_meetings, reads_classes};
 ghost use Rattle.flags_vectors.specs.Vectors.{scene_vectors, given_vectors, these, check_vectors, answer_of, vectors_of, vectors_values, NoFlagWrong};
 
 use crate::{SceneVectors, Vectors};
-use flags_classes::{Classes, ClassesOfBoth};
+use check_verdict::taken::{NotedScene, TakenScene};
+use flags::MarkSet;
+use flags_classes::ClassesOfBoth;
 use flags_masks::{FlagMasks, Wanted};
 use flags_meetings::Meetings;
 use flags_table::walks;
-use scene::{Reason, Refusal, Scene, Shape, order};
+use scene::{Reason, Refusal, Scene};
+use scene_segments::ReadScene;
+use sweep_notes::Notes;
 
 // How the elements of a scene meet at points, where a wanted flag is read off that.
-fn wanted_meetings(s: &[u8], scene: Scene, masks: FlagMasks, notes: &[u8]) -> Meetings
-    requires { (check_scene s.now ≡ Ok scene) × (2048 ≤ length notes.now) }
-    ensures { T (reads_meetings scene.f.shape scene.g.shape masks.f masks.g) → result ≡ meetings s.now scene notes.now }
+fn wanted_meetings(taken: TakenScene<'_>, masks: FlagMasks, notes: &Notes) -> Meetings
+    ensures { T (reads_meetings taken.entry.scene.f.shape taken.entry.scene.g.shape masks.f masks.g) → result ≡ meetings taken.entry.bytes.now taken.entry.scene notes.now }
 {
-    if walks::reads_meetings(scene.f.shape, scene.g.shape, masks.f, masks.g) {
-        flags_meetings::meetings_of(s, scene, notes)
+    let scene = taken.scene;
+    if walks::reads_meetings(scene.f.shape, scene.g.shape, masks) {
+        flags_meetings::meetings_of(taken.read().pair(), notes)
     } else {
-        flags_meetings::named(0)
+        MarkSet::NONE.into()
     }
 }
 
 // The classes of its segments, where a wanted flag is read off those.
-fn wanted_classes(s: &[u8], scene: Scene, masks: FlagMasks, notes: &[u8]) -> ClassesOfBoth
-    requires { (check_scene s.now ≡ Ok scene) × (2048 ≤ length notes.now) }
-    ensures { T (reads_classes scene.f.shape scene.g.shape masks.f masks.g)
-        → (result.f ≡ classes_of_f s.now scene notes.now) × (result.g ≡ classes_of_g s.now scene notes.now) }
+fn wanted_classes(taken: TakenScene<'_>, masks: FlagMasks, notes: &Notes) -> ClassesOfBoth
+    ensures { T (reads_classes taken.entry.scene.f.shape taken.entry.scene.g.shape masks.f masks.g)
+        → (result.f ≡ classes_of_f taken.entry.bytes.now taken.entry.scene notes.now) × (result.g ≡ classes_of_g taken.entry.bytes.now taken.entry.scene notes.now) }
 {
-    if walks::reads_classes(scene.f.shape, scene.g.shape, masks.f, masks.g) {
-        flags_classes::classes_of(s, scene, notes)
+    let scene = taken.scene;
+    if walks::reads_classes(scene.f.shape, scene.g.shape, masks) {
+        flags_classes::classes_of(taken, notes)
     } else {
         ClassesOfBoth {
-            f: flags_classes::named(0),
-            g: flags_classes::named(0),
+            f: MarkSet::NONE.into(),
+            g: MarkSet::NONE.into(),
         }
     }
 }
 
-// The wanted flags of both objects of a scene that is taken, from what the sweep noted.
-fn swept_vectors(s: &[u8], scene: Scene, masks: FlagMasks, notes: &[u8]) -> Vectors
-    requires { (check_scene s.now ≡ Ok scene) × (2048 ≤ length notes.now) × Noted s.now scene notes.now }
-    ensures { result ≡ scene_vectors s.now scene masks }
+// The wanted flags of both objects, from what the sweep noted.
+fn swept_vectors(noted: NotedScene<'_>, masks: FlagMasks) -> Vectors
+    ensures { result ≡ scene_vectors noted.entry.bytes.now noted.entry.scene masks }
 {
-    let met = wanted_meetings(s, scene, masks, notes);
-    let beside = wanted_classes(s, scene, masks, notes);
+    let scene = noted.scene;
+    let met = wanted_meetings(noted.taken(), masks, noted.notes);
+    let beside = wanted_classes(noted.taken(), masks, noted.notes);
     Vectors {
         f: flags_table::flags_of_f(scene.f.shape, scene.g.shape, met, beside.f) & masks.f,
         g: flags_table::flags_of_g(scene.f.shape, scene.g.shape, met, beside.g) & masks.g,
@@ -63,7 +65,7 @@ fn swept_vectors(s: &[u8], scene: Scene, masks: FlagMasks, notes: &[u8]) -> Vect
 fn as_given(scene: Scene, v: Vectors) -> Vectors
     ensures { result ≡ given_vectors scene v }
 {
-    if order::is_turned(scene) {
+    if scene.is_turned() {
         Vectors { f: v.g, g: v.f }
     } else {
         v
@@ -76,15 +78,17 @@ pub fn answer(s: &[u8], wanted: Wanted) -> Result<SceneVectors, Refusal>
 {
     let scene = scene_reading::read_scene(s)?;
     let masks = flags_masks::masks_for(wanted, scene);
-    if flags_masks::any_stray(scene, masks.f, masks.g) {
-        return Err(Refusal {
-            reason: Reason::StrayFlag,
-            place: 0,
-        });
+    if flags_masks::any_stray(scene, masks) {
+        return Reason::StrayFlag.at(0);
     }
-    let mut notes = [0u8; 2048];
-    check_verdict::noted_verdict(s, scene, &mut notes)?;
-    let vectors = as_given(scene, swept_vectors(s, scene, masks, &notes));
+    let mut notes = Notes::new();
+    check_verdict::noted_verdict(ReadScene { bytes: s, scene }, &mut notes)?;
+    let noted = NotedScene {
+        bytes: s,
+        scene,
+        notes: &notes,
+    };
+    let vectors = as_given(scene, swept_vectors(noted, masks));
     Ok(SceneVectors { scene, vectors })
 }
 

@@ -22,13 +22,14 @@ use cells::Explored;
 use estimate::Estimated;
 use flags_vectors::{Vectors, question};
 use plane::Point;
-use plane_dimensions::{Dimension, sign};
+use plane_dimensions::Dimension;
 use scene::Refusal;
 use summary::Summary;
 use summary_record::writing;
 use summary_window::{InWindow, Window};
 
 // Each struct that C gets is made from the answer of its question: number 0 and the values, or a refusal's number and place with zeros beside them.
+// Kept as a struct and an `impl From` for each call, with number and place in each: they are the header's types.
 #[repr(C)]
 #[derive(Clone, Copy)]
 pub struct KarvoissVectors {
@@ -50,7 +51,7 @@ impl From<Result<Vectors, Refusal>> for KarvoissVectors {
                 g: v.g,
             },
             Err(r) => KarvoissVectors {
-                number: r.reason.number() as u32,
+                number: u8::from(r.reason) as u32,
                 place: r.place,
                 f: 0,
                 g: 0,
@@ -80,14 +81,14 @@ pub struct KarvoissCells {
 fn row_signs(row: [Dimension; 3]) -> [u8; 3]
     ensures { result ≡ row_signs row }
 {
-    [sign(row[0]), sign(row[1]), sign(row[2])]
+    row.map(u8::from)
 }
 
 // The signs of nine cells.
 fn signs(m: [[Dimension; 3]; 3]) -> [[u8; 3]; 3]
     ensures { result ≡ signs m }
 {
-    [row_signs(m[0]), row_signs(m[1]), row_signs(m[2])]
+    m.map(row_signs)
 }
 
 impl From<Result<Explored, Refusal>> for KarvoissCells {
@@ -102,7 +103,7 @@ impl From<Result<Explored, Refusal>> for KarvoissCells {
                 cell,
             },
             Err(r) => KarvoissCells {
-                number: r.reason.number() as u32,
+                number: u8::from(r.reason) as u32,
                 place: r.place,
                 cell,
             },
@@ -139,7 +140,7 @@ impl From<Result<bool, Refusal>> for KarvoissRelate {
                 holds,
             },
             Err(r) => KarvoissRelate {
-                number: r.reason.number() as u32,
+                number: u8::from(r.reason) as u32,
                 place: r.place,
                 holds: false,
             },
@@ -176,7 +177,7 @@ impl From<Result<usize, Refusal>> for KarvoissOverlap {
                 count,
             },
             Err(r) => KarvoissOverlap {
-                number: r.reason.number() as u32,
+                number: u8::from(r.reason) as u32,
                 place: r.place,
                 count: 0,
             },
@@ -217,7 +218,7 @@ impl From<Result<Sums, Refusal>> for KarvoissAreas {
                 g_only: sums.g_only,
             },
             Err(r) => KarvoissAreas {
-                number: r.reason.number() as u32,
+                number: u8::from(r.reason) as u32,
                 place: r.place,
                 both: 0,
                 f_only: 0,
@@ -256,7 +257,7 @@ impl From<Result<Summary, Refusal>> for KarvoissSummary {
                 record: writing::written(summary),
             },
             Err(r) => KarvoissSummary {
-                number: r.reason.number() as u32,
+                number: u8::from(r.reason) as u32,
                 place: r.place,
                 record: [0; 20],
             },
@@ -303,7 +304,7 @@ impl From<Result<Option<Vectors>, Refusal>> for KarvoissFar {
                 g: 0,
             },
             Err(r) => KarvoissFar {
-                number: r.reason.number() as u32,
+                number: u8::from(r.reason) as u32,
                 place: r.place,
                 look: false,
                 f: 0,
@@ -383,7 +384,7 @@ impl From<Result<InWindow, Refusal>> for KarvoissInWindow {
                 hits: seen.hits,
             },
             Err(r) => KarvoissInWindow {
-                number: r.reason.number() as u32,
+                number: u8::from(r.reason) as u32,
                 place: r.place,
                 word: 0,
                 hits: 0,

@@ -20,4 +20,4 @@ coded_byte F G t e p q =
 
 -- what comes next with its sides comes next with its byte
 pub next_byte : (s : List ℕ) (f g : Layout) {i j k m : ℕ} {t : Segment} {x y : Sides} {r : ℕ} → NextSides s f g i j t x y k m → r ≡ coded x y → NextByte s f g i j r k m
-next_byte s f g {i} {j} {k} {m} {t} n e = record { segment = t; next = n.next; byte = coded_byte (edges s f) (edges s g) t e n.of_f_lem n.of_g_lem; stands = n.stands }
+next_byte s f g {i} {j} {k} {m} {t} n e = record { segment = t; next = n.next; byte = coded_byte (edges s f) (edges s g) t e n.of_f_lem n.of_g_lem }

@@ -163,3 +163,11 @@ list_means s room = checked_means_by [] (list_rules room) s (λ _. tt) (λ _. (o
 pub regions_mean : (s : List ℕ) → CheckedMeans s (check_regions s)
 unfolding check_regions
 regions_mean s = checked_means_by [] region_rules s (λ _. tt) (λ _. (omega arith, tt))
+
+-- and so a scene that is taken was read
+
+pub list_read : (s : List ℕ) (room : ℕ) (sc : Scene) → check_list s room ≡ Ok sc → IsScene s sc
+list_read s room sc e = (subst (CheckedMeans s) e (list_means s room)).0
+
+pub regions_read : (s : List ℕ) (sc : Scene) → check_regions s ≡ Ok sc → IsScene s sc
+regions_read s sc e = (subst (CheckedMeans s) e (regions_mean s)).0

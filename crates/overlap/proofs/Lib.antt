@@ -7,6 +7,7 @@ pub mod BySides
 pub mod Beside
 -- the walk over the different segments, and their bytes by what the sweep noted
 pub mod Merging
+pub mod Steps
 pub mod Listing
 pub mod Clear
 pub mod Noted

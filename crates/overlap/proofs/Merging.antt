@@ -61,14 +61,11 @@ module _ (s : List ℕ) (f g : Layout) {i j a b : ℕ} where
   merged_next : Nexts s f g i j a b → merged_from s f g i j ≡ merged_from s f g a b
   merged_next n = ap₂ merge (next_same s f n.of_f_lem) (next_same s g n.of_g_lem)
 
-  taken : Nexts s f g i j a b → {t : Segment} → T (segment_in_range t) → {k m : ℕ} → a + b < k + m → k ≤ f.count → m ≤ g.count
-      → merged_from s f g a b ≡ t ∷ merged_from s f g k m → NextIs s f g i j t k m
-  taken n r h k m e = record {
+  taken : Nexts s f g i j a b → {t : Segment} → T (segment_in_range t) → {k m : ℕ} → a + b < k + m → merged_from s f g a b ≡ t ∷ merged_from s f g k m → NextIs s f g i j t k m
+  taken n r h e = record {
     merged = merged_next n ∙ e;
     in_range_lem = r;
     further = omega (arith, n.of_f_lem.onwards, n.of_g_lem.onwards);
-    within_f = k;
-    within_g = m;
   }
 
   -- the lists from there on, by their heads
@@ -81,7 +78,7 @@ module _ (s : List ℕ) (f g : Layout) {i j a b : ℕ} where
 
   module _ {t : Segment} (r : T (segment_in_range t)) where
     pub list_f : NextOfF s f g i j a b → t ≡ (half s f a).segment → NextIs s f g i j t (a + 1) b
-    list_f n e = taken n.nexts r (omega arith) (omega (arith, n.there)) n.nexts.of_g_lem.within (go (dec_lt b g.count) ∙ ap (λ (t : Segment). t ∷ merged_from s f g (a + 1) b) (sym e))
+    list_f n e = taken n.nexts r (omega arith) (go (dec_lt b g.count) ∙ ap (λ (t : Segment). t ∷ merged_from s f g (a + 1) b) (sym e))
       where
         go : Dec (b < g.count) → merged_from s f g a b ≡ (half s f a).segment ∷ merged_from s f g (a + 1) b
         go (yes k) =
@@ -93,7 +90,7 @@ module _ (s : List ℕ) (f g : Layout) {i j a b : ℕ} where
             ∙ ap (λ (F : List Segment). (half s f a).segment ∷ F) (sym (merge_none (segments_from s f (a + 1))) ∙ ap (merge (segments_from s f (a + 1))) (sym none))
 
     pub list_g : NextOfG s f g i j a b → t ≡ (half s g b).segment → NextIs s f g i j t a (b + 1)
-    list_g n e = taken n.nexts r (omega arith) n.nexts.of_f_lem.within (omega (arith, n.there)) (go (dec_lt a f.count) ∙ ap (λ (t : Segment). t ∷ merged_from s f g a (b + 1)) (sym e))
+    list_g n e = taken n.nexts r (omega arith) (go (dec_lt a f.count) ∙ ap (λ (t : Segment). t ∷ merged_from s f g a (b + 1)) (sym e))
       where
         go : Dec (a < f.count) → merged_from s f g a b ≡ (half s g b).segment ∷ merged_from s f g a (b + 1)
         go (yes k) =
@@ -106,7 +103,7 @@ module _ (s : List ℕ) (f g : Layout) {i j a b : ℕ} where
 
     pub list_both : NextOfBoth s f g i j a b → t ≡ (half s f a).segment → NextIs s f g i j t (a + 1) (b + 1)
     list_both n e =
-        taken n.nexts r (omega arith) (omega (arith, n.there_f)) (omega (arith, n.there_g))
+        taken n.nexts r (omega arith)
         (ap₂ merge (first_f n.nexts n.there_f) (first_g n.nexts n.there_g) ∙ rw n.compared (ap (λ (t : Segment). t ∷ merged_from s f g (a + 1) (b + 1)) (sym e)))
 
 pub list_end : (s : List ℕ) (f g : Layout) {i j : ℕ} → Nexts s f g i j f.count g.count → merged_from s f g i j ≡ []

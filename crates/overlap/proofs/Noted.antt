@@ -21,7 +21,7 @@ use Rattle.flags.proofs.Elements.{outline_edges}
 use Rattle.cells_matrix.proofs.Common.{across_swap}
 use Rattle.flags_classes.specs.Walked.{NextOfF, NextOfG, NextOfBoth}
 use Rattle.flags_classes.proofs.Behind.{shared, edge_is}
-use Rattle.flags_classes.proofs.Standing.{Standing, one_segment, standing_f, alone_f, standing_g, alone_g, standing_both}
+use Rattle.flags_classes.proofs.Standing.{Standing, one_segment, alone_f, alone_g}
 use Rattle.flags_table.proofs.Noting.{Knows, knows_f, knows_g, middle_inside}
 use Rattle.overlap.specs.declared.adjoining.Sides.{Sides}
 use Rattle.overlap.specs.Bytes.{adjoins}
@@ -77,7 +77,6 @@ module _ {s : List ℕ} {sc : Scene} (two : TwoRegions s sc) where
       next = list_f s f g r n e;
       of_f_lem = rw e (own_sides two.0.f_sound n.there left p);
       of_g_lem = rw e (note_sides two.0.f_sound two.0.g_sound has is_g (across two.0) (knows_f noted has) a n.there (alone_f two.0 w n) q);
-      stands = standing_f two.0 w n;
     }
       where
         left : left_test s f a ≡ true
@@ -91,7 +90,6 @@ module _ {s : List ℕ} {sc : Scene} (two : TwoRegions s sc) where
       next = list_g s f g r n e;
       of_f_lem = rw e (note_sides two.0.g_sound two.0.f_sound has is_f (across_swap (across two.0)) (knows_g noted has) b n.there (alone_g two.0 w n) p);
       of_g_lem = rw e (own_sides two.0.g_sound n.there left q);
-      stands = standing_g two.0 w n;
     }
       where
         left : left_test s g b ≡ true
@@ -105,5 +103,4 @@ module _ {s : List ℕ} {sc : Scene} (two : TwoRegions s sc) where
       next = list_both s f g r n e;
       of_f_lem = rw e (own_sides two.0.f_sound n.there_f (n.nexts.of_f_lem.there n.there_f) p);
       of_g_lem = rw (e, one_segment n) (own_sides two.0.g_sound n.there_g (n.nexts.of_g_lem.there n.there_g) q);
-      stands = standing_both two.0 w n;
     }

@@ -1,6 +1,6 @@
 -- What the walk over the different segments of two regions promises: the segments from an element on, and the next of both objects, with its sides and
 -- with its byte.
-use Rattle.std.specs.Prelude.{ℕ, ◌+◌, ◌-◌, ◌<◌, ◌≤◌, ◌≡◌, List, [], ◌∷◌, map, T, Option, Some, None}
+use Rattle.std.specs.Prelude.{ℕ, ◌+◌, ◌-◌, ◌<◌, ◌≡◌, List, [], ◌∷◌, map, T, Option, Some, None}
 use Rattle.plane.specs.declared.Segment.{Segment}
 use Rattle.plane.specs.Plane.{segment_in_range}
 use Rattle.scene.specs.declared.Layout.{Layout}
@@ -9,10 +9,9 @@ use Rattle.scene.specs.Conditions.{indices, keep, is_region, half, left_test}
 use Rattle.check_verdict.proofs.Laws.{SoundScene}
 use Rattle.flags.specs.Flags.{Edge}
 use Rattle.flags.specs.Elements.{edges}
-use Rattle.flags_classes.proofs.Standing.{Standing}
 use Rattle.overlap.specs.declared.adjoining.Sides.{Sides}
 use Rattle.overlap.specs.Bytes.{merge, adjoins_below, adjoins_above, byte_of}
-use Rattle.overlap.specs.declared.walk.Next.{Next}
+use Rattle.overlap.specs.declared.walk.Sided.{Sided}
 
 -- the segments of the elements from i on
 unfoldable pub segments_from : List ℕ → Layout → ℕ → List Segment
@@ -27,8 +26,6 @@ module _ (s : List ℕ) (f g : Layout) where
     pub merged : merged_from i j ≡ t ∷ merged_from k m
     pub in_range_lem : T (segment_in_range t)
     pub further : i + j < k + m
-    pub within_f : k ≤ f.count
-    pub within_g : m ≤ g.count
 
 -- ---- with its sides and its byte, by the sweep's notes
 
@@ -39,20 +36,17 @@ TwoRegions s sc = SoundScene s sc × T (is_region sc.f.shape) × T (is_region sc
 abbrev pub SidesAre : Sides → List Edge → Segment → Type 0
 SidesAre x R t = (x.below ≡ adjoins_below R t) × (x.above ≡ adjoins_above R t)
 
--- what is passed of either region comes before all that is left of the other (`stands`)
 module _ (s : List ℕ) (f g : Layout) where
   pub record NextSides (i j : ℕ) (t : Segment) (x y : Sides) (k m : ℕ) : Type 0 where
     pub next : NextIs s f g i j t k m
     pub of_f_lem : SidesAre x (edges s f) t
     pub of_g_lem : SidesAre y (edges s g) t
-    pub stands : Standing s f g k m
 
-  abbrev pub SidesStepped : ℕ → ℕ → Option Next → Type 0
-  SidesStepped i j (Some n) = NextSides i j n.segment n.of_f n.of_g n.i n.j
-  SidesStepped i j None = merged_from s f g i j ≡ []
+  abbrev pub SidesStepped : ℕ → ℕ → Option Sided → ℕ → ℕ → Type 0
+  SidesStepped i j (Some n) k m = NextSides i j n.segment n.of_f n.of_g k m
+  SidesStepped i j None k m = merged_from s f g i j ≡ []
 
   pub record NextByte (i j b k m : ℕ) : Type 0 where
     pub segment : Segment
     pub next : NextIs s f g i j segment k m
     pub byte : b ≡ byte_of (edges s f) (edges s g) segment
-    pub stands : Standing s f g k m

@@ -1,13 +1,11 @@
-// The byte of a segment of two regions, by the sides where their interiors adjoin it: by searches, or by ia and by the sweep's note.
-ghost use Rattle.std.specs.Prelude.{◌≡◌, not, ◌+◌, ◌*◌, ◌<◌, ◌≤◌, T, eqb};
+// The byte of a segment of two regions, by the sides where their interiors adjoin it: by ia, and by the sweep's note.
+ghost use Rattle.std.specs.Prelude.{◌≡◌, not, ◌+◌, ◌*◌, ◌<◌, eqb};
 ghost use Rattle.whole.specs.Count.{bit};
-ghost use Rattle.plane.specs.Plane.{segment_in_range};
-ghost use Rattle.scene.specs.Read.{IsObject};
-ghost use Rattle.scene.specs.Conditions.{is_region, ia, segments};
-ghost use Rattle.flags.specs.Elements.{edges, Clear};
-ghost use Rattle.overlap.specs.Bytes.{adjoins_below, adjoins_above, byte_of};
+ghost use Rattle.scene.specs.Conditions.{ia};
+ghost use Rattle.sweep_notes.specs.Numbers.{note_number};
 
-use scene::Layout;
+use scene_segments::Object;
+use sweep_notes::Note;
 
 // Whether the interior of a region adjoins a segment below (right, if vertical) and above (left).
 #[derive(Clone, Copy)]
@@ -17,11 +15,11 @@ pub struct Sides {
 }
 
 // Of the segment of one of its own elements, by ia.
-pub fn own_sides(s: &[u8], l: Layout, i: usize) -> Sides
-    requires { IsObject s.now l × (i < l.count) }
-    ensures { (result.below ≡ not (ia s.now l i)) × (result.above ≡ ia s.now l i) }
+pub fn own_sides(o: Object<'_>, i: usize) -> Sides
+    requires { i < o.layout.count }
+    ensures { (result.below ≡ not (ia o.entry.bytes.now o.entry.layout i)) × (result.above ≡ ia o.entry.bytes.now o.entry.layout i) }
 {
-    let above = flags_classes::is_above(s, l, i);
+    let above = o.ia(i);
     Sides {
         below: !above,
         above,
@@ -29,10 +27,10 @@ pub fn own_sides(s: &[u8], l: Layout, i: usize) -> Sides
 }
 
 // And of a segment that is none of its own, by the sweep's note of it.
-pub fn noted_sides(note: u8) -> Sides
-    ensures { (result.below ≡ not (eqb note 0)) × (result.above ≡ not (eqb note 0)) }
+pub fn noted_sides(note: Note) -> Sides
+    ensures { (result.below ≡ not (eqb (note_number note) 0)) × (result.above ≡ not (eqb (note_number note) 0)) }
 {
-    let inside = note != 0;
+    let inside = note != Note::Even;
     Sides {
         below: inside,
         above: inside,

@@ -6,10 +6,14 @@ ghost use Rattle.check_verdict.specs.SharedPoints.{CheckedMeans};
 ghost use Rattle.overlap.specs.Rules.{check_list};
 ghost use Rattle.overlap.specs.Overlap.{overlap_of, buffer_after};
 
+use regions::Regions;
 use scene::Refusal;
+use scene_segments::ReadScene;
+use sweep_notes::Notes;
 
 pub mod adjoining;
 pub mod refusals;
+pub mod regions;
 pub mod walk;
 pub mod written;
 
@@ -20,7 +24,8 @@ pub fn overlap_list(s: &[u8], list: &mut [u8]) -> Result<usize, Refusal>
         × (list.new ≡ buffer_after s.now list.old)
         × CheckedMeans s.now (check_list s.now (length list.old)) }
 {
-    let mut notes = [0u8; 2048];
+    let mut notes = Notes::new();
     let scene = refusals::check_list(s, list.len(), &mut notes)?;
-    Ok(written::write(s, scene, &notes, list))
+    let regions = Regions::of(ReadScene { bytes: s, scene }, &notes);
+    Ok(written::write(regions, list))
 }

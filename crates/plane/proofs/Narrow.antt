@@ -15,10 +15,8 @@ use Rattle.whole.proofs.Balance.{P, N, add_balance, pos_P, pos_N}
 use Rattle.whole.proofs.Sign.{Pos, NonNeg, Neg, Weak, weak, weak_zero, weak_plus, pos_nonneg, pos_mul, nonneg_mul, pos_add_nonneg, nonneg_add_pos, neg_of_pos, lt_z_pos, le_z_nonneg}
 use Rattle.whole.proofs.Logic.{and_left, and_right, is_true}
 use Rattle.plane.specs.declared.Point.{Point}
-use Rattle.plane.specs.declared.Turn.{Turn}
 use Rattle.plane.specs.declared.Turn.TheVariants.{Left, Straight, Right}
-use Rattle.plane.specs.declared.Beside.TheVariants.{Over, Under}
-use Rattle.plane.specs.Plane.{limit, within, side, turn_of, turn, Told}
+use Rattle.plane.specs.Plane.{limit, within, side, turn_of, turn}
 use Rattle.plane.proofs.Machine.{near_fits, within_x, within_y}
 
 -- ---- the turn of a sign
@@ -101,19 +99,6 @@ module _ (a b c : Point) (u v w z : ℕ)
       (ap₂ ◌+ℤ◌ (ap₂ ◌*ℤ◌ hu hv) (ap (λ (x : ℤ). x *ℤ pos 67108864) (ap₂ ◌+ℤ◌ hw hz)))
       (ap₂ ◌+ℤ◌ (ap₂ ◌*ℤ◌ hw hz) (ap (λ (x : ℤ). x *ℤ pos 67108864) (ap₂ ◌+ℤ◌ hu hv)))
       ∙ raise_sums (b.x -ℤ a.x) (c.y -ℤ a.y) (b.y -ℤ a.y) (c.x -ℤ a.x) (pos 67108864))
-
--- ---- what a look at the box tells
-pub told_over : (t : Turn) → Left ≡ t → Told Over t
-told_over t e = record { over = λ q. sym e; under = λ q. absurd (clash q) }
-  where
-    clash : Over ≡ Under → ⊥
-    clash q = let z : ◌≡◌ {A = ℕ} 0 1 = cc in omega arith
-
-pub told_under : (t : Turn) → Right ≡ t → Told Under t
-told_under t e = record { over = λ q. absurd (clash q); under = λ q. sym e }
-  where
-    clash : Under ≡ Over → ⊥
-    clash q = let z : ◌≡◌ {A = ℕ} 0 1 = cc in omega arith
 
 -- ---- over and under the box of a and b: the side value is a sum of two products of one sign
 weighed : {p q r t : ℤ} → NonNeg p → NonNeg q → Pos (p +ℤ q) → Pos r → Pos t → Pos (p *ℤ r +ℤ q *ℤ t)

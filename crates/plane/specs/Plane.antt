@@ -1,6 +1,6 @@
 -- The plane: document 01's section "Objects", sentence by sentence. All tests compute; none but `in_range` knows a coordinate range.
 -- A quotation names the sentence that a definition renders.
-use Rattle.std.specs.Prelude.{ℕ, zero, suc, ◌*◌, ◌<◌, ◌≡◌, Bool, true, false, not, ◌&&◌, ◌||◌, List, T, leb, ℤ, pos, negsuc, nat_abs, ◌+ℤ◌, ◌-ℤ◌, ◌*ℤ◌}
+use Rattle.std.specs.Prelude.{Option, Some, None, ⊤, ℕ, zero, suc, ◌*◌, ◌<◌, ◌≡◌, Bool, true, false, not, ◌&&◌, ◌||◌, List, T, leb, ℤ, pos, negsuc, nat_abs, ◌+ℤ◌, ◌-ℤ◌, ◌*ℤ◌}
 use Rattle.std.specs.Int.Signed.{lt_z, le_z}
 use Rattle.whole.specs.Count.{eq_z, odd, some, count}
 use Rattle.plane.specs.declared.Point.{Point}
@@ -8,8 +8,6 @@ use Rattle.plane.specs.declared.Segment.{Segment}
 use Rattle.plane.specs.declared.Halfsegment.{Halfsegment}
 use Rattle.plane.specs.declared.Turn.{Turn}
 use Rattle.plane.specs.declared.Turn.TheVariants.{Left, Straight, Right}
-use Rattle.plane.specs.declared.Beside.{Beside}
-use Rattle.plane.specs.declared.Beside.TheVariants.{Over, Under}
 
 -- "Coordinates run from -10,000,000 to 10,000,000" (02, Paper 13).
 abbrev pub limit : ℕ
@@ -61,10 +59,10 @@ turned Right z = lt_z z (pos 0)
 abbrev pub InDoubledRange : Point → Point → Point → Type 0
 InDoubledRange a b c = T (within (2 * limit) a) × T (within (2 * limit) b) × T (within (2 * limit) c)
 
--- what a look at the box of two points tells of a turn
-pub record Told (r : Beside) (t : Turn) : Type 0 where
-  pub over : r ≡ Over → t ≡ Left
-  pub under : r ≡ Under → t ≡ Right
+-- what a look at the box of two points tells of a turn: which one it is, or nothing
+abbrev pub Told : Option Turn → Turn → Type 0
+Told (Some way) t = way ≡ t
+Told None t = ⊤
 
 -- "It is stored as two halfsegments: d = 1 is the left one, whose dominating point is the left end; d = 0 the right one."
 abbrev pub choose : Bool → Point → Point → Point

@@ -3,10 +3,9 @@
 // Every sign of a side value is read off `turn_from`.
 #![tactic(auto)]
 
-ghost use Rattle.std.specs.Prelude.{◌≡◌, ◌&&◌, ◌+◌, ◌*◌, ◌<◌, ◌≤◌, T, leb, pos, nat_abs, ◌+ℤ◌, ◌-ℤ◌};
+ghost use Rattle.std.specs.Prelude.{◌≡◌, ◌&&◌, ◌+◌, ◌*◌, ◌<◌, ◌≤◌, leb, pos, nat_abs, ◌+ℤ◌, ◌-ℤ◌};
 ghost use Rattle.std.specs.Int.Signed.{lt_z, le_z};
-ghost use Rattle.whole.specs.Count.{eq_z};
-ghost use Rattle.plane.specs.Plane.{limit, within, in_range, before, is_same_point, is_same_segment, side, turn_of, turn, turned, InDoubledRange, Told};
+ghost use Rattle.plane.specs.Plane.{limit, within, in_range, side, turn_of, turn, turned, InDoubledRange, Told};
 
 use std::cmp::Ordering;
 
@@ -14,11 +13,16 @@ use std::cmp::Ordering;
 pub const LIMIT: i32 = 10_000_000;
 
 // A grid point.
-// Kept as clauses: that points are in range. They come from bytes that may break it, and a type of those in range would go through each crate above.
+// Kept as clauses: that points are in range. Code and definitions speak of points beyond it too: doubled ones, an estimate's, those of bytes that are refused.
+// So a type of those in range would be a second type of points, unwrapped at each comparison and in each definition.
 #[derive(Clone, Copy, PartialEq, Eq, PartialOrd, Ord)]
 pub struct Point {
     pub x: i32,
     pub y: i32,
+}
+
+impl Point {
+    pub const ORIGIN: Point = Point { x: 0, y: 0 };
 }
 
 // A segment, its left end strictly before its right end.
@@ -65,27 +69,6 @@ pub fn is_in_range(p: Point) -> bool
     is_within(p, LIMIT as u32)
 }
 
-#[tactic(auto, unfolding(crate::specs::Plane::before))]
-pub fn is_before(p: Point, q: Point) -> bool
-    ensures { result ≡ before p q }
-{
-    p < q
-}
-
-#[tactic(auto, unfolding(crate::specs::Plane::is_same_point))]
-pub fn is_same_point(p: Point, q: Point) -> bool
-    ensures { result ≡ is_same_point p q }
-{
-    p == q
-}
-
-#[tactic(auto, using(crate::proofs::Compared::same_segments))]
-pub fn is_same_segment(s: Segment, t: Segment) -> bool
-    ensures { result ≡ is_same_segment s t }
-{
-    s == t
-}
-
 fn difference(a: i32, b: i32) -> i64
     ensures { result ≡ a -ℤ b }
 {
@@ -93,6 +76,7 @@ fn difference(a: i32, b: i32) -> i64
 }
 
 // The side value. It fits for points with doubled coordinates too.
+// Kept beside `estimate`'s, its `difference` too: exact in 64 bits here, and there each operation rounded to a float, so no arithmetic is common.
 pub fn side(a: Point, b: Point, c: Point) -> i64
     requires { InDoubledRange a b c }
     ensures { result ≡ side a b c }
@@ -163,30 +147,23 @@ fn spans(m: i32, n: i32, x: i32) -> bool
     m < n && is_between(m, n, x)
 }
 
-// Where c is beside the box of a and b: over it or under it, and within its width. Most turns of a walk are told by that, and need no product.
-#[derive(Clone, Copy, PartialEq, Eq)]
-pub enum Beside {
-    Over,
-    Under,
-    Neither,
-}
-
+// What the box of a and b tells of the turn: with c within its width, left over it and right under it. Most turns of a walk are told by that, and need no product.
 // Kept nested: with its tests joined by && it took a tenth more instructions, and each search of the status asks it.
-pub fn beside_box(a: Point, b: Point, c: Point) -> Beside
+pub fn beside_box(a: Point, b: Point, c: Point) -> Option<Turn>
     ensures { Told result (turn a b c) }
 {
     if spans(a.x, b.x, c.x) {
         if c.y < a.y {
             if c.y < b.y {
-                return Beside::Under;
+                return Some(Turn::Right);
             }
         } else if b.y < c.y {
             if a.y < c.y {
-                return Beside::Over;
+                return Some(Turn::Left);
             }
         }
     }
-    Beside::Neither
+    None
 }
 
 // The turn where c may be one of the two.
@@ -213,11 +190,7 @@ pub fn turn_from(a: Point, b: Point, c: Point) -> Turn
     requires { InDoubledRange a b c }
     ensures { result ≡ turn a b c }
 {
-    match beside_box(a, b, c) {
-        Beside::Over => Turn::Left,
-        Beside::Under => Turn::Right,
-        Beside::Neither => turn_by_ends(a, b, c),
-    }
+    beside_box(a, b, c).unwrap_or_else(|| turn_by_ends(a, b, c))
 }
 
 // Does it turn that way there?
@@ -226,12 +199,4 @@ pub fn turns(a: Point, b: Point, c: Point, way: Turn) -> bool
     ensures { result ≡ turned way (side a b c) }
 {
     turn_from(a, b, c) == way
-}
-
-// Is c on the line through a and b?
-pub fn is_in_line(a: Point, b: Point, c: Point) -> bool
-    requires { InDoubledRange a b c }
-    ensures { result ≡ eq_z (side a b c) (pos 0) }
-{
-    turns(a, b, c, Turn::Straight)
 }

@@ -26,9 +26,3 @@ impl From<Dimension> for u8 {
         }
     }
 }
-
-pub fn sign(d: Dimension) -> u8
-    ensures { result ≡ sign d }
-{
-    u8::from(d)
-}

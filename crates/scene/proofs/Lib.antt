@@ -1,5 +1,4 @@
 -- Laws of reading, of elements and of conditions that the proofs of the functions and of other crates cite.
-pub mod Flags
 pub mod Outcomes
 pub mod Passed
 pub mod Shapes

@@ -1,5 +1,5 @@
 // What stands in the bytes at an offset: coordinates, points, segments, halfsegments, each where its record has it.
-ghost use Rattle.std.specs.Prelude.{◌≡◌, ◌+◌, ◌<◌, ◌≤◌, length};
+ghost use Rattle.std.specs.Prelude.{◌≡◌, ◌+◌, ◌≤◌, length};
 ghost use Rattle.scene.specs.Read.{coordinate, point_from, point_at, segment_at, halfsegment_at, ia_at};
 
 use plane::{Halfsegment, Point, Segment};
@@ -12,7 +12,8 @@ pub fn coordinate(s: &[u8], at: usize) -> i32
     i32::from_le_bytes([s[at], s[at + 1], s[at + 2], s[at + 3]])
 }
 
-fn point_from(s: &[u8], at: usize) -> Point
+// The point whose coordinates begin at an offset, as after a record's kind byte.
+pub fn point_from(s: &[u8], at: usize) -> Point
     requires { at + 8 ≤ length s.now }
     ensures { result ≡ point_from s.now at }
 {

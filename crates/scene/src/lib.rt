@@ -2,7 +2,7 @@
 // Elements are read where they stand in the bytes; nothing is copied out of them.
 #![tactic(auto)]
 
-ghost use Rattle.std.specs.Prelude.{◌≡◌};
+ghost use Rattle.std.specs.Prelude.{◌≡◌, Err};
 ghost use Rattle.scene.specs.Read.{flaw_number, number_of};
 
 // An object's type: 1, 2, 3 in a type record, and in the order of these numbers.
@@ -14,6 +14,7 @@ pub enum Shape {
 }
 
 // What a record is, by its kind byte: a type record starts an object.
+// Kept with `Unknown`, and no Option of a kind: each match on it names the four side by side.
 #[derive(Clone, Copy)]
 pub enum Kind {
     Start,
@@ -48,11 +49,11 @@ pub enum Flaw {
     TouchingAcross,
 }
 
-impl Flaw {
-    fn number(self) -> u8
-        ensures { result ≡ flaw_number self }
-    {
-        match self {
+impl From<Flaw> for u8 {
+    ghost from_gives = { λ flaw n. n ≡ flaw_number flaw };
+
+    fn from(flaw: Flaw) -> u8 {
+        match flaw {
             Flaw::Misplaced => 10,
             Flaw::Unpaired => 11,
             Flaw::Touching => 12,
@@ -84,11 +85,11 @@ pub enum Reason {
     TooManySummaries,
 }
 
-impl Reason {
-    pub fn number(self) -> u8
-        ensures { result ≡ number_of self }
-    {
-        match self {
+impl From<Reason> for u8 {
+    ghost from_gives = { λ reason n. n ≡ number_of reason };
+
+    fn from(reason: Reason) -> u8 {
+        match reason {
             Reason::CutShort => 1,
             Reason::WrongKind => 2,
             Reason::WrongField => 3,
@@ -97,7 +98,7 @@ impl Reason {
             Reason::TooMany => 6,
             Reason::MoreBytes => 7,
             Reason::StrayFlag => 9,
-            Reason::Flawed(flaw) => flaw.number(),
+            Reason::Flawed(flaw) => u8::from(flaw),
             Reason::NotRegions => 16,
             Reason::ShortBuffer => 17,
             Reason::BadSummary => 18,
@@ -114,6 +115,18 @@ impl Reason {
 pub struct Refusal {
     pub reason: Reason,
     pub place: usize,
+}
+
+impl Reason {
+    // A refusal for this reason at a place.
+    pub fn at<T>(self, place: usize) -> Result<T, Refusal>
+        ensures { result ≡ Err (record { reason = self; place = place }) }
+    {
+        Err(Refusal {
+            reason: self,
+            place,
+        })
+    }
 }
 
 pub mod bytes;

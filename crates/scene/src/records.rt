@@ -1,6 +1,7 @@
-// Records: the kind byte, a type by its number, and where the records of an object stand.
+// Records: the kind byte, a type and its number, and where the records of an object stand.
 ghost use Rattle.std.specs.Prelude.{◌≡◌, ◌<◌, ◌^◌};
 ghost use Rattle.scene.specs.Read.{kind_of, shape_number, shape_of, size, place, after};
+ghost use Rattle.scene.specs.Conditions.{has_segments, is_region};
 
 use crate::{Kind, Layout, Shape};
 
@@ -20,7 +21,8 @@ impl From<u8> for Kind {
     }
 }
 
-// Kept as a function and no `From`: of the numbers that no type has, whose records are refused, it makes a region's.
+// Kept as a function. A `From` would say that each number is a type's. A `TryFrom` would not serve `summary_record`, which reads a type before it tests its
+// number, by `shape_of`: of a number that no type has it makes a region's. And beside this one it would be a second reading of the same numbers.
 #[tactic(auto, unfolding(crate::specs::Read::shape_of))]
 pub fn shape(n: u8) -> Shape
     ensures { result ≡ shape_of n }
@@ -32,39 +34,64 @@ pub fn shape(n: u8) -> Shape
     }
 }
 
-pub fn shape_number(k: Shape) -> u8
-    ensures { result ≡ shape_number k }
-{
-    match k {
-        Shape::Points => 1,
-        Shape::Line => 2,
-        Shape::Region => 3,
+// In a type record.
+impl From<Shape> for u8 {
+    ghost from_gives = { λ k n. n ≡ shape_number k };
+
+    fn from(k: Shape) -> u8 {
+        match k {
+            Shape::Points => 1,
+            Shape::Line => 2,
+            Shape::Region => 3,
+        }
     }
 }
 
-// How many bytes the record of an element takes.
-pub fn size(k: Shape) -> usize
-    ensures { result ≡ size k }
-{
-    match k {
-        Shape::Points => 9,
-        Shape::Line => 18,
-        Shape::Region => 19,
+impl Shape {
+    pub fn has_segments(self) -> bool
+        ensures { result ≡ has_segments self }
+    {
+        match self {
+            Shape::Points => false,
+            Shape::Line | Shape::Region => true,
+        }
+    }
+
+    pub fn is_region(self) -> bool
+        ensures { result ≡ is_region self }
+    {
+        match self {
+            Shape::Points | Shape::Line => false,
+            Shape::Region => true,
+        }
+    }
+
+    // How many bytes the record of an element takes.
+    pub fn size(self) -> usize
+        ensures { result ≡ size self }
+    {
+        match self {
+            Shape::Points => 9,
+            Shape::Line => 18,
+            Shape::Region => 19,
+        }
     }
 }
 
-// Where the record of an element stands.
-pub fn place(l: Layout, i: usize) -> usize
-    requires { place l i < 2 ^ 64 }
-    ensures { result ≡ place l i }
-{
-    l.start + 2 + i * size(l.shape)
-}
+impl Layout {
+    // Where the record of an element stands.
+    pub fn place(self, i: usize) -> usize
+        requires { place self i < 2 ^ 64 }
+        ensures { result ≡ place self i }
+    {
+        self.start + 2 + i * self.shape.size()
+    }
 
-// The first offset after an object.
-pub fn after(l: Layout) -> usize
-    requires { after l < 2 ^ 64 }
-    ensures { result ≡ after l }
-{
-    place(l, l.count) + 1
+    // The first offset after the object.
+    pub fn after(self) -> usize
+        requires { after self < 2 ^ 64 }
+        ensures { result ≡ after self }
+    {
+        self.place(self.count) + 1
+    }
 }

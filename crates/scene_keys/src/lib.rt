@@ -2,18 +2,20 @@
 // comparison is then one test, and the end of an object needs none.
 #![tactic(auto)]
 
-ghost use Rattle.std.specs.Prelude.{◌≡◌, ◌+◌, ◌*◌, ◌≤◌, T, nat_abs, length};
+ghost use Rattle.std.specs.Prelude.{◌≡◌, ◌+◌, ◌*◌, ◌<◌, ◌≤◌, T, nat_abs, length};
 ghost use Rattle.plane.specs.Plane.{limit, in_range, dominating};
-ghost use Rattle.scene.specs.Read.{halfsegment_at, size, place, IsObject};
+ghost use Rattle.scene.specs.Read.{halfsegment_at, size, place};
 ghost use Rattle.scene_keys.specs.Keyed.{raised, key, point_in, next_key};
 
 use plane::Point;
-use scene::{Layout, Shape, bytes};
+use scene::{Shape, bytes};
+use scene_segments::Object;
 
 // The radix of a key: a power of two above every raised coordinate.
 const ROOM: u64 = 33_554_432;
 
 // The key past the last element, above that of every point.
+// Kept as a number: with an Option, two keys would be compared in four cases, where the order of numbers has them all.
 pub const TOP: u64 = ROOM * ROOM;
 
 // A coordinate, counted from the least.
@@ -33,6 +35,7 @@ fn key(p: Point) -> u64
 }
 
 // The dominating point of the halfsegment at an offset, without a branch.
+// Kept beside `plane_segments::dominating_point`: it reads that point alone, and not the whole halfsegment.
 fn dominating(s: &[u8], at: usize) -> Point
     requires { at + 18 ≤ length s.now }
     ensures { result ≡ dominating (halfsegment_at s.now at) }
@@ -53,13 +56,52 @@ fn point_of(s: &[u8], k: Shape, at: usize) -> Point
 }
 
 // The key of the element i, whose record stands at an offset.
-pub fn key_of(s: &[u8], l: Layout, i: usize, at: usize) -> u64
-    requires { IsObject s.now l × (at ≡ place l i) }
-    ensures { result ≡ next_key s.now l i }
+fn key_of(o: Object<'_>, i: usize, at: usize) -> u64
+    requires { at ≡ place o.layout i }
+    ensures { result ≡ next_key o.entry.bytes.now o.entry.layout i }
 {
-    if i < l.count {
-        key(point_of(s, l.shape, at))
+    if i < o.layout.count {
+        key(point_of(o.bytes, o.layout.shape, at))
     } else {
         TOP
+    }
+}
+
+/// Where a walk over the elements of an object has come to: the index of an element, or past the last, the offset of its record, and its key.
+#[derive(Clone, Copy)]
+pub struct Cursor<'a> {
+    pub object: Object<'a>,
+    pub index: usize,
+    pub at: usize,
+    pub key: u64,
+    pub ghost within: { index ≤ object.layout.count },
+    pub ghost stands: { at ≡ place object.layout index },
+    pub ghost key_is: { key ≡ next_key object.bytes.now object.layout index },
+}
+
+impl<'a> Cursor<'a> {
+    // At the first element.
+    pub fn first(object: Object<'a>) -> Cursor<'a>
+        ensures of { (result.object.bytes.now ≡ object.entry.bytes.now) × (result.object.layout ≡ object.entry.layout) }
+        ensures index { result.index ≡ 0 }
+    {
+        let at = object.place(0);
+        Cursor {
+            object,
+            index: 0,
+            at,
+            key: key_of(object, 0, at),
+        }
+    }
+
+    // On to the next one. In place: where each step copied the cursor, and with it the object, a walk over points took three to six times as long.
+    pub fn advance(&mut self)
+        requires { self.old.index < self.old.object.layout.count }
+        ensures of { (self.new.object.bytes.now ≡ self.old.object.bytes.now) × (self.new.object.layout ≡ self.old.object.layout) }
+        ensures index { self.new.index ≡ self.old.index + 1 }
+    {
+        self.index += 1;
+        self.at += self.object.layout.shape.size();
+        self.key = key_of(self.object, self.index, self.at);
     }
 }

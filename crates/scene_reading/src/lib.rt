@@ -1,30 +1,24 @@
 // The refusals 1 to 7, found record by record.
 #![tactic(auto)]
 
-ghost use Rattle.std.specs.Prelude.{◌≡◌, ◌+◌, ◌≤◌, Bool, [], ◌∷◌, length, Ok, Err};
-ghost use Rattle.scene.specs.Read.{size, record_at, starts_object, stands_in, most, elements_from, read_object, read_scene, read_alone, after, ends_with, judge};
-ghost use Rattle.scene.specs.Inner.{fields_at, segment_fields};
+ghost use Rattle.std.specs.Prelude.{◌≡◌, ◌+◌, ◌≤◌, [], ◌∷◌, length, Ok, Err};
+ghost use Rattle.scene.specs.Read.{size, record_at, stands_in, most, elements_from, read_object, read_scene, read_alone, after, ends_with, judge};
+ghost use Rattle.scene.specs.Inner.{fields_at, segment_fields, type_at};
 
 use plane::Segment;
-use scene::{Kind, Layout, Reason, Refusal, Scene, Shape, bytes, order, records};
+use scene::{Kind, Layout, Reason, Refusal, Scene, Shape, bytes, records};
 
 pub mod faultless;
-
-fn bad(reason: Reason, place: usize) -> Result<Kind, Refusal>
-    ensures { result ≡ Err (record { reason = reason; place = place }) }
-{
-    Err(Refusal { reason, place })
-}
 
 // 4 and 5 of a halfsegment record.
 fn segment_fields(segment: Segment, at: usize, k: Shape) -> Result<Kind, Refusal>
     ensures { result ≡ segment_fields segment at k }
 {
     if !plane::is_in_range(segment.left) || !plane::is_in_range(segment.right) {
-        return bad(Reason::OutOfRange, at);
+        return Reason::OutOfRange.at(at);
     }
     if segment.right <= segment.left {
-        return bad(Reason::EndsReversed, at);
+        return Reason::EndsReversed.at(at);
     }
     Ok(Kind::Element(k))
 }
@@ -39,19 +33,19 @@ fn fields(s: &[u8], at: usize, k: Shape) -> Result<Kind, Refusal>
             if plane::is_in_range(bytes::point(s, at)) {
                 Ok(Kind::Element(k))
             } else {
-                bad(Reason::OutOfRange, at)
+                Reason::OutOfRange.at(at)
             }
         }
         Shape::Line => {
             if 1 < s[at + 17] {
-                bad(Reason::WrongField, at)
+                Reason::WrongField.at(at)
             } else {
                 segment_fields(bytes::segment(s, at), at, k)
             }
         }
         Shape::Region => {
             if 1 < s[at + 17] || 1 < s[at + 18] {
-                bad(Reason::WrongField, at)
+                Reason::WrongField.at(at)
             } else {
                 segment_fields(bytes::segment(s, at), at, k)
             }
@@ -64,45 +58,45 @@ fn element_record(s: &[u8], at: usize, k: Shape, full: bool) -> Result<Kind, Ref
     ensures { result ≡ record_at s.now at (stands_in k) full }
 {
     if s.len() <= at {
-        return bad(Reason::CutShort, s.len());
+        return Reason::CutShort.at(s.len());
     }
     match Kind::from(s[at]) {
         Kind::Element(e) => {
             if e != k {
-                return bad(Reason::WrongKind, at);
+                return Reason::WrongKind.at(at);
             }
             if full {
-                return bad(Reason::TooMany, at);
+                return Reason::TooMany.at(at);
             }
-            if s.len() - at < records::size(k) {
-                return bad(Reason::CutShort, at);
+            if s.len() - at < k.size() {
+                return Reason::CutShort.at(at);
             }
             fields(s, at, k)
         }
         Kind::End => Ok(Kind::End),
-        Kind::Start | Kind::Unknown => bad(Reason::WrongKind, at),
+        Kind::Start | Kind::Unknown => Reason::WrongKind.at(at),
     }
 }
 
-// The record at an offset where an object is due.
-fn type_record(s: &[u8], at: usize) -> Result<Kind, Refusal>
-    ensures { result ≡ record_at s.now at starts_object Bool.false }
+// The type of the object whose type record is due at an offset.
+fn type_record(s: &[u8], at: usize) -> Result<Shape, Refusal>
+    ensures { result ≡ type_at s.now at }
 {
     if s.len() <= at {
-        return bad(Reason::CutShort, s.len());
+        return Reason::CutShort.at(s.len());
     }
     match Kind::from(s[at]) {
         Kind::Start => {
             if s.len() - at < 2 {
-                return bad(Reason::CutShort, at);
+                return Reason::CutShort.at(at);
             }
             let n = s[at + 1];
             if n < 1 || 3 < n {
-                return bad(Reason::WrongField, at);
+                return Reason::WrongField.at(at);
             }
-            Ok(Kind::Start)
+            Ok(records::shape(n))
         }
-        Kind::Element(_) | Kind::End | Kind::Unknown => bad(Reason::WrongKind, at),
+        Kind::Element(_) | Kind::End | Kind::Unknown => Reason::WrongKind.at(at),
     }
 }
 
@@ -118,15 +112,15 @@ fn elements(s: &[u8], shape: Shape, start: usize) -> Result<Layout, Refusal>
         start,
         count,
     };
-    element_record(s, records::place(l, count), shape, count == 1024)?;
+    element_record(s, l.place(count), shape, count == 1024)?;
     Ok(l)
 }
 
 pub fn read_object(s: &[u8], at: usize) -> Result<Layout, Refusal>
     ensures { result ≡ read_object s.now at }
 {
-    type_record(s, at)?;
-    elements(s, records::shape(s[at + 1]), at)
+    let shape = type_record(s, at)?;
+    elements(s, shape, at)
 }
 
 // 7: the bytes end where the object does.
@@ -134,12 +128,9 @@ fn ends_with(s: &[u8], l: Layout) -> Result<(), Refusal>
     requires { after l ≤ length s.now }
     ensures { result ≡ judge Err (Ok tt) (ends_with s.now l ∷ []) }
 {
-    let end = records::after(l);
+    let end = l.after();
     if end < s.len() {
-        return Err(Refusal {
-            reason: Reason::MoreBytes,
-            place: end,
-        });
+        return Reason::MoreBytes.at(end);
     }
     Ok(())
 }
@@ -149,9 +140,9 @@ pub fn read_scene(s: &[u8]) -> Result<Scene, Refusal>
     ensures { result ≡ read_scene s.now }
 {
     let a = read_object(s, 0)?;
-    let b = read_object(s, records::after(a))?;
+    let b = read_object(s, a.after())?;
     ends_with(s, b)?;
-    Ok(order::arranged(a, b))
+    Ok(Scene::arranged(a, b))
 }
 
 // The refusals 1 to 7 of one object's bytes alone.

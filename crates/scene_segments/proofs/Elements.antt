@@ -1,14 +1,13 @@
 -- The element i of an object: what its record gives the functions that read it, and the tests on it by the object's type.
 use Prim.Native.Nat.{ℕ, ◌+◌, ◌<◌, ◌≤◌}
 use native.Mathlib.Omega.{arith}
-use mathlib.Core.Path.{◌≡◌, refl, sym, ap, subst, ◌∙◌}
+use mathlib.Core.Path.{◌≡◌, refl, ap, ◌∙◌}
 use mathlib.Core.Bool.{Bool, true, false, ◌&&◌, true≢false, false≢true}
 use mathlib.Core.List.{List}
 use lib.ListN.{length}
-use lib.Dec.{T}
 use Rattle.whole.proofs.Logic.{is_true}
 use Rattle.plane.specs.declared.Halfsegment.{Halfsegment}
-use Rattle.plane.specs.Plane.{segment_in_range, before, comes_before}
+use Rattle.plane.specs.Plane.{before, comes_before}
 use Rattle.scene.specs.declared.Shape.{Shape}
 use Rattle.scene.specs.declared.Shape.TheVariants.{Points, Line, Region}
 use Rattle.scene.specs.declared.Layout.{Layout}
@@ -39,14 +38,6 @@ module _ (s : List ℕ) (l : Layout) (is : IsObject s l) (i : ℕ) (h : i < l.co
 
   pub ia_good : is_region l.shape ≡ true → place l i + 19 ≤ length s
   ia_good e = ia_there taken i h (is_true (is_region l.shape) e)
-
--- the element as the code reads it
-module _ (s : List ℕ) (l : Layout) (i : ℕ) where
-  pub half_is : {at : ℕ} {k : Halfsegment} → k ≡ halfsegment_at s at → at ≡ place l i → k ≡ half s l i
-  half_is e p = e ∙ ap (halfsegment_at s) p
-
-  pub half_in_range : {k : Halfsegment} → k ≡ half s l i → GoodHalfsegment s (place l i) → T (segment_in_range k.segment)
-  half_in_range e g = subst (λ (k : Halfsegment). T (segment_in_range k.segment)) (sym e) g.in_range_lem
 
 -- 10, by the object's type
 module _ (s : List ℕ) (l : Layout) (i j : ℕ) where

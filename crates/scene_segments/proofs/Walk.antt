@@ -9,19 +9,18 @@ use mathlib.Core.Path.{◌≡◌, refl, sym, ap, subst, ◌∙◌}
 use mathlib.Core.Bool.{Bool, true, false, ◌&&◌, ◌||◌, cond}
 use mathlib.Core.List.{List, [], ◌∷◌, map}
 use lib.ListN.{length}
-use lib.Dec.{T, eqb}
-use borrow.Author.Tests.{eq-eqb, ne_eqb}
+use lib.Dec.{T}
 use Rattle.whole.specs.Count.{bit, some, count}
 use Rattle.plane.specs.declared.Segment.{Segment}
 use Rattle.plane.specs.Plane.{segment_in_range, ordered}
 use Rattle.scene.specs.declared.Shape.{Shape}
 use Rattle.scene.specs.declared.Shape.TheVariants.{Points, Line, Region}
 use Rattle.scene.specs.declared.Layout.{Layout}
-use Rattle.scene.specs.Read.{byte, segment_at, size, place, after, most, IsObject}
+use Rattle.scene.specs.Read.{place, after, most, IsObject}
 use Rattle.scene.specs.Conditions.{indices, elements, keep, has_segments, half, left_test, segments, earliest}
 use Rattle.scene.proofs.Taken.{taken_object}
-use Rattle.scene_segments.specs.Walked.{Readable, left_with}
-use Rattle.scene_segments.proofs.Elements.{fits, half_good}
+use Rattle.plane.specs.declared.Halfsegment.{Halfsegment}
+use Rattle.scene_segments.specs.Walked.{left_with}
 
 -- the numbers from i up to n
 abbrev pub between : ℕ → ℕ → List ℕ
@@ -134,33 +133,11 @@ place_fits l k h = go l.shape
     go Line = omega arith
     go Region = omega arith
 
--- ---- one step of a walk over the segments: the element i, whose record stands at an offset
+-- ---- one step of a walk over the segments: the element i, as the code reads it
 
-pub record Step (s : List ℕ) (l : Layout) (at i : ℕ) : Type 0 where
-  pub fits : at + size l.shape ≤ length s
-  pub readable : Readable s at
-  pub in_order : T (ordered (segment_at s at))
-  pub same : (f : Segment → Bool) → left_passes s l f i ≡ left_with f s at
-
-pub step : {s : List ℕ} {l : Layout} {at i : ℕ} → IsObject s l → has_segments l.shape ≡ true → at ≡ place l i → i < l.count → Step s l at i
-step {s} {l} {at} {i} is has e h = subst (λ (at : ℕ). Step s l at i) (sym e) (record {
-  fits = fits s l is i h;
-  readable = ((half_good s l is i h has).there, (half_good s l is i h has).in_range_lem);
-  in_order = (half_good s l is i h has).in_order;
-  same = λ f. rw has;
-})
-
--- ---- the test on a record, as the code makes it
-
-module _ (f : Segment → Bool) (s : List ℕ) (at : ℕ) where
-  pub at_left : byte s (at + 17) ≡ 1 → {t : Segment} {r : Bool} → t ≡ segment_at s at → r ≡ f t → r ≡ left_with f s at
-  at_left e {t} {r} q p = p ∙ ap f q ∙ rw (eq-eqb (byte s (at + 17)) 1 e)
-
-  not_left : (byte s (at + 17) ≡ 1 → ⊥) → eqb (byte s (at + 17)) 1 ≡ false
-  not_left n = ne_eqb (byte s (at + 17)) 1 n
-
-  pub at_right : (byte s (at + 17) ≡ 1 → ⊥) → eqb (byte s (at + 17)) 1 ≡ left_with f s at
-  at_right n = rw (not_left n)
+module _ (s : List ℕ) (l : Layout) (i : ℕ) (has : has_segments l.shape ≡ true) {h : Halfsegment} (is : h ≡ half s l i) where
+  pub passes_is : (f : Segment → Bool) → left_passes s l f i ≡ left_with f h
+  passes_is f = rw (is, has) refl
 
 module _ {t u : Segment} (e : t ≡ u) where
   pub in_range_at : T (segment_in_range u) → T (segment_in_range t)

@@ -7,7 +7,7 @@ use Rattle.plane.specs.declared.Segment.{Segment}
 use Rattle.plane.specs.declared.Halfsegment.{Halfsegment}
 use Rattle.plane.specs.Plane.{segment_in_range, is_same_segment, midpoint, counts_below, counts_below_left, touch}
 use Rattle.scene.specs.declared.Layout.{Layout}
-use Rattle.scene.specs.Read.{segment_at, halfsegment_at}
+use Rattle.scene.specs.Read.{segment_at}
 use Rattle.scene.specs.Conditions.{indices, half, left_test}
 
 -- the record of a halfsegment whose ends are in range
@@ -15,8 +15,8 @@ abbrev pub Readable : List ℕ → ℕ → Type 0
 Readable s at = (at + 18 ≤ length s) × T (segment_in_range (segment_at s at))
 
 -- it is a left one, and its segment passes a test
-abbrev pub left_with : (Segment → Bool) → List ℕ → ℕ → Bool
-left_with f s at = (halfsegment_at s at).is_left && f (segment_at s at)
+abbrev pub left_with : (Segment → Bool) → Halfsegment → Bool
+left_with f h = h.is_left && f h.segment
 
 -- a test may be asked of every segment in range; and what it may answer is what passes
 abbrev pub TakesSegments : (Segment → Type 0) → Type 0

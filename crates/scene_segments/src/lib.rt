@@ -1,157 +1,159 @@
-// Searches over the segments of an object in the bytes. Each walks the records once, or until no later one can count, and reads the left
-// halfsegments.
+// What was read: an object, two of them, or a scene, each as its bytes and where its records stand in them. An element is asked for by its index.
 #![tactic(auto)]
 
-ghost use Rattle.std.specs.Prelude.{◌≡◌, Bool, ◌+◌, ◌*◌, ◌≤◌, length, T};
-ghost use Rattle.whole.specs.Count.{count};
-ghost use Rattle.plane.specs.Plane.{limit, within, segment_in_range, ordered, grid, halved, midpoint, is_end, ends_at, counts_below, counts_below_left, touch};
-ghost use Rattle.scene.specs.Read.{segment_at, halfsegment_at, IsObject};
-ghost use Rattle.scene.specs.Conditions.{has_segments, is_region, segments};
-ghost use Rattle.scene_segments.specs.Walked.{Readable, left_with, beyond, is_below, TakesSegments, Tests, touches_from, count_below};
-ghost use Rattle.plane.specs.declared.Segment.{Segment};
+ghost use Rattle.std.specs.Prelude.{◌≡◌, Bool, cond, ◌+◌, ◌<◌, ◌≤◌, length, T};
+ghost use Rattle.plane.specs.Plane.{in_range, segment_in_range, ordered};
+ghost use Rattle.scene.specs.Read.{place, size, point_at, given_first, given_second, IsObject, IsScene};
+ghost use Rattle.scene.specs.Conditions.{has_segments, half, ia};
 
-use plane::{Point, Segment};
-use scene::{Layout, Shape, bytes, records};
+use plane::{Halfsegment, Point};
+use scene::{Layout, Scene, bytes};
 
 mod apart;
+mod search;
 
-pub fn has_segments(k: Shape) -> bool
-    ensures { result ≡ has_segments k }
-{
-    match k {
-        Shape::Points => false,
-        Shape::Line | Shape::Region => true,
+/// The bytes in which an object was read, and where its records stand in them.
+#[derive(Clone, Copy)]
+pub struct Object<'a> {
+    pub bytes: &'a [u8],
+    pub layout: Layout,
+    pub ghost read: { IsObject bytes.now layout },
+}
+
+impl<'a> Object<'a> {
+    pub fn has_segments(self) -> bool
+        ensures { result ≡ has_segments self.entry.layout.shape }
+    {
+        self.layout.shape.has_segments()
     }
-}
 
-pub fn is_region(k: Shape) -> bool
-    ensures { result ≡ is_region k }
-{
-    match k {
-        Shape::Points | Shape::Line => false,
-        Shape::Region => true,
-    }
-}
-
-// ---- the tests on the record at an offset
-
-fn is_left_at(s: &[u8], at: usize) -> bool
-    requires { at + 18 ≤ length s.now }
-    ensures { result ≡ (halfsegment_at s.now at).is_left }
-{
-    s[at + 17] == 1
-}
-
-fn is_beyond(s: &[u8], at: usize, t: Segment) -> bool
-    requires { Readable s.now at }
-    ensures { result ≡ left_with (beyond t) s.now at }
-{
-    is_left_at(s, at) && t.right.x < bytes::coordinate(s, at + 1)
-}
-
-fn is_touched(t: Segment, u: Segment) -> bool
-    requires { T (segment_in_range t) × T (ordered t) × T (segment_in_range u) × T (ordered u) }
-    ensures { result ≡ touch t u }
-{
-    !apart::are_apart(t, u) && plane_segments::touches(t, u)
-}
-
-fn is_touched_at(s: &[u8], at: usize, t: Segment) -> bool
-    requires { Readable s.now at × T (ordered (segment_at s.now at)) × T (segment_in_range t) × T (ordered t) }
-    ensures { result ≡ left_with (touch t) s.now at }
-{
-    is_left_at(s, at) && is_touched(t, bytes::segment(s, at))
-}
-
-// Does u count for the ia of t, the doubled coordinates of whose midpoint are m's?
-fn is_below(u: Segment, t: Segment, m: Point) -> bool
-    requires { T (segment_in_range u) × T (within (2 * limit) m) × (halved m ≡ midpoint t) }
-    ensures { result ≡ is_below t u }
-{
-    if t.left.x == t.right.x {
-        plane_segments::counts_below_left(u, m)
-    } else {
-        plane_segments::counts_below(u, m)
-    }
-}
-
-fn is_below_at(s: &[u8], at: usize, t: Segment, m: Point) -> bool
-    requires { Readable s.now at × T (within (2 * limit) m) × (halved m ≡ midpoint t) }
-    ensures { result ≡ left_with (is_below t) s.now at }
-{
-    is_left_at(s, at) && is_below(bytes::segment(s, at), t, m)
-}
-
-// ---- the searches
-
-// Does t touch a segment of l, by its left halfsegments from the element k on? The search ends where one begins right of t's end.
-pub fn touches_from(s: &[u8], l: Layout, t: Segment, k: usize) -> bool
-    requires { IsObject s.now l × T (segment_in_range t) × T (ordered t) × (k ≤ l.count) }
-    ensures { result ≡ touches_from s.now l t k }
-{
-    if !has_segments(l.shape) {
-        return false;
-    }
-    for i in k..l.count {
-        let at = records::place(l, i);
-        if is_beyond(s, at, t) {
-            return false;
-        }
-        if is_touched_at(s, at, t) {
-            return true;
+    // Beside itself.
+    pub fn with_itself(self) -> Pair<'a>
+        ensures { (result.bytes.now ≡ self.entry.bytes.now) × (result.own ≡ self.entry.layout) × (result.other ≡ self.entry.layout) }
+    {
+        Pair {
+            bytes: self.bytes,
+            own: self.layout,
+            other: self.layout,
         }
     }
-    false
+
+    // Where the record of an element stands; past the last one, that of the end.
+    pub fn place(self, i: usize) -> usize
+        requires { i ≤ self.layout.count }
+        ensures is { result ≡ place self.entry.layout i }
+        ensures before_end { result < length self.entry.bytes.now }
+        ensures whole { i < self.entry.layout.count → result + size self.entry.layout.shape ≤ length self.entry.bytes.now }
+    {
+        self.layout.place(i)
+    }
+
+    pub fn point(self, i: usize) -> Point
+        requires { (i < self.layout.count) × (has_segments self.layout.shape ≡ Bool.false) }
+        ensures is { result ≡ point_at self.entry.bytes.now (place self.entry.layout i) }
+        ensures in_range { T (in_range result) }
+    {
+        bytes::point(self.bytes, self.layout.place(i))
+    }
+
+    // Kept as a clause, here and above: that the object has segments. A type for it would be one more to unwrap at each use, to spare one word.
+    pub fn half(self, i: usize) -> Halfsegment
+        requires { (i < self.layout.count) × T (has_segments self.layout.shape) }
+        ensures is { result ≡ half self.entry.bytes.now self.entry.layout i }
+        ensures in_range { T (segment_in_range result.segment) }
+        ensures in_order { T (ordered result.segment) }
+    {
+        bytes::halfsegment(self.bytes, self.layout.place(i))
+    }
+
+    // Is the interior of a region above the segment of an element? A line has none.
+    pub fn ia(self, i: usize) -> bool
+        requires { i < self.layout.count }
+        ensures { result ≡ ia self.entry.bytes.now self.entry.layout i }
+    {
+        self.layout.shape.is_region() && bytes::ia(self.bytes, self.layout.place(i))
+    }
 }
 
-// How many segments of l pass a test?
-fn count<F: Fn(Segment) -> bool>(s: &[u8], l: Layout, test: F) -> usize
-    requires { IsObject s.now l × TakesSegments (F.pre test) }
-    ensures { (passes : Segment → Bool) → Tests (F.post test) passes → result ≡ count passes (segments s.now l) }
-{
-    if !has_segments(l.shape) {
-        return 0;
-    }
-    let mut n = 0;
-    for i in 0..l.count {
-        let at = records::place(l, i);
-        if is_left_at(s, at) && test(bytes::segment(s, at)) {
-            n += 1;
+/// An object and another one in the same bytes, which may be itself.
+#[derive(Clone, Copy)]
+pub struct Pair<'a> {
+    pub bytes: &'a [u8],
+    pub own: Layout,
+    pub other: Layout,
+    pub ghost own_read: { IsObject bytes.now own },
+    pub ghost other_read: { IsObject bytes.now other },
+}
+
+impl<'a> Pair<'a> {
+    pub fn own(self) -> Object<'a>
+        ensures { (result.bytes.now ≡ self.entry.bytes.now) × (result.layout ≡ self.entry.own) }
+    {
+        Object {
+            bytes: self.bytes,
+            layout: self.own,
         }
     }
-    n
-}
 
-// How many segments of l end at p?
-pub fn count_ends(s: &[u8], l: Layout, p: Point) -> usize
-    requires { IsObject s.now l }
-    ensures { result ≡ ends_at (segments s.now l) (grid p) }
-{
-    count(s, l, |t| plane_segments::is_end(t, p))
-}
-
-// How many segments of l count below the point whose doubled coordinates are m's?
-pub fn count_below(s: &[u8], l: Layout, m: Point) -> usize
-    requires { IsObject s.now l × T (within (2 * limit) m) }
-    ensures { result ≡ count (counts_below (halved m)) (segments s.now l) }
-{
-    count(s, l, |t| plane_segments::counts_below(t, m))
-}
-
-// How many segments of l count for the ia of t? The search ends where one begins right of t's end.
-// Kept beside `touches_from`, which ends there too: that one answers at the first segment, and this one counts.
-pub fn count_for_ia(s: &[u8], l: Layout, t: Segment) -> usize
-    requires { IsObject s.now l × T (has_segments l.shape) × T (segment_in_range t) }
-    ensures { result ≡ count_below s.now l t }
-{
-    let m = plane_segments::doubled_midpoint(t);
-    let mut n = 0;
-    for i in 0..l.count {
-        let at = records::place(l, i);
-        if is_beyond(s, at, t) {
-            return n;
+    pub fn other(self) -> Object<'a>
+        ensures { (result.bytes.now ≡ self.entry.bytes.now) × (result.layout ≡ self.entry.other) }
+    {
+        Object {
+            bytes: self.bytes,
+            layout: self.other,
         }
-        n += is_below_at(s, at, t, m) as usize;
     }
-    n
+
+    // The other one beside it.
+    pub fn exchanged(self) -> Pair<'a>
+        ensures { (result.bytes.now ≡ self.entry.bytes.now) × (result.own ≡ self.entry.other) × (result.other ≡ self.entry.own) }
+    {
+        Pair {
+            bytes: self.bytes,
+            own: self.other,
+            other: self.own,
+        }
+    }
+}
+
+/// A scene where it was read.
+#[derive(Clone, Copy)]
+pub struct ReadScene<'a> {
+    pub bytes: &'a [u8],
+    pub scene: Scene,
+    pub ghost read: { IsScene bytes.now scene },
+}
+
+impl<'a> ReadScene<'a> {
+    // F, or G.
+    pub fn object(self, first: bool) -> Object<'a>
+        ensures { (result.bytes.now ≡ self.entry.bytes.now) × (result.layout ≡ cond first self.entry.scene.f self.entry.scene.g) }
+    {
+        Object {
+            bytes: self.bytes,
+            layout: self.scene.object(first),
+        }
+    }
+
+    // The object that the bytes have first, beside the one that they have second.
+    pub fn as_given(self) -> Pair<'a>
+        ensures { (result.bytes.now ≡ self.entry.bytes.now) × (result.own ≡ given_first self.entry.scene) × (result.other ≡ given_second self.entry.scene) }
+    {
+        Pair {
+            bytes: self.bytes,
+            own: self.scene.given_first(),
+            other: self.scene.given_second(),
+        }
+    }
+
+    // F beside G.
+    pub fn pair(self) -> Pair<'a>
+        ensures { (result.bytes.now ≡ self.entry.bytes.now) × (result.own ≡ self.entry.scene.f) × (result.other ≡ self.entry.scene.g) }
+    {
+        Pair {
+            bytes: self.bytes,
+            own: self.scene.f,
+            other: self.scene.g,
+        }
+    }
 }

@@ -1,5 +1,4 @@
 -- "look" in words: of two good summaries neither is empty and their boxes share a point, exactly where they are not far.
-use Prim.Native.Nat.{ℕ}
 use Rattle.std.specs.Prelude.{Some, None}
 use native.Mathlib.Omega.{arith}
 use mathlib.Core.Path.{◌≡◌, refl, sym, ap₂, subst, ◌∙◌}

@@ -9,7 +9,7 @@ use scene::Shape;
 fn is_origin(p: Point) -> bool
     ensures { result ≡ is_origin p }
 {
-    p.x == 0 && p.y == 0
+    p == Point::ORIGIN
 }
 
 impl Bounds {
@@ -22,7 +22,7 @@ impl Bounds {
     fn is_point(self) -> bool
         ensures { result ≡ is_point self }
     {
-        self.least.x == self.greatest.x && self.least.y == self.greatest.y
+        self.least == self.greatest
     }
 
     #[tactic(auto, unfolding(crate::specs::Summary::good_box))]

@@ -7,13 +7,14 @@ use scene::Shape;
 pub mod good;
 
 // The least upright box round an object: its least and greatest x and y, as two corners.
-#[derive(Clone, Copy)]
+#[derive(Clone, Copy, PartialEq, Eq)]
 pub struct Bounds {
     pub least: Point,
     pub greatest: Point,
 }
 
-#[derive(Clone, Copy)]
+// Kept with `empty` beside a box, and no Option of a box: that is what its 20 bytes have, four zeros for an empty object.
+#[derive(Clone, Copy, PartialEq, Eq)]
 pub struct Summary {
     pub shape: Shape,
     pub empty: bool,

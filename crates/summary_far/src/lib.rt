@@ -8,7 +8,7 @@ ghost use Rattle.summary.specs.Summary.{beside, are_far, flags_f, flags_g, ascen
 ghost use Rattle.summary_objects.specs.Objects.{GoodExactlyIfMade, ToldInFull, LookExactlyIfNear};
 
 use flags_vectors::Vectors;
-use scene::{Reason, Refusal, Shape, records};
+use scene::{Reason, Refusal, Shape};
 use summary::{Bounds, Summary};
 
 // ---- boxes that share no point
@@ -40,7 +40,7 @@ fn are_far(s: Summary, t: Summary) -> bool
 
 // ---- the vectors of far objects, F's type not above G's
 
-// Kept as two functions, of F and of G: they are tables that differ in every row.
+// Kept as two functions, of F and of G: two tables of the definitions, `flags_f` and `flags_g`, that share two rows of six.
 fn vector_f(k: Shape, l: Shape, filled: bool, boundary: bool) -> u16
     ensures { result ≡ pack (flags_f k l filled boundary) }
 {
@@ -84,7 +84,7 @@ fn ascending(s: Summary, t: Summary) -> Vectors
 fn vectors(s: Summary, t: Summary) -> Vectors
     ensures { result ≡ far_vectors s t }
 {
-    if records::shape_number(t.shape) < records::shape_number(s.shape) {
+    if t.shape < s.shape {
         let v = ascending(t, s);
         Vectors { f: v.g, g: v.f }
     } else {
@@ -105,14 +105,12 @@ fn tell(s: Summary, t: Summary) -> Option<Vectors>
 fn ask(first: &[u8], second: &[u8]) -> Result<Option<Vectors>, Refusal>
     ensures { result ≡ asked_of first.now second.now }
 {
-    let s = summary_record::parse(first).ok_or(Refusal {
-        reason: Reason::BadSummary,
-        place: 0,
-    })?;
-    let t = summary_record::parse(second).ok_or(Refusal {
-        reason: Reason::BadSummary,
-        place: 1,
-    })?;
+    let Some(s) = summary_record::parse(first) else {
+        return Reason::BadSummary.at(0);
+    };
+    let Some(t) = summary_record::parse(second) else {
+        return Reason::BadSummary.at(1);
+    };
     Ok(tell(s, t))
 }
 

@@ -1,5 +1,5 @@
 -- The box of an object by its elements one after the other, in the bytes.
-use Prim.Native.Nat.{ℕ, zero, suc, ◌+◌, ◌-◌, ◌<◌, ◌≤◌}
+use Prim.Native.Nat.{ℕ, zero, suc, ◌+◌, ◌-◌, ◌<◌}
 use native.Mathlib.Omega.{arith}
 use native.Mathlib.Numerals.{add-one}
 use mathlib.Core.Path.{◌≡◌, refl, sym, ap, ap₂, ◌∙◌}
@@ -7,7 +7,6 @@ use mathlib.Core.Bool.{Bool, true, false, ◌&&◌, cond, true≢false, false≢
 use mathlib.Core.List.{List, [], ◌∷◌, ◌++◌, map}
 use lib.Dec.{T, leb, leb→le}
 use lib.IntN.{ℤ, pos, negsuc, neg_ℤ, nat_abs}
-use lib.ListN.{length}
 use Rattle.whole.specs.Count.{here}
 use borrow.Author.Tests.{leb-true, le-leb}
 use Rattle.whole.proofs.Logic.{and_left, and_right}
@@ -16,9 +15,9 @@ use Rattle.plane.specs.Plane.{limit, within, in_range}
 use Rattle.scene.specs.declared.Shape.{Shape}
 use Rattle.scene.specs.declared.Shape.TheVariants.{Points, Line, Region}
 use Rattle.scene.specs.declared.Layout.{Layout}
-use Rattle.scene.specs.Read.{place, size, halfsegment_at, IsObject}
+use Rattle.scene.specs.Read.{place, halfsegment_at}
 use Rattle.scene.specs.Conditions.{has_segments, indices, keep, half, left_test, segments}
-use Rattle.scene.proofs.Taken.{layout, taken_object}
+use Rattle.scene.proofs.Taken.{layout}
 use Rattle.flags.specs.Elements.{point_of, points_of, elements_as, elements_of}
 use Rattle.flags.proofs.Elements.{outline_edges}
 use Rattle.summary.specs.declared.Bounds.{Bounds}
@@ -42,9 +41,6 @@ module _ (s : List ℕ) (l : Layout) where
     where
       left : l.count - i ≡ suc (l.count - (i + 1))
       left = omega arith
-
-  pub element_there : IsObject s l → (i : ℕ) → i < l.count → place l i + size l.shape ≤ length s
-  element_there is i h = omega (arith, ((taken_object s l.start l is).elements i h).whole)
 
 -- ---- they are the corners of the elements
 

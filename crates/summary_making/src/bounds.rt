@@ -1,11 +1,11 @@
 // The least and greatest coordinates of an object's elements, in one pass.
-ghost use Rattle.std.specs.Prelude.{◌≡◌, ◌+◌, ◌≤◌, length};
-ghost use Rattle.scene.specs.Read.{size, IsObject};
+ghost use Rattle.std.specs.Prelude.{◌≡◌, ◌<◌};
+ghost use Rattle.scene.specs.Read.{place};
 ghost use Rattle.summary.specs.Summary.{widen, grow};
 ghost use Rattle.summary_making.specs.Making.{corners_of, corners_at, corners_from, widest};
 
 use plane::{Halfsegment, Point};
-use scene::{Layout, Shape, bytes, records};
+use scene_segments::Object;
 use summary::Bounds;
 
 // A box with one more point in it.
@@ -35,21 +35,21 @@ fn with_half(b: Bounds, h: Halfsegment) -> Bounds
     }
 }
 
-// With the element whose record stands at an offset.
-fn with_element(s: &[u8], k: Shape, at: usize, b: Bounds) -> Bounds
-    requires { at + size k ≤ length s.now }
-    ensures { result ≡ grow b (corners_at s.now k at) }
+// With an element.
+fn with_element(o: Object<'_>, i: usize, b: Bounds) -> Bounds
+    requires { i < o.layout.count }
+    ensures { result ≡ grow b (corners_at o.entry.bytes.now o.entry.layout.shape (place o.entry.layout i)) }
 {
-    match k {
-        Shape::Points => widened(b, bytes::point(s, at)),
-        Shape::Line | Shape::Region => with_half(b, bytes::halfsegment(s, at)),
+    if o.has_segments() {
+        with_half(b, o.half(i))
+    } else {
+        widened(b, o.point(i))
     }
 }
 
 // With all elements of an object.
-pub fn bounds_of(s: &[u8], l: Layout) -> Bounds
-    requires { IsObject s.now l }
-    ensures { result ≡ grow widest (corners_from s.now l l.count 0) }
+pub fn bounds_of(o: Object<'_>) -> Bounds
+    ensures { result ≡ grow widest (corners_from o.entry.bytes.now o.entry.layout o.entry.layout.count 0) }
 {
     let mut b = Bounds {
         least: Point {
@@ -61,8 +61,8 @@ pub fn bounds_of(s: &[u8], l: Layout) -> Bounds
             y: -plane::LIMIT,
         },
     };
-    for i in 0..l.count {
-        b = with_element(s, l.shape, records::place(l, i), b);
+    for i in 0..o.layout.count {
+        b = with_element(o, i, b);
     }
     b
 }

@@ -13,6 +13,7 @@ ghost use Rattle.summary_making.specs.Making.{beside_empty, summary_answer_of};
 
 use plane::Point;
 use scene::{Layout, Refusal, Shape};
+use scene_segments::Object;
 use summary::{Bounds, Summary};
 
 pub mod beside;
@@ -33,10 +34,9 @@ fn has_boundary(k: Shape, empty: bool, v: u16) -> bool
 fn nowhere() -> Bounds
     ensures { result ≡ box_of [] }
 {
-    let origin = Point { x: 0, y: 0 };
     Bounds {
-        least: origin,
-        greatest: origin,
+        least: Point::ORIGIN,
+        greatest: Point::ORIGIN,
     }
 }
 
@@ -48,7 +48,10 @@ fn bounds_in(s: &[u8], l: Layout) -> Bounds
     if l.count == 0 {
         nowhere()
     } else {
-        bounds::bounds_of(s, l)
+        bounds::bounds_of(Object {
+            bytes: s,
+            layout: l,
+        })
     }
 }
 

@@ -17,15 +17,16 @@ fn are_fields_good(raw: &[u8; 20]) -> bool
     kind == 83 && (1 <= shape && shape <= 3) && (empty <= 1 && boundary <= 1)
 }
 
-fn read(raw: &[u8; 20]) -> Summary
+// What 20 bytes hold, good or bad.
+pub fn read(raw: &[u8; 20]) -> Summary
     ensures { result ≡ summary_at raw.now 0 }
 {
     Summary {
         shape: records::shape(raw[1]),
         empty: raw[2] == 1,
         bounds: Bounds {
-            least: bytes::point(raw, 2),
-            greatest: bytes::point(raw, 10),
+            least: bytes::point_from(raw, 3),
+            greatest: bytes::point_from(raw, 11),
         },
         boundary: raw[19] == 1,
     }

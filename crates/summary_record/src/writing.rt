@@ -3,7 +3,6 @@ ghost use Rattle.std.specs.Prelude.{◌≡◌, []};
 ghost use Rattle.scene_written.specs.Bytes.{coordinate_then};
 ghost use Rattle.summary.specs.Summary.{bytes_of};
 
-use scene::records;
 use summary::Summary;
 
 fn coordinate_bytes(z: i32) -> [u8; 4]
@@ -17,7 +16,7 @@ pub fn written(s: Summary) -> [u8; 20]
 {
     let mut record = [0u8; 20];
     record[0] = 83;
-    record[1] = records::shape_number(s.shape);
+    record[1] = u8::from(s.shape);
     record[2] = s.empty as u8;
     record[3..7].copy_from_slice(&coordinate_bytes(s.bounds.least.x));
     record[7..11].copy_from_slice(&coordinate_bytes(s.bounds.least.y));

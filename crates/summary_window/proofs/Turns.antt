@@ -1,7 +1,6 @@
 -- One turn over the summaries: what stands at summary k is good and adds its bit to the word, or it is the first that is bad.
 use Rattle.scene.specs.declared.Reason.TheVariants.{BadSummary}
-use Rattle.std.proofs.Common.{◌≡◌, ℕ, ◌+◌, ◌*◌, ◌%◌, ◌^◌, ◌≤◌, ◌<◌, Bool, true, false, not, ◌&&◌, cond, List, ◌++◌, length, drop, min, T, Option, Some, None, Result, Ok, Err, refl, sym, ap, ap₂, subst, ◌∙◌, arith, ◌⊎◌, inl, inr, length-drop}
-use Rattle.std.specs.Option.{ok_or}
+use Rattle.std.proofs.Common.{◌≡◌, ℕ, ◌+◌, ◌*◌, ◌%◌, ◌^◌, ◌≤◌, ◌<◌, Bool, true, false, not, ◌&&◌, cond, List, ◌++◌, length, drop, min, T, Option, Some, None, Ok, Err, refl, sym, ap, ap₂, subst, ◌∙◌, arith, ◌⊎◌, inl, inr, length-drop}
 use Rattle.std.specs.Int.Count.{ones}
 use Rattle.std.specs.Int.{from_bool}
 use Rattle.std.proofs.Math.Nat.{eq-or-lt_of_le, lt_of_lt_of_le}
@@ -9,7 +8,6 @@ use lib.Pow.{pow_mono}
 use borrow.Author.Tests.{lt-ltb, le-ltb}
 use Rattle.whole.specs.Count.{bit}
 use Rattle.whole.proofs.Logic.{is_true}
-use Rattle.scene.specs.declared.Refusal.{Refusal}
 use Rattle.flags.specs.Flags.{pack}
 use Rattle.summary.specs.declared.Summary.{Summary}
 use Rattle.summary.specs.Summary.{summary_at, good_bytes, parsed_summary}
@@ -21,23 +19,20 @@ use Rattle.summary_window.proofs.Records as Records
 
 -- ---- what was parsed
 
-module _ (x : List ℕ) (e : Refusal) {r : Option Summary} {o : Result Summary Refusal} (is : r ≡ parsed_summary x) (then : o ≡ ok_or r e) where
-  both : o ≡ ok_or (parsed_summary x) e
-  both = then ∙ ap (λ (r : Option Summary). ok_or r e) is
-
-  pub parsed : {m : Summary} → o ≡ Ok m → (good_bytes x ≡ true) × (summary_at x 0 ≡ m)
-  parsed {m} h = go (good_bytes x) (sym both ∙ h)
+module _ (x : List ℕ) {r : Option Summary} (is : r ≡ parsed_summary x) where
+  pub parsed : {m : Summary} → r ≡ Some m → (good_bytes x ≡ true) × (summary_at x 0 ≡ m)
+  parsed {m} h = go (good_bytes x) (sym is ∙ h)
     where
-      go : (b : Bool) → ok_or (cond b (Some (summary_at x 0)) None) e ≡ Ok m → (b ≡ true) × (summary_at x 0 ≡ m)
+      go : (b : Bool) → cond b (Some (summary_at x 0)) None ≡ Some m → (b ≡ true) × (summary_at x 0 ≡ m)
       go true h = (refl, cc)
       go false h = cc
 
-  pub not_parsed : {f : Refusal} → o ≡ Err f → (good_bytes x ≡ false) × (e ≡ f)
-  not_parsed {f} h = go (good_bytes x) (sym both ∙ h)
+  pub not_parsed : r ≡ None → good_bytes x ≡ false
+  not_parsed h = go (good_bytes x) (sym is ∙ h)
     where
-      go : (b : Bool) → ◌≡◌ {A = Result Summary Refusal} (ok_or (cond b (Some (summary_at x 0)) None) e) (Err f) → (b ≡ false) × (e ≡ f)
+      go : (b : Bool) → ◌≡◌ {A = Option Summary} (cond b (Some (summary_at x 0)) None) None → b ≡ false
       go true h = cc
-      go false h = (refl, cc)
+      go false h = refl
 
 -- ---- the next bytes, at most 20, of those that are left from summary k on
 

@@ -77,10 +77,9 @@ fn judge(w: Window, s: &[u8]) -> Result<InWindow, Refusal>
 {
     let mut word = 0u64;
     for (k, record) in s.chunks(20).enumerate() {
-        let summary = summary_record::parse(record).ok_or(Refusal {
-            reason: Reason::BadSummary,
-            place: k,
-        })?;
+        let Some(summary) = summary_record::parse(record) else {
+            return Reason::BadSummary.at(k);
+        };
         word += (w.shows(summary) as u64) << k;
     }
     Ok(InWindow {
@@ -94,16 +93,10 @@ fn answer(w: Window, s: &[u8]) -> Result<InWindow, Refusal>
     ensures { result ≡ answer_of w s.now }
 {
     if !w.is_good() {
-        return Err(Refusal {
-            reason: Reason::BadWindow,
-            place: 0,
-        });
+        return Reason::BadWindow.at(0);
     }
     if s.len() > 1280 {
-        return Err(Refusal {
-            reason: Reason::TooManySummaries,
-            place: 0,
-        });
+        return Reason::TooManySummaries.at(0);
     }
     judge(w, s)
 }

@@ -2,7 +2,7 @@
 use Prim.Native.Nat.{ℕ, ◌<◌, ◌≤◌}
 use native.Mathlib.Omega.{arith}
 use mathlib.Core.Path.{◌≡◌, refl, sym, ap, subst, ◌∙◌}
-use mathlib.Core.Bool.{Bool, true, false, not, cond}
+use mathlib.Core.Bool.{Bool, true, false, not}
 use mathlib.Core.List.{List}
 use lib.Dec.{T, T_not, ltb}
 use borrow.Author.Tests.{ltb-true, ltb-false}
@@ -11,13 +11,11 @@ use Rattle.plane.specs.declared.Point.{Point}
 use Rattle.plane.specs.declared.Halfsegment.{Halfsegment}
 use Rattle.plane.specs.Plane.{in_range, before, dominating, comes_before}
 use Rattle.scene.specs.declared.Layout.{Layout}
-use Rattle.scene.specs.declared.Scene.{Scene}
 use Rattle.scene.specs.Read.{IsObject}
 use Rattle.scene.specs.Conditions.{has_segments, half}
 use Rattle.scene_keys.specs.Keyed.{key, keys, next_key}
 use Rattle.scene_keys.proofs.Keys.{key_less, next_in}
 use Rattle.scene_keys.proofs.Elements.{point_in_range, point_of_half}
-use Rattle.sweep_laws.specs.Swept.{object_of, total}
 use Rattle.sweep_laws.proofs.Ordered.{not_after, comes_by_point}
 
 -- h of F and k of G
@@ -54,11 +52,3 @@ module _ (s : List ℕ) (f g : Layout) (is_f : IsObject s f) (is_g : IsObject s 
 
       key_g_lem : b ≡ key (dominating (half s g j))
       key_g_lem = of_g_lem ∙ next_in g.count (keys s g) j within_g ∙ ap key (point_of_half s g has_g j)
-
--- an object has no more events than elements
-pub total_within : (s : List ℕ) (sc : Scene) (first : Bool) → total s sc first ≤ (object_of s sc first).count
-total_within s sc first = go (has_segments (object_of s sc first).shape)
-  where
-    go : (b : Bool) → cond b (object_of s sc first).count 0 ≤ (object_of s sc first).count
-    go true = omega arith
-    go false = omega arith

@@ -1,27 +1,67 @@
 -- One turn of a run over the events: an element is chosen, and where it is taken, what held of the run before holds of it after.
-use Rattle.std.proofs.Common.{◌≡◌, ℕ, ◌+◌, ◌<◌, ◌≤◌, Bool, true, false, not, cond, List, T, length, set, refl, sym, ap, subst, ◌∙◌, arith}
-use mir.Val.{bool_byte}
-use native.Mathlib.Nat.{add-zero}
+use Rattle.std.proofs.Common.{◌≡◌, ℕ, ◌+◌, ◌<◌, ◌≤◌, Bool, true, false, cond, List, [], T, eqb, length, set, refl, sym, subst, ◌∙◌, add-one, arith}
+use lib.Dec.{eqb→eq}
+use Rattle.whole.specs.Decides.{Decides}
+use Rattle.whole.proofs.Logic.{in_nil}
+use Rattle.whole.proofs.Deciding.{by_equality, same_as, retest}
 use Rattle.plane.specs.Plane.{comes_before}
 use Rattle.scene.specs.declared.Scene.{Scene}
 use Rattle.scene.specs.declared.Shape.TheVariants.{Points}
-use Rattle.scene.specs.Read.{IsScene, IsObject}
+use Rattle.scene.specs.Read.{IsScene}
 use Rattle.scene.specs.Conditions.{has_segments, half}
-use Rattle.scene_keys.specs.Keyed.{next_key}
-use Rattle.sweep_laws.specs.Swept.{slot, object_of, is_beginning, total, takes_first, InOrder, Passes}
+use Rattle.sweep_laws.specs.Swept.{slot, is_beginning, total, takes_first, InOrder, Passes}
+use Rattle.sweep_laws.specs.Evenly.{RegionsEndEvenly}
 use Rattle.sweep_laws.specs.Event.{Taken, CanTake}
-use Rattle.sweep_laws.specs.Ready.{Held}
-use Rattle.sweep_laws.proofs.Begun.{reached}
-use Rattle.sweep_laws.proofs.Run.{Run, Orderly, AllEndLater, advance, later_taken}
-use Rattle.sweep_laws.proofs.EventOrder.{After, Earliest, rises, earliest, after_next}
+use Rattle.sweep_laws.specs.Noted.{SegmentsNoted}
+use Rattle.sweep_laws.specs.Held.{Held}
+use Rattle.sweep_laws.proofs.Begun.{reached, Next, next_first, next_second}
+use Rattle.sweep_laws.proofs.Run.{Run, Orderly, AllEndLater, run_start, advance, later_taken}
+use Rattle.sweep_laws.proofs.EventOrder.{After, Earliest, rises, earliest, after_start, after_next}
+use Rattle.sweep_laws.proofs.Final.{passes, notes_hold}
 use Rattle.sweep_laws.proofs.GoesOn
 use Rattle.sweep_laws.proofs.GoesOn.{goes_on, all_later}
-use Rattle.sweep_laws.proofs.Notes.{AllNoted, noted_next}
-use Rattle.sweep_laws.proofs.Objects.{read, few_events}
+use Rattle.sweep_laws.proofs.Lasting
+use Rattle.sweep_laws.proofs.Lasting.{at_end_lem}
+use Rattle.sweep_laws.proofs.Notes.{AllNoted, noted_start, noted_next}
+use Rattle.sweep_laws.proofs.Objects.{few_events}
 use Rattle.sweep_laws.proofs.Ordered.{orderly}
-use Rattle.sweep_laws.proofs.Chosen.{Chosen, none_left, chosen, further, next_by, both_within, entries_are}
+use Rattle.sweep_laws.proofs.Chosen.{Chosen, none_left, chosen, both_within, entries_are}
 use Rattle.sweep_laws.proofs.PointRun.{no_events}
-use Rattle.sweep.proofs.Next.{total_within}
+
+-- i elements of F and j of G have been taken and noted, and the entries are the active segments of such a run
+pub record SoFar (s : List ℕ) (sc : Scene) (i j : ℕ) (entries notes : List ℕ) : Type 0 where
+  pub run : Run s sc i j entries
+  pub noted : AllNoted s sc i j entries notes
+  pub after : After s sc i j
+  pub later : Passes s sc → AllEndLater s sc i j entries
+
+pub none_yet : (s : List ℕ) (sc : Scene) (notes : List ℕ) → SoFar s sc 0 0 [] notes
+none_yet s sc notes = record { run = run_start s sc; noted = noted_start s sc notes; after = after_start s sc; later = λ pass e m. absurd (in_nil m) }
+
+-- the entries of a run are records of the scene
+pub held_at : {s : List ℕ} {sc : Scene} → IsScene s sc → InOrder s sc → {i j : ℕ} → i ≤ total s sc true → j ≤ total s sc false → {entries : List ℕ} → Run s sc i j entries → Held s sc entries
+held_at {s} {sc} is order {i} {j} a b run =
+    let o = orderly s sc is order in
+    record { each = entries_are s sc o is run (both_within s sc o i j a b) }
+
+-- where all elements have been taken, no condition finds a fault where no segment is active, and then each element is noted
+pub at_end : {s : List ℕ} {sc : Scene} → IsScene s sc → InOrder s sc → RegionsEndEvenly s sc → {i j : ℕ} → i ≡ total s sc true → j ≡ total s sc false
+    → {entries notes : List ℕ} → SoFar s sc i j entries notes → {none_active : Bool} → none_active ≡ eqb (length entries) 0
+    → Decides (Passes s sc) none_active × (T none_active → SegmentsNoted s sc notes)
+at_end {s} {sc} is order even {i} {j} of_f of_g {entries} {notes} so_far none_is = (
+  same_as (λ none. passes s sc o (run none) even) (λ pass. Lasting.none_left s sc entries of_f of_g (so_far.later pass)) (retest none_is (by_equality (length entries) 0)),
+  λ t. let none = eqb→eq (length entries) 0 (subst T none_is t) in
+      notes_hold s sc o (run none) even notes (ends (λ i j l. AllNoted s sc i j l notes) none so_far.noted),
+)
+  where
+    o : Orderly s sc
+    o = orderly s sc is order
+
+    ends : (P : ℕ → ℕ → List ℕ → Type 0) → length entries ≡ 0 → P i j entries → P (total s sc true) (total s sc false) []
+    ends = at_end_lem s sc entries of_f of_g
+
+    run : length entries ≡ 0 → Run s sc (total s sc true) (total s sc false) []
+    run none = ends (Run s sc) none so_far.run
 
 -- where i elements of F and j of G have been taken, the element k of F, or of G, is next
 pub record Turn (s : List ℕ) (sc : Scene) (i j : ℕ) (first : Bool) (k : ℕ) : Type 0 where
@@ -59,46 +99,49 @@ module _ {s : List ℕ} {sc : Scene} {i j : ℕ} {first : Bool} {k : ℕ} (t : T
   pub short : k < 1024
   short = omega (arith, within, few_events s sc t.scene first)
 
-  pub on : (i + bool_byte first ≤ total s sc true) × (j + bool_byte (not first) ≤ total s sc false) × (i + bool_byte first + (j + bool_byte (not first)) ≡ i + j + 1)
-  on = further s sc start i j first it t.within_f t.within_g
+  -- one element further, in F or in G
+  pub on_first : first ≡ true → {i' : ℕ} → i' ≡ i + 1 → (i' ≤ total s sc true) × Next s sc first i j i' j
+  on_first e {i'} more = (
+    omega (arith, more, subst (λ (b : Bool). reached s sc i j b < total s sc b) e it.more),
+    subst (λ (b : Bool). Next s sc b i j i' j) (sym e) (subst (λ (m : ℕ). Next s sc true i j m j) (sym (more ∙ add-one i)) (next_first s sc i j)),
+  )
 
-  pub after_on : After s sc i j → After s sc (i + bool_byte first) (j + bool_byte (not first))
-  after_on after = after_next s sc after first_one (next_by s sc start i j first)
+  pub on_second : first ≡ false → {j' : ℕ} → j' ≡ j + 1 → (j' ≤ total s sc false) × Next s sc first i j i j'
+  on_second e {j'} more = (
+    omega (arith, more, subst (λ (b : Bool). reached s sc i j b < total s sc b) e it.more),
+    subst (λ (b : Bool). Next s sc b i j i j') (sym e) (subst (λ (m : ℕ). Next s sc false i j i m) (sym (more ∙ add-one j)) (next_second s sc i j)),
+  )
 
-  module _ {entries : List ℕ} (run : Run s sc i j entries) where
+  module _ {entries notes : List ℕ} (so_far : SoFar s sc i j entries notes) where
     pub held : Held s sc entries
-    held = record { each = entries_are s sc start t.scene run reached_within }
+    held = record { each = entries_are s sc start t.scene so_far.run reached_within }
 
-    -- where 11 to 15 find no fault, its tests hold, and there is room
-    module _ (pass : Passes s sc) (later : AllEndLater s sc i j entries) where
-      pub can : After s sc i j → CanTake s sc first k entries
-      can after = subst (λ (k : ℕ). CanTake s sc first k entries) its_index (goes_on s sc t.scene t.order pass run later first it reached_within after first_one)
-
-      pub has_room : is_beginning s sc first k ≡ true → length entries < 1024
-      has_room e =
-          omega (arith, GoesOn.room s sc t.scene t.order pass run later first it reached_within (subst (λ (k : ℕ). is_beginning s sc first k ≡ true) (sym its_index) e))
+    -- where 11 to 15 find no fault, there is room for it, and its tests hold
+    pub can_take : Passes s sc → (is_beginning s sc first k ≡ true → length entries < 1024) × CanTake s sc first k entries
+    can_take pass =
+        let later = so_far.later pass in (
+          λ e. omega (arith, GoesOn.room s sc t.scene t.order pass so_far.run later first it reached_within (subst (λ (k : ℕ). is_beginning s sc first k ≡ true) (sym its_index) e)),
+          subst (λ (k : ℕ). CanTake s sc first k entries) its_index (goes_on s sc t.scene t.order pass so_far.run later first it reached_within so_far.after first_one),
+        )
 
     -- it was taken, and noted
-    module _ {notes new : List ℕ} {note : ℕ} (taken : Taken s sc first k notes entries new note) where
+    module _ {new : List ℕ} {note : ℕ} (taken : Taken s sc first k notes entries new note) {i' j' : ℕ} (next : Next s sc first i j i' j') where
       event : Taken s sc first (reached s sc i j first) notes entries new note
       event = subst (λ (k : ℕ). Taken s sc first k notes entries new note) (sym its_index) taken
 
-      pub run_on : Run s sc (i + bool_byte first) (j + bool_byte (not first)) new
-      run_on = advance s sc start run first it.more it.least (next_by s sc start i j first) event
-
-      pub noted_on : 2048 ≤ length notes → AllNoted s sc i j entries notes → {at : ℕ} → at ≡ slot first k
-          → AllNoted s sc (i + bool_byte first) (j + bool_byte (not first)) new (set notes at note)
-      noted_on room noted {at} at_is =
-          subst (λ (p : ℕ). AllNoted s sc (i + bool_byte first) (j + bool_byte (not first)) new (set notes p note)) (ap (slot first) its_index ∙ sym at_is)
-          (noted_next s sc start run first it.more it.least (next_by s sc start i j first) reached_within notes room noted event)
+      pub taken_on : 2048 ≤ length notes → SoFar s sc i' j' new (set notes (slot first k) note)
+      taken_on room =
+          record {
+            run = advance s sc start so_far.run first it.more it.least next event;
+            noted = subst (λ (k : ℕ). AllNoted s sc i' j' new (set notes (slot first k) note)) its_index
+                (noted_next s sc start so_far.run first it.more it.least next reached_within notes room so_far.noted event);
+            after = after_next s sc so_far.after first_one next;
+            later = λ pass. all_later s sc t.scene t.order pass so_far.run (so_far.later pass) first it next event;
+          }
 
       -- where every segment that is active then ends later, each did so before
-      pub before : AllEndLater s sc (i + bool_byte first) (j + bool_byte (not first)) new → AllEndLater s sc i j entries
-      before = later_taken s sc start run first it.more it.least (next_by s sc start i j first) event
-
-      -- and where each did, every one does
-      pub later_on : (Passes s sc → AllEndLater s sc i j entries) → Passes s sc → AllEndLater s sc (i + bool_byte first) (j + bool_byte (not first)) new
-      later_on later pass = all_later s sc t.scene t.order pass run (later pass) first it (next_by s sc start i j first) event
+      pub before : AllEndLater s sc i' j' new → AllEndLater s sc i j entries
+      before = later_taken s sc start so_far.run first it.more it.least next event
 
 -- where F has points and G segments, G's halfsegments come one after the other
 pub point_turn : {s : List ℕ} {sc : Scene} → IsScene s sc → InOrder s sc → sc.f.shape ≡ Points → T (has_segments sc.g.shape) → {j : ℕ} → j < total s sc false → Turn s sc 0 j false j
@@ -113,18 +156,3 @@ point_turn {s} {sc} is order points has {j} h =
       by_order = sym (none_left 0 (total s sc true) j (total s sc false) (comes_before (half s sc.g j) (half s sc.f 0)) (omega (arith, none)));
       index = refl;
     }
-
--- the entries of a run are records of the scene
-pub held_at : {s : List ℕ} {sc : Scene} → IsScene s sc → InOrder s sc → {i j : ℕ} → i ≤ total s sc true → j ≤ total s sc false → {entries : List ℕ} → Run s sc i j entries → Held s sc entries
-held_at {s} {sc} is order {i} {j} a b run =
-    let o = orderly s sc is order in
-    record { each = entries_are s sc o is run (both_within s sc o i j a b) }
-
--- the key of an object that has not gone on is as it was
-pub asked : (s : List ℕ) (sc : Scene) → IsScene s sc → (b e : Bool) (k : ℕ) {m : ℕ} → k + bool_byte e ≤ total s sc b → m ≡ next_key s (object_of s sc b) k
-    → IsObject s (object_of s sc b) × (k + bool_byte e ≤ (object_of s sc b).count) × (e ≡ false → m ≡ next_key s (object_of s sc b) (k + bool_byte e))
-asked s sc is b e k h m_is = (
-  read s sc is b,
-  omega (arith, h, total_within s sc b),
-  λ q. m_is ∙ ap (next_key s (object_of s sc b)) (sym (add-zero k)) ∙ ap (λ (e : Bool). next_key s (object_of s sc b) (k + bool_byte e)) (sym q),
-)

@@ -1,78 +1,76 @@
 // The points of F where F has points and G segments: the sweep over G's halfsegments takes each before the first halfsegment that does not come
 // before it, and notes it by the segments that are active there.
-ghost use Rattle.std.specs.Prelude.{◌≡◌, false, ◌<◌, ◌≤◌, T, length};
+ghost use Rattle.std.specs.Prelude.{◌≡◌, false, ◌≤◌, T};
 ghost use Rattle.whole.specs.Decides.{Decides};
 ghost use Rattle.plane.specs.Plane.{in_range};
 ghost use Rattle.scene.specs.declared.Shape.TheVariants.{Points};
-ghost use Rattle.scene.specs.Read.{IsScene};
 ghost use Rattle.scene.specs.Conditions.{has_segments};
-ghost use Rattle.sweep_laws.specs.Ready.{Readable, Held};
-ghost use Rattle.sweep_laws.specs.Located.{NearNote, point_by, is_point_next, PointsTaken};
+ghost use Rattle.sweep_laws.specs.Held.{Held};
+ghost use Rattle.sweep_laws.specs.Located.{NearNote, is_point_next, PointsTaken};
 ghost use Rattle.sweep_laws.specs.Evenly.{RegionsEndEvenly};
 ghost use Rattle.sweep_laws.specs.Noted.{Noted};
-ghost use Rattle.sweep_laws.specs.Swept.{total, InOrder, Passes};
+ghost use Rattle.sweep_laws.specs.Swept.{total, Passes};
+ghost use Rattle.sweep_notes.specs.Numbers.{note_number};
 
-use plane::Point;
-use scene::{Scene, bytes, records};
-use sweep_status::{Status, place};
+use crate::OrderedScene;
+use plane::{Point, Turn};
+use scene_segments::ReadScene;
+use sweep_notes::{Note, Notes};
+use sweep_status::Status;
+use sweep_status::place::Entries;
 
 // The note of a point by the entries. In order, those that pass under it come first, and those that pass over it last: the one just below these, if there
 // is one, passes under it or through it.
-fn locate(s: &[u8], entries: &[u16], v: Point) -> u8
-    requires { Readable s.now entries.now × T (in_range v) }
-    ensures { NearNote s.now entries.now v result }
+fn locate(entries: Entries<'_>, v: Point) -> Note
+    requires { T (in_range v) }
+    ensures { NearNote entries.entry.bytes.now entries.entry.offsets.now v (note_number result) }
 {
-    let k = place::first_over(s, v, entries);
+    let k = entries.first_over(v);
     if k == 0 {
-        return 0;
+        return Note::Even;
     }
-    let u = bytes::segment(s, entries[k - 1] as usize);
-    if plane::is_in_line(u.left, u.right, v) {
-        return 2;
+    let u = entries.segment(k - 1);
+    if plane::turns(u.left, u.right, v, Turn::Straight) {
+        return Note::On;
     }
-    (k % 2 == 1) as u8
+    Note::from(k % 2 == 1)
 }
 
 // Does F's point i come before G's halfsegment j?
-fn is_point_next(s: &[u8], scene: Scene, i: usize, j: usize) -> bool
-    requires { IsScene s.now scene × (scene.f.shape ≡ Points) × (i ≤ scene.f.count) × (j ≤ total s.now scene false) }
-    ensures { result ≡ is_point_next s.now scene i j }
+fn is_point_next(read: ReadScene<'_>, i: usize, j: usize) -> bool
+    requires { (read.scene.f.shape ≡ Points) × (i ≤ read.scene.f.count) × (j ≤ total read.bytes.now read.scene false) }
+    ensures { result ≡ is_point_next read.entry.bytes.now read.entry.scene i j }
 {
-    if i == scene.f.count {
+    if i == read.scene.f.count {
         return false;
     }
-    if j == crate::event_count(scene.g) {
+    if j == crate::event_count(read.scene.g) {
         return true;
     }
-    let h = bytes::halfsegment(s, records::place(scene.g, j));
-    let v = bytes::point(s, records::place(scene.f, i));
-    !plane::is_before(plane_segments::dominating_point(h), v)
-}
-
-// The note of F's point i.
-fn note_of(s: &[u8], scene: Scene, i: usize, entries: &[u16]) -> u8
-    requires { IsScene s.now scene × (scene.f.shape ≡ Points) × (i < scene.f.count) × Held s.now scene entries.now }
-    ensures { NearNote s.now entries.now (point_by s.now scene i) result }
-{
-    locate(s, entries, bytes::point(s, records::place(scene.f, i)))
+    let h = read.object(false).half(j);
+    let v = read.object(true).point(i);
+    v <= plane_segments::dominating_point(h)
 }
 
 // The points from i on that come before G's halfsegment j: the index of the first that does not.
 // Kept as a loop: the test of the next point ends it, and its index is what is asked for.
 fn note_points(
-    s: &[u8],
-    scene: Scene,
+    read: &ReadScene<'_>,
     i: usize,
     j: usize,
-    entries: &[u16],
-    notes: &mut [u8],
+    status: &Status,
+    notes: &mut Notes,
 ) -> usize
-    requires { IsScene s.now scene × (scene.f.shape ≡ Points) × (i ≤ scene.f.count) × (j ≤ total s.now scene false) × Held s.now scene entries.now × (scene.f.count ≤ length notes.old) }
-    ensures { (result ≤ scene.f.count) × (is_point_next s.now scene result j ≡ false) × PointsTaken s.now scene j entries.now i result notes.old notes.new }
+    requires { (read.now.scene.f.shape ≡ Points) × (i ≤ read.now.scene.f.count) × (j ≤ total read.now.bytes.now read.now.scene false) × Held read.now.bytes.now read.now.scene status.now }
+    ensures { (result ≤ read.now.scene.f.count) × (is_point_next read.now.bytes.now read.now.scene result j ≡ false) × PointsTaken read.now.bytes.now read.now.scene j status.now i result notes.old notes.new }
 {
+    let entries = Entries {
+        bytes: read.bytes,
+        offsets: status.entries(),
+    };
     let mut k = i;
-    while is_point_next(s, scene, k, j) {
-        notes[k] = note_of(s, scene, k, entries);
+    while is_point_next(*read, k, j) {
+        notes.write(true, k, locate(entries, read.object(true).point(k)));
         k += 1;
     }
     k
@@ -80,20 +78,21 @@ fn note_points(
 
 // All points of F and all halfsegments of G, one after the other. No segment is active at the end.
 // Kept beside run_events: there the next event is of either object, told by keys, and no points stand between.
-pub fn run_points(s: &[u8], scene: Scene, notes: &mut [u8]) -> bool
-    requires { IsScene s.now scene × InOrder s.now scene × (scene.f.shape ≡ Points) × T (has_segments scene.g.shape) × RegionsEndEvenly s.now scene × (2048 ≤ length notes.old) }
-    ensures { (length notes.new ≡ length notes.old) × Decides (Passes s.now scene) result × (T result → Noted s.now scene notes.new) }
+pub fn run_points(ordered: OrderedScene<'_>, notes: &mut Notes) -> bool
+    requires { (ordered.read.scene.f.shape ≡ Points) × T (has_segments ordered.read.scene.g.shape) × RegionsEndEvenly ordered.read.bytes.now ordered.read.scene }
+    ensures { Decides (Passes ordered.entry.read.bytes.now ordered.entry.read.scene) result × (T result → Noted ordered.entry.read.bytes.now ordered.entry.read.scene notes.new) }
 {
-    let all = crate::event_count(scene.g);
+    let read = ordered.read;
+    let all = crate::event_count(read.scene.g);
     let mut status = Status::new();
     let mut i: usize = 0;
     for j in 0..all {
-        i = note_points(s, scene, i, j, status.entries(), notes);
-        let Some(v) = crate::take_event(s, scene, false, j, &mut status, notes) else {
+        i = note_points(&read, i, j, &status, notes);
+        let Some(note) = crate::take_event(&read, false, j, &mut status, notes) else {
             return false;
         };
-        notes[1024 + j] = v;
+        notes.write(false, j, note);
     }
-    note_points(s, scene, i, all, status.entries(), notes);
+    note_points(&read, i, all, &status, notes);
     status.is_empty()
 }

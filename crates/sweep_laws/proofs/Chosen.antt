@@ -1,9 +1,7 @@
 -- The event that the sweep takes next: there is one, and no later event's dominating point comes before its own.
-use Prim.Native.Nat.{ℕ, suc, ◌+◌, ◌<◌, ◌≤◌}
-use native.Mathlib.Nat.{eq-or-lt_of_le, add-zero}
-use native.Mathlib.Numerals.{add-one}
+use Prim.Native.Nat.{ℕ, ◌+◌, ◌<◌, ◌≤◌}
+use native.Mathlib.Nat.{eq-or-lt_of_le}
 use native.Mathlib.Omega.{arith}
-use mir.Val.{bool_byte}
 use mathlib.Core.Path.{◌≡◌, refl, sym, ap, ◌∙◌, subst}
 use mathlib.Core.Logic.{⊎_elim}
 use mathlib.Core.Bool.{Bool, true, false, not, ◌&&◌, ◌||◌, true≢false}
@@ -23,7 +21,7 @@ use Rattle.scene.specs.declared.Scene.{Scene}
 use Rattle.scene.specs.Read.{place, halfsegment_at, IsScene}
 use Rattle.sweep_laws.specs.Swept.{is_first, total, takes_first, Entry}
 use Rattle.sweep_laws.proofs.Under.{NotBefore, after_x, after_y}
-use Rattle.sweep_laws.proofs.Begun.{reached, Next, next_first, next_second}
+use Rattle.sweep_laws.proofs.Begun.{reached}
 use Rattle.sweep_laws.proofs.Ordered.{not_after, comes_by_point}
 use Rattle.sweep_laws.proofs.Objects.{entry}
 use Rattle.sweep_laws.proofs.Run.{point_of, Orderly, Run}
@@ -147,16 +145,6 @@ module _ (s : List ℕ) (sc : Scene) (o : Orderly s sc) where
   pub chosen : (i j : ℕ) → i ≤ total s sc true → i + j < total s sc true + total s sc false → (first : Bool) → takes_first s sc i j ≡ first → Chosen i j first
   chosen i j h l true e = chosen_first i j e
   chosen i j h l false e = chosen_second i j h l e
-
-  -- one element further
-  pub next_by : (i j : ℕ) (first : Bool) → Next s sc first i j (i + bool_byte first) (j + bool_byte (not first))
-  next_by i j true = subst (λ (m : ℕ). Next s sc true i j m (j + 0)) (sym (add-one i)) (subst (Next s sc true i j (suc i)) (sym (add-zero j)) (next_first s sc i j))
-  next_by i j false = subst (λ (m : ℕ). Next s sc false i j m (j + 1)) (sym (add-zero i)) (subst (Next s sc false i j i) (sym (add-one j)) (next_second s sc i j))
-
-  pub further : (i j : ℕ) (first : Bool) → Chosen i j first → i ≤ total s sc true → j ≤ total s sc false
-      → (i + bool_byte first ≤ total s sc true) × (j + bool_byte (not first) ≤ total s sc false) × (i + bool_byte first + (j + bool_byte (not first)) ≡ i + j + 1)
-  further i j true c h l = (omega (arith, c.more), omega (arith, l), omega arith)
-  further i j false c h l = (omega (arith, h), omega (arith, c.more), omega arith)
 
   -- of both objects, no more than there is; and the entries are records of the scene
   pub both_within : (i j : ℕ) → i ≤ total s sc true → j ≤ total s sc false → (b : Bool) → reached s sc i j b ≤ total s sc b

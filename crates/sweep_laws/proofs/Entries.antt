@@ -16,7 +16,6 @@ use Rattle.whole.proofs.Logic.{in_at}
 use Rattle.whole.proofs.Deciding.{by_test_lem, same_as}
 use Rattle.whole.proofs.Parity.{◌⊻◌, xor_false, parity, parity_nil, parity_cons, parity_append}
 use Rattle.plane.specs.declared.Segment.{Segment}
-use Rattle.plane.specs.Plane.{segment_in_range}
 use Rattle.scene.specs.declared.Scene.{Scene}
 use Rattle.scene.specs.Read.{place, segment_at, ia_at, given_second, IsScene}
 use Rattle.scene.specs.Conditions.{has_segments, is_region}
@@ -24,7 +23,7 @@ use Rattle.scene.proofs.Taken.{TakenScene, taken_scene, f_taken, g_taken, scene_
 use Rattle.scene.proofs.Given.{GoodHalfsegment, good_halfsegment, ia_there}
 use Rattle.sweep_laws.specs.Status.{AtPlace, BelowPlace}
 use Rattle.sweep_laws.specs.Swept.{object_of, is_first, strand_of, strand_at, Entry}
-use Rattle.sweep_laws.specs.Ready.{Placed, Readable, Held}
+use Rattle.sweep_laws.specs.Held.{Placed, Readable, Held}
 use Rattle.sweep_laws.proofs.Objects.{few_elements}
 
 -- ---- an entry's record
@@ -71,9 +70,6 @@ start_small s sc is = let t = taken_scene s sc is in omega (arith, t.second_take
 pub same_strand : (s : List ℕ) (sc : Scene) (first : Bool) (at e : ℕ) → is_first s sc e ≡ first → segment_at s e ≡ segment_at s at
     → (is_region (object_of s sc first).shape && ia_at s e) ≡ (is_region (object_of s sc first).shape && ia_at s at) → strand_at s sc e ≡ strand_of s sc first at
 same_strand s sc first at e q p r = ap (λ (b : Bool). strand_of s sc b e) q ∙ (λ i. record { first = first; segment = p i; ia = r i })
-
-pub in_range_at : {s : List ℕ} {at : ℕ} {t : Segment} → GoodHalfsegment s at → t ≡ segment_at s at → T (segment_in_range t)
-in_range_at r e = subst (λ (t : Segment). T (segment_in_range t)) (sym e) r.in_range_lem
 
 -- a test of two segments, as it was made of them
 pub tested : (f : Segment → Segment → Bool) {u t x y : Segment} {r : Bool} → r ≡ f u t → u ≡ x → t ≡ y → Decides (T (f x y)) r

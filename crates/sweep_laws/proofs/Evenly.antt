@@ -1,15 +1,14 @@
--- Condition 13 by pairs of halfsegments: what is left of a parity from the element i on, and what the records of a pair give; that in a region where the
+-- Condition 13 by pairs of halfsegments: what is left of a parity from the element i on; that in a region where the
 -- conditions 10 to 14 find no fault each point is the dominating point of an even number of halfsegments; and that then, in order, two by two they
 -- share it.
 use Rattle.std.specs.Prelude.{None}
-use Prim.Native.Nat.{ℕ, suc, ◌+◌, ◌-◌, ◌*◌, ◌<◌, ◌≤◌, zero, ◌%◌}
+use Prim.Native.Nat.{ℕ, suc, ◌+◌, ◌-◌, ◌<◌, ◌≤◌, zero, ◌%◌}
 use native.Mathlib.Omega.{arith}
 use native.Mathlib.Nat.{eq-or-lt_of_le}
 use mathlib.Core.Path.{◌≡◌, sym, ap, ap₂, ◌∙◌, refl, subst, subst₂}
 use mathlib.Core.Bool.{Bool, false, true, not, ◌&&◌, cond, true≢false}
 use mathlib.Core.List.{List, ◌∷◌, [], map}
 use mathlib.Core.Logic.{⊎_elim}
-use lib.ListN.{length}
 use lib.Dec.{T, not_T}
 use borrow.Author.Tests.{eqb-false}
 use Rattle.whole.proofs.Parity.{◌⊻◌, xor_same, xor_assoc, parity, parity_nil, parity_cons, xor_none, xor_false, parity_same, parity_xor, parity_none, odd_count, even_all, sorted_once}
@@ -22,10 +21,8 @@ use Rattle.plane.specs.declared.Segment.{Segment}
 use Rattle.plane.specs.declared.Halfsegment.{Halfsegment}
 use Rattle.plane.proofs.Order.{before_irreflexive, comes_irreflexive, half_of}
 use Rattle.scene.specs.declared.Layout.{Layout}
-use Rattle.scene.specs.Read.{size, place, halfsegment_at, IsObject}
+use Rattle.scene.specs.Read.{place, halfsegment_at, IsObject}
 use Rattle.scene.specs.Conditions.{indices, has_segments, elements, keep, is_region, half, left_test, segments, out_of_order}
-use Rattle.scene.proofs.Taken.{TakenObject, taken_object}
-use Rattle.scene.proofs.Given.{GoodHalfsegment, good_halfsegment}
 use Rattle.scene_segments.proofs.Indices.{element_in, in_element, keep_in, in_keep, kept_rise, indices_in, halves_rise}
 use Rattle.scene_segments.proofs.Elements.{region_segments}
 use Rattle.sweep_laws.specs.Evenly.{dominated_by, EndsEvenly}
@@ -72,31 +69,6 @@ module _ (f : ℕ → Bool) where
 
       later : List ℕ
       later = indices (n - (i + 2)) (suc (suc i))
-
--- ---- a pair of records at an offset and at the next
-
-pub record Pair (s : List ℕ) (l : Layout) (at step i : ℕ) : Type 0 where
-  pub first : at + 18 ≤ length s
-  pub second : at + step + 18 ≤ length s
-  pub fits : at + 2 * step ≤ length s
-  pub next : at + step ≡ place l (i + 1)
-  pub beyond : at + 2 * step ≡ place l (i + 2)
-
-pub pair : {s : List ℕ} {l : Layout} {at step i : ℕ} → IsObject s l → T (has_segments l.shape) → at ≡ place l i → step ≡ size l.shape
-    → i + 1 < l.count → Pair s l at step i
-pair {s} {l} {at} {step} {i} is has e z h = record {
-  first = omega (arith, (good i (omega arith)).there);
-  second = omega (arith, (good (i + 1) h).there);
-  fits = omega (arith, (taken.elements (i + 1) h).whole);
-  next = omega arith;
-  beyond = omega arith;
-}
-  where
-    taken : TakenObject s l.start l
-    taken = taken_object s l.start l is
-
-    good : (j : ℕ) → j < l.count → GoodHalfsegment s (place l j)
-    good j k = good_halfsegment taken j k has
 
 -- two records that share their dominating point
 pub shared : (s : List ℕ) (l : Layout) (i : ℕ) {at next : ℕ} → at ≡ place l i → next ≡ place l (i + 1)

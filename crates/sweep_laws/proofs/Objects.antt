@@ -3,10 +3,13 @@
 use Prim.Native.Nat.{ℕ, ◌+◌, ◌*◌, ◌<◌, ◌≤◌}
 use native.Mathlib.Nat.{not-suc-le-zero}
 use native.Mathlib.Omega.{arith}
-use mathlib.Core.Path.{◌≡◌, refl, sym, ap, subst}
+use mathlib.Core.Path.{◌≡◌, refl, sym, ap, subst, ◌∙◌}
+use mathlib.Core.HLevel.{is_prop→PathP}
+use native.Mathlib.Bridge.{le_prop}
+use native.Mathlib.Nat.{ℕ_set}
 use mathlib.Core.Bool.{Bool, true, false, not, cond, beq}
 use mathlib.Core.List.{List}
-use lib.Dec.{T, ltb}
+use lib.Dec.{T, T_prop, ltb}
 use borrow.Author.Tests.{lt-ltb, le-ltb}
 use Rattle.whole.proofs.Logic.{is_true}
 use Rattle.scene.specs.declared.Shape.{Shape}
@@ -16,7 +19,7 @@ use Rattle.scene.specs.declared.Scene.{Scene}
 use Rattle.scene.specs.Read.{size, place, after, turned, IsObject, IsScene}
 use Rattle.scene.specs.Conditions.{has_segments}
 use Rattle.scene.proofs.Taken.{TakenScene, taken_scene, objects_read, f_taken, g_taken}
-use Rattle.scene.proofs.Given.{GoodHalfsegment, GoodPoint, good_point}
+use Rattle.scene.proofs.Given.{GoodHalfsegment}
 use Rattle.scene_segments.proofs.Elements.{half_good}
 use Rattle.sweep_laws.specs.Swept.{object_of, is_first, total, Entry}
 
@@ -29,7 +32,31 @@ before_end l k h = go l.shape
     go Line = omega arith
     go Region = omega arith
 
+-- and at one offset stands one of them only
+place_once : (l : Layout) (i k : ℕ) → place l i ≡ place l k → i ≡ k
+place_once l i k = go l.shape
+  where
+    go : (x : Shape) → l.start + 2 + i * size x ≡ l.start + 2 + k * size x → i ≡ k
+    go Points e = omega arith
+    go Line e = omega arith
+    go Region e = omega arith
+
 module _ (s : List ℕ) (sc : Scene) where
+  -- an entry is the record of one element only
+  pub entry_once : (at : ℕ) → IsProp (Entry s sc at)
+  entry_once at x y = λ i. record {
+    index = same i;
+    within = is_prop→PathP (λ i. same i < l.count) (λ i. le_prop) x.within y.within i;
+    has_segments_lem = T_prop (has_segments l.shape) x.has_segments_lem y.has_segments_lem i;
+    is_place = is_prop→PathP (λ i. at ≡ place l (same i)) (λ i. ℕ_set at (place l (same i))) x.is_place y.is_place i;
+  }
+    where
+      l : Layout
+      l = object_of s sc (is_first s sc at)
+
+      same : x.index ≡ y.index
+      same = place_once l x.index y.index (sym x.is_place ∙ y.is_place)
+
   -- an object with events has segments
   pub has : (first : Bool) (k : ℕ) → k < total s sc first → (has_segments (object_of s sc first).shape ≡ true) × (k < (object_of s sc first).count)
   has first k h = go (has_segments (object_of s sc first).shape) refl h
@@ -45,9 +72,6 @@ module _ (s : List ℕ) (sc : Scene) where
 
     pub good : (first : Bool) (k : ℕ) → k < total s sc first → GoodHalfsegment s (place (object_of s sc first) k)
     good first k h = half_good s (object_of s sc first) (read first) k (has first k h).1 (has first k h).0
-
-    pub point_good : sc.f.shape ≡ Points → (i : ℕ) → i < sc.f.count → GoodPoint s (place sc.f i)
-    point_good e i h = good_point (f_taken (taken_scene s sc is)) i h e
 
     pub owned : (first : Bool) (k : ℕ) → k < total s sc first → is_first s sc (place (object_of s sc first) k) ≡ first
     owned first k h = go (turned sc) refl first h taken.second_taken.object.starts

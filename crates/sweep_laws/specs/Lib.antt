@@ -13,7 +13,7 @@ pub mod Event
 -- 13 by pairs of halfsegments
 pub mod Evenly
 -- what the code of an event asks for
-pub mod Ready
+pub mod Held
 -- the notes, by definition
 pub mod Noted
 -- the notes of points, as they are found

@@ -16,8 +16,7 @@ slot false k = 1024 + k
 
 module _ (s : List ℕ) (sc : Scene) where
   abbrev pub object_of : Bool → Layout
-  object_of true = sc.f
-  object_of false = sc.g
+  object_of first = cond first sc.f sc.g
 
   -- the strand of the record at an offset, of F or not: by the place where the bytes change from one object to the other
   abbrev pub strand_of : Bool → ℕ → Strand

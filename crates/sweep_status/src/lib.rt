@@ -12,7 +12,7 @@ pub mod place;
 
 const ROOM: usize = 1024;
 
-/// Clauses see the entries, from low to high. What stands above the first `count` does not matter. `near` is a place where the next event may well be.
+/// Clauses see the entries, from low to high. An array and a count, since there is no heap. What stands above the first `count` does not matter. `near` is a place where the next event may well be.
 #[derive(Drop)]
 pub struct Status {
     entries: [u16; ROOM],

@@ -8,42 +8,45 @@ ghost use Rattle.scene.proofs.Given.{GoodHalfsegment};
 ghost use Rattle.sweep_laws.specs.Lower.{passes_under, passes_over, lower_at_right};
 ghost use Rattle.sweep_laws.specs.Status.{AtPlace, BelowPlace};
 ghost use Rattle.sweep_laws.specs.Event.{Place, Bracket, LowerNext, FitsOver, CanMeet};
-ghost use Rattle.sweep_laws.specs.Ready.{Readable};
+ghost use Rattle.sweep_laws.specs.Held.{Readable};
 
 use crate::owner::{self, Event};
-use plane::{Beside, Point, Segment};
-use scene::{Scene, bytes};
+use plane::{Point, Segment, Turn};
+use scene::bytes;
 
 // ---- the tests of an entry, whose segment is u
 
+#[tactic(auto, using(plane::proofs::Machine::turn_asks))]
 fn is_under(u: Segment, p: Point) -> bool
     requires { T (segment_in_range u) × T (in_range p) }
     ensures { result ≡ passes_under u p }
 {
-    plane_segments::is_left_of(u.left, u.right, p)
+    plane::turns(u.left, u.right, p, Turn::Left)
 }
 
 // Asked of many entries for each event, so the box of u is looked at here.
+#[tactic(auto, using(plane::proofs::Machine::turn_asks))]
 fn is_over(u: Segment, p: Point) -> bool
     requires { T (segment_in_range u) × T (in_range p) }
     ensures { result ≡ passes_over u p }
 {
     match plane::beside_box(u.left, u.right, p) {
-        Beside::Over => false,
-        Beside::Under => true,
-        Beside::Neither => plane_segments::is_right_of(u.left, u.right, p),
+        Some(way) => way == Turn::Right,
+        None => plane::turns(u.left, u.right, p, Turn::Right),
     }
 }
 
 // Does it begin with t, and turn left into it?
+#[tactic(auto, using(plane::proofs::Compared::same_points))]
 fn is_turning(u: Segment, t: Segment) -> bool
     requires { T (segment_in_range u) × T (segment_in_range t) }
     ensures { result ≡ (is_same_point u.left t.left && passes_under u t.right) }
 {
-    plane::is_same_point(u.left, t.left) && is_under(u, t.right)
+    u.left == t.left && is_under(u, t.right)
 }
 
 // Does it belong under t, which begins? Own: it is of the same object.
+#[tactic(auto, using(plane::proofs::Compared::same_segments))]
 fn is_under_beginning(u: Segment, t: Segment, own: bool) -> bool
     requires { T (segment_in_range u) × T (segment_in_range t) }
     ensures { result ≡ (passes_under u t.left || (is_same_point u.left t.left && passes_under u t.right) || (is_same_segment u t && not own)) }
@@ -54,10 +57,11 @@ fn is_under_beginning(u: Segment, t: Segment, own: bool) -> bool
     if is_turning(u, t) {
         return true;
     }
-    plane::is_same_segment(u, t) && !own
+    u == t && !own
 }
 
 // Is it the lower of itself and t at the right?
+#[tactic(auto, using(plane::proofs::Compared::same_points))]
 fn is_lower(u: Segment, t: Segment) -> bool
     requires { T (segment_in_range u) × T (segment_in_range t) }
     ensures { result ≡ lower_at_right u t }
@@ -65,134 +69,147 @@ fn is_lower(u: Segment, t: Segment) -> bool
     if is_under(u, t.right) {
         return true;
     }
-    is_over(t, u.right) || plane::is_same_point(u.right, t.right)
+    is_over(t, u.right) || u.right == t.right
 }
 
-// ---- a place for a point: the entry just below it does not pass over the point, and the one there does
+// ---- the entries
 
-// The segment of the entry i.
-fn segment_of(s: &[u8], entries: &[u16], i: usize) -> Segment
-    requires { (i < length entries.now) × GoodHalfsegment s.now (get_or entries.now i 0) }
-    ensures { (result ≡ segment_at s.now (get_or entries.now i 0)) × T (segment_in_range result) }
-{
-    bytes::segment(s, entries[i] as usize)
-}
-
-// Does the entry i pass over p?
-fn is_entry_over(s: &[u8], p: Point, entries: &[u16], i: usize) -> bool
-    requires { T (in_range p) × (i < length entries.now) × GoodHalfsegment s.now (get_or entries.now i 0) }
-    ensures { result ≡ passes_over (segment_at s.now (get_or entries.now i 0)) p }
-{
-    is_over(segment_of(s, entries, i), p)
-}
-
-// A place for p from low to high, by halving. Where those that pass over p stand above all others, it is the first of them.
-// Kept as a loop: the entries need not be parted by p, and then std's partition_point says nothing of what it finds.
-fn search(s: &[u8], p: Point, entries: &[u16], from: usize, to: usize) -> usize
-    requires { T (in_range p) × Readable s.now entries.now × Bracket s.now entries.now p from to }
-    ensures { Place s.now entries.now p result }
-{
-    let mut low = from;
-    let mut high = to;
-    while low < high {
-        let middle = low + (high - low) / 2;
-        if is_entry_over(s, p, entries, middle) {
-            high = middle;
-        } else {
-            low = middle + 1;
-        }
-    }
-    high
-}
-
-// A place for p among all entries.
-pub fn first_over(s: &[u8], p: Point, entries: &[u16]) -> usize
-    requires { T (in_range p) × Readable s.now entries.now }
-    ensures { Place s.now entries.now p result }
-{
-    search(s, p, entries, 0, entries.len())
-}
-
-// A place for p from low on, the entry just below which does not pass over p: looked for first at low, and just above it.
-fn from_place(s: &[u8], p: Point, entries: &[u16], low: usize) -> usize
-    requires { T (in_range p) × Readable s.now entries.now × Bracket s.now entries.now p low (length entries.now) }
-    ensures { Place s.now entries.now p result }
-{
-    let n = entries.len();
-    if low == n {
-        return n;
-    }
-    if is_entry_over(s, p, entries, low) {
-        return low;
-    }
-    if low + 1 == n {
-        return n;
-    }
-    if is_entry_over(s, p, entries, low + 1) {
-        return low + 1;
-    }
-    search(s, p, entries, low + 2, n)
+/// The entries of a status, from low to high, and the bytes in which their records stand.
+#[derive(Clone, Copy)]
+pub struct Entries<'a> {
+    pub bytes: &'a [u8],
+    pub offsets: &'a [u16],
+    pub ghost readable: { Readable bytes.now offsets.now },
 }
 
 // With fewer entries than these, a search costs no more than a look at two places.
 const FEW: usize = 32;
 
-// A place for p, looked for first at a hint, the place of the event before, and just above it: where several halfsegments meet at a point, the next one
-// is there.
-pub fn find(s: &[u8], p: Point, entries: &[u16], hint: usize) -> usize
-    requires { T (in_range p) × Readable s.now entries.now }
-    ensures { Place s.now entries.now p result }
-{
-    let n = entries.len();
-    if n < FEW || n < hint {
-        return first_over(s, p, entries);
+impl<'a> Entries<'a> {
+    // The segment of the entry i.
+    pub fn segment(self, i: usize) -> Segment
+        requires { i < length self.offsets.now }
+        ensures { (result ≡ segment_at self.entry.bytes.now (get_or self.entry.offsets.now i 0)) × T (segment_in_range result) }
+    {
+        bytes::segment(self.bytes, self.offsets[i] as usize)
     }
-    if hint == 0 {
-        return from_place(s, p, entries, 0);
-    }
-    if is_entry_over(s, p, entries, hint - 1) {
-        return search(s, p, entries, 0, hint - 1);
-    }
-    from_place(s, p, entries, hint)
-}
 
-// Does the entry just below place k belong under the segment that begins, and is it the lower of the two at the right?
-pub fn fits_over(s: &[u8], scene: Scene, event: Event, entries: &[u16], k: usize) -> bool
-    requires { GoodHalfsegment s.now event.at × Readable s.now entries.now × (k ≤ length entries.now) }
-    ensures { Decides (BelowPlace entries.now k (FitsOver s.now scene event.first event.at)) result }
-{
-    if k == 0 {
-        return true;
+    // Does the entry i pass over p?
+    fn is_over(self, i: usize, p: Point) -> bool
+        requires { (i < length self.offsets.now) × T (in_range p) }
+        ensures { result ≡ passes_over (segment_at self.entry.bytes.now (get_or self.entry.offsets.now i 0)) p }
+    {
+        is_over(self.segment(i), p)
     }
-    let own = event.first == owner::is_first(scene, entries[k - 1] as usize);
-    let u = segment_of(s, entries, k - 1);
-    let t = bytes::segment(s, event.at);
-    is_under_beginning(u, t, own) && is_lower(u, t)
-}
 
-// Is the segment that begins the lower of itself and the entry at place k at the right?
-pub fn fits_under(s: &[u8], at: usize, entries: &[u16], k: usize) -> bool
-    requires { GoodHalfsegment s.now at × Readable s.now entries.now }
-    ensures { Decides (AtPlace entries.now k (LowerNext s.now at)) result }
-{
-    if entries.len() <= k {
-        return true;
-    }
-    let t = bytes::segment(s, at);
-    is_lower(t, segment_of(s, entries, k))
-}
+    // ---- a place for a point: the entry just below it does not pass over the point, and the one there does
 
-// Where the entry at place k goes, is the one below it the lower of itself and the one above it at the right?
-pub fn can_meet(s: &[u8], entries: &[u16], k: usize) -> bool
-    requires { (k < length entries.now) × Readable s.now entries.now }
-    ensures { Decides (CanMeet s.now entries.now k) result }
-{
-    if k == 0 {
-        return true;
+    // A place for p from low to high, by halving. Where those that pass over p stand above all others, it is the first of them.
+    // Kept as a loop: the entries need not be parted by p, and then std's partition_point says nothing of what it finds.
+    fn search(self, p: Point, from: usize, to: usize) -> usize
+        requires { T (in_range p) × Bracket self.bytes.now self.offsets.now p from to }
+        ensures { Place self.entry.bytes.now self.entry.offsets.now p result }
+    {
+        let mut low = from;
+        let mut high = to;
+        while low < high {
+            let middle = low + (high - low) / 2;
+            if self.is_over(middle, p) {
+                high = middle;
+            } else {
+                low = middle + 1;
+            }
+        }
+        high
     }
-    if k + 1 == entries.len() {
-        return true;
+
+    // A place for p among all entries.
+    pub fn first_over(self, p: Point) -> usize
+        requires { T (in_range p) }
+        ensures { Place self.entry.bytes.now self.entry.offsets.now p result }
+    {
+        self.search(p, 0, self.offsets.len())
     }
-    let u = segment_of(s, entries, k - 1);
-    is_lower(u, segment_of(s, entries, k + 1))
+
+    // A place for p from low on, the entry just below which does not pass over p: looked for first at low, and just above it.
+    fn from_place(self, p: Point, low: usize) -> usize
+        requires { T (in_range p) × Bracket self.bytes.now self.offsets.now p low (length self.offsets.now) }
+        ensures { Place self.entry.bytes.now self.entry.offsets.now p result }
+    {
+        let n = self.offsets.len();
+        if low == n {
+            return n;
+        }
+        if self.is_over(low, p) {
+            return low;
+        }
+        if low + 1 == n {
+            return n;
+        }
+        if self.is_over(low + 1, p) {
+            return low + 1;
+        }
+        self.search(p, low + 2, n)
+    }
+
+    // A place for p, looked for first at a hint, the place of the event before, and just above it: where several halfsegments meet at a point, the next one
+    // is there.
+    pub fn find(self, p: Point, hint: usize) -> usize
+        requires { T (in_range p) }
+        ensures { Place self.entry.bytes.now self.entry.offsets.now p result }
+    {
+        let n = self.offsets.len();
+        if n < FEW || n < hint {
+            return self.first_over(p);
+        }
+        if hint == 0 {
+            return self.from_place(p, 0);
+        }
+        if self.is_over(hint - 1, p) {
+            return self.search(p, 0, hint - 1);
+        }
+        self.from_place(p, hint)
+    }
+
+    // ---- a place for a segment, and a place that falls free
+
+    // Does the entry just below place k belong under the segment that begins, and is it the lower of the two at the right?
+    pub fn fits_over(self, event: Event<'_>, k: usize) -> bool
+        requires { GoodHalfsegment self.bytes.now event.at × (k ≤ length self.offsets.now) }
+        ensures { Decides (BelowPlace self.entry.offsets.now k (FitsOver self.entry.bytes.now event.entry.read.scene event.entry.first event.entry.at)) result }
+    {
+        if k == 0 {
+            return true;
+        }
+        let own = event.first == owner::is_first(event.read.scene, self.offsets[k - 1] as usize);
+        let u = self.segment(k - 1);
+        let t = bytes::segment(self.bytes, event.at);
+        is_under_beginning(u, t, own) && is_lower(u, t)
+    }
+
+    // Is the segment that begins the lower of itself and the entry at place k at the right?
+    pub fn fits_under(self, at: usize, k: usize) -> bool
+        requires { GoodHalfsegment self.bytes.now at }
+        ensures { Decides (AtPlace self.entry.offsets.now k (LowerNext self.entry.bytes.now at)) result }
+    {
+        if self.offsets.len() <= k {
+            return true;
+        }
+        let t = bytes::segment(self.bytes, at);
+        is_lower(t, self.segment(k))
+    }
+
+    // Where the entry at place k goes, is the one below it the lower of itself and the one above it at the right?
+    pub fn can_meet(self, k: usize) -> bool
+        requires { k < length self.offsets.now }
+        ensures { Decides (CanMeet self.entry.bytes.now self.entry.offsets.now k) result }
+    {
+        if k == 0 {
+            return true;
+        }
+        if k + 1 == self.offsets.len() {
+            return true;
+        }
+        is_lower(self.segment(k - 1), self.segment(k + 1))
+    }
 }

@@ -14,7 +14,7 @@ fn write_field(out: &mut Output<Stdout>, n: usize) {
 fn ask(out: &mut Output<Stdout>, name: &str, scene: &[u8], list: &mut [u8]) {
     let (number, place, count) = match overlap::overlap_list(scene, list) {
         Ok(count) => (0, 0, count),
-        Err(r) => (r.reason.number(), r.place, 0),
+        Err(r) => (u8::from(r.reason), r.place, 0),
     };
     write!(out, "{name}");
     write_field(out, usize::from(number));

@@ -20,7 +20,7 @@ fn refusal(case: Case<'_>) -> Option<Refusal> {
 }
 
 fn check(out: &mut Output<Stdout>, case: Case<'_>) {
-    let (number, place) = refusal(case).map_or((0, 0), |r| (r.reason.number(), r.place));
+    let (number, place) = refusal(case).map_or((0, 0), |r| (u8::from(r.reason), r.place));
     out.write(case.label);
     writeln!(out, ": {number} {place}");
 }

@@ -2,7 +2,7 @@
 // through the first two turns to the midpoint of the other two, which is asked with doubled coordinates. L left, S straight, R right; and ? twice where a point is out of range.
 #![tactic(auto)]
 
-ghost use Rattle.std.specs.Prelude.{◌+◌, ◌≤◌, T, length};
+ghost use Rattle.std.specs.Prelude.{T};
 ghost use Rattle.plane.specs.Plane.{in_range};
 
 use plane::{Point, Segment, Turn};
@@ -25,15 +25,6 @@ fn letter(turn: Turn) -> u8 {
     }
 }
 
-fn point(s: &[u8], at: usize) -> Point
-    requires { at + 8 ≤ length s.now }
-{
-    Point {
-        x: bytes::coordinate(s, at),
-        y: bytes::coordinate(s, at + 4),
-    }
-}
-
 // The turn at b on the way from a to c, and to the midpoint of c and d.
 fn turns(a: Point, b: Point, c: Point, d: Point) -> [Turn; 2]
     requires { T (in_range a) × T (in_range b) × T (in_range c) × T (in_range d) }
@@ -45,10 +36,10 @@ fn turns(a: Point, b: Point, c: Point, d: Point) -> [Turn; 2]
 
 // What is written of a quadruple.
 fn letters(quadruple: &[u8; SIZE]) -> [u8; 2] {
-    let a = point(quadruple, 0);
-    let b = point(quadruple, 8);
-    let c = point(quadruple, 16);
-    let d = point(quadruple, 24);
+    let a = bytes::point_from(quadruple, 0);
+    let b = bytes::point_from(quadruple, 8);
+    let c = bytes::point_from(quadruple, 16);
+    let d = bytes::point_from(quadruple, 24);
     if plane::is_in_range(a)
         && plane::is_in_range(b)
         && plane::is_in_range(c)

@@ -36,7 +36,7 @@ fn answer(out: &mut Output<Stdout>, case: Case<'_>) {
     out.write(case.label);
     match question::vectors(bytes, of_f, of_g) {
         Ok(v) => writeln!(out, ": {} {}", v.f, v.g),
-        Err(r) => writeln!(out, ": no {} {}", r.reason.number(), r.place),
+        Err(r) => writeln!(out, ": no {} {}", u8::from(r.reason), r.place),
     };
 }
 

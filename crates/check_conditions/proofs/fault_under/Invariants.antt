@@ -6,4 +6,6 @@ use Rattle.check_conditions.specs.Faults.{is_at_fault, fault_under}
 use Rattle.check_conditions.proofs.fault_under.Given as goal
 
 abbrev pub invariant-loop-i : goal.invariant-loop-i
-invariant-loop-i l = fault_under l.s l.l l.other l.flaw ≡ earliest l.l (is_at_fault l.s l.l l.other l.flaw) (between l.i l.l.count)
+invariant-loop-i l =
+    let p = l.pair in
+    fault_under p.bytes.now p.own p.other l.flaw ≡ earliest p.own (is_at_fault p.bytes.now p.own p.other l.flaw) (between l.i p.own.count)

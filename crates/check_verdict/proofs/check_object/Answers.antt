@@ -18,22 +18,22 @@ module _ (s : List ℕ) (l : Layout) (e : read_alone s ≡ Ok l) where
   taken : object_verdict s l ≡ Ok tt → check_object s ≡ Ok l
   taken q = rw (object_read s l e, q)
 
-pub returns-in_err-l : goal.returns-in_err-l
-returns-in_err-l c =
+pub returns-in_err-layout : goal.returns-in_err-layout
+returns-in_err-layout c =
     let s = c.args.s.now in
-    object_with_meaning s (handed_on c.from_residual.result c.from_residual.ensures.1 ∙ sym (object_refused s c.in_err-l.field-0.0 (sym c.read_alone.ensures ∙ c.in_err-l.was)))
+    object_with_meaning s (handed_on c.from_residual.result c.from_residual.ensures.1 ∙ sym (object_refused s c.in_err-layout.field-0.0 (sym c.read_alone.ensures ∙ c.in_err-layout.was)))
 
-pub object_verdict-requires : goal.object_verdict-requires
-object_verdict-requires c = (taken_alone c.args.s.now c.in_ok-l.l (sym c.read_alone.ensures ∙ c.in_ok-l.was)).read
+pub invariant_of-object_verdict : goal.invariant_of-object_verdict
+invariant_of-object_verdict c = record { read = (taken_alone c.args.s.now c.in_ok-layout.layout (sym c.read_alone.ensures ∙ c.in_ok-layout.was)).read }
 
 pub returns-in_err-object_verdict : goal.returns-in_err-object_verdict
 returns-in_err-object_verdict c =
     let s = c.args.s.now in
     let r = c.from_residual-in_err-object_verdict in
     object_with_meaning s (handed_on r.result r.ensures.1
-    ∙ sym (at_fault s c.in_ok-l.l (sym c.read_alone.ensures ∙ c.in_ok-l.was) c.in_err-object_verdict.field-0.0 (sym c.object_verdict.ensures ∙ c.in_err-object_verdict.was)))
+    ∙ sym (at_fault s c.in_ok-layout.layout (sym c.read_alone.ensures ∙ c.in_ok-layout.was) c.in_err-object_verdict.field-0.0 (sym c.object_verdict.ensures ∙ c.in_err-object_verdict.was)))
 
 pub returns : goal.returns
 returns c =
     let s = c.args.s.now in
-    object_with_meaning s (sym (taken s c.in_ok-l.l (sym c.read_alone.ensures ∙ c.in_ok-l.was) (sym c.object_verdict.ensures ∙ c.in_ok-object_verdict.was)))
+    object_with_meaning s (sym (taken s c.in_ok-layout.layout (sym c.read_alone.ensures ∙ c.in_ok-layout.was) (sym c.object_verdict.ensures ∙ c.in_ok-object_verdict.was)))

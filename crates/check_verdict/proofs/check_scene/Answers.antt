@@ -25,6 +25,9 @@ returns-in_err-scene c =
     let s = c.args.s.now in
     with_meaning s (handed_on c.from_residual.result c.from_residual.ensures.1 ∙ sym (check_refused (scene_rules [] []) s c.in_err-scene.field-0.0 (sym c.read_scene.ensures ∙ c.in_err-scene.was)))
 
+pub invariant_of-geometry_verdict : goal.invariant_of-geometry_verdict
+invariant_of-geometry_verdict c = record { read = sym c.read_scene.ensures ∙ c.in_ok-scene.was }
+
 pub returns-in_err-geometry_verdict : goal.returns-in_err-geometry_verdict
 returns-in_err-geometry_verdict c =
     let s = c.args.s.now in

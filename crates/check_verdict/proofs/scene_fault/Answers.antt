@@ -1,11 +1,8 @@
 -- Across the objects, or in either.
-use Rattle.std.proofs.Common.{◌≡◌, ◌∙◌, ℕ, refl, sym, ap₂, subst, List}
+use Rattle.std.proofs.Common.{◌≡◌, ℕ, refl, List}
 use Rattle.scene.specs.declared.Flaw.{Flaw}
 use Rattle.scene.specs.declared.Flaw.TheVariants.{Misplaced, Unpaired, Touching, OddEnd, WrongIa, TouchingAcross}
-use Rattle.scene.specs.declared.Layout.{Layout}
 use Rattle.scene.specs.declared.Scene.{Scene}
-use Rattle.scene.specs.Conditions.{or_else}
-use Rattle.check_conditions.specs.Faults.{fault_under}
 use Rattle.check_verdict.specs.Refusals.{fault_in_either, scene_fault_under}
 use Rattle.check_verdict.proofs.scene_fault.Goals as goal
 
@@ -19,8 +16,6 @@ unless_across s sc TouchingAcross n = absurd (n refl)
 
 pub returns-in_default : goal.returns-in_default
 returns-in_default c =
-    let s = c.args.s.now in
-    let f = c.args.flaw in
-    c.fault_in_either.ensures
-    ∙ ap₂ (λ (a b : Layout). or_else (fault_under s a b f) (fault_under s b a f)) c.given_first-first.ensures c.given_second-second.ensures
-    ∙ sym (unless_across s c.args.scene f c.in_default.not-TouchingAcross)
+    let o = c.args.read in
+    let given = c.as_given-in_default.ensures in
+    rw (c.fault_in_either.ensures, given.0, given.1, given.2, unless_across o.bytes.now o.scene c.args.flaw c.in_default.not-TouchingAcross)

@@ -17,7 +17,7 @@ pub loop-m-preserved : goal.loop-m-preserved
 loop-m-preserved c =
     let h = c.loop-m in
     let z = c.args in
-    ap (λ x. bit_or x (marks_of_notes z.notes.now (h.m + 1) z.j)) (c.with-marks.ensures ∙ ap (bit_or h.marks.0) c.mark_of_note.ensures) ∙ further z.notes.now h.marks.0 h.m z.j c.loop-m-test.true ∙ h.invariant
+    ap (λ x. bit_or x (marks_of_notes z.notes.now (h.m + 1) z.j)) (c.with-marks.ensures ∙ ap (bit_or h.marks.0) (c.mark_of_note.ensures ∙ ap mark_of_note c.of.ensures)) ∙ further z.notes.now h.marks.0 h.m z.j c.loop-m-test.true ∙ h.invariant
 
 pub returns : goal.returns
 returns c =

@@ -1,29 +1,42 @@
--- `flags_meetings::meetings_of` meets its contract: a turn passes the runs of one key, and past the last key no element is left.
+-- A turn passes the runs of one key, and past the last key no element is left.
 use Rattle.std.proofs.Common.{arith, bit_or, sym, ap, ap₂, subst, ◌∙◌, min}
+use Rattle.scene.specs.declared.Layout.{Layout}
 use Rattle.scene.proofs.Taken.{taken_object}
 use Rattle.flags_meetings.proofs.Walking.{Walking, walked, walked_on}
 use Rattle.flags_meetings.proofs.meetings_of.Goals as goal
 
 pub meeting-requires : goal.meeting-requires
 meeting-requires c =
-    (c.pass-next_c.ensures.1.on, omega (arith, c.pass-next_c.ensures.0.few, c.requires.4, (taken_object c.args.s.now c.args.scene.f.start c.args.scene.f c.requires.0).few))
+    let p = c.args.pair in
+    let f = c.pass in
+    (f.ensures.passed.on, omega (arith, f.new.c.within, ap (λ (l : Layout). l.count) (f.ensures.of.1 ∙ c.loop-k.invariant.layout_f), (taken_object p.bytes.now p.own.start p.own p.own_read).few))
 
 pub loop-k-preserved : goal.loop-k-preserved
 loop-k-preserved c =
-    let z = c.args in
-    let f = c.pass-next_c.ensures in
-    let g = c.pass-next_d.ensures in
+    let p = c.args.pair in
+    let h = c.loop-k.invariant in
+    let f = c.pass in
+    let g = c.pass-in-loop-k in
+    let bytes_f = f.ensures.of.0 ∙ h.bytes_f in
+    let layout_f = f.ensures.of.1 ∙ h.layout_f in
+    let bytes_g = g.ensures.of.0 ∙ h.bytes_g in
+    let layout_g = g.ensures.of.1 ∙ h.layout_g in
     record {
-      reached_f = f.0;
-      reached_g = g.0;
+      bytes_f = bytes_f;
+      layout_f = layout_f;
+      bytes_g = bytes_g;
+      layout_g = layout_g;
       walking =
-          subst (Walking z.s.now z.scene z.notes.now c.pass-next_c.result.index c.pass-next_d.result.index c.min-k-in-loop-k.result)
+          subst (Walking p.bytes.now (record { f = p.own; g = p.other }) c.args.notes.now f.new.c.index g.new.c.index c.min-k-in-loop-k.result)
           (sym (c.with-sofar.ensures ∙ ap (bit_or c.loop-k.sofar.0) c.meeting.ensures))
-          (walked_on z.s.now z.scene z.notes.now c.requires.0 c.requires.1 c.requires.2 c.requires.3 c.loop-k.invariant.walking c.loop-k-test.true f.0.few g.0.few f.1 g.1
-          (c.min-k-in-loop-k.ensures ∙ ap₂ min f.0.key_is g.0.key_is));
+          (walked_on p.bytes.now (record { f = p.own; g = p.other }) c.args.notes.now p.own_read p.other_read c.requires.0 c.requires.1 h.walking c.loop-k-test.true
+          (rw layout_f at f.new.c.within) (rw layout_g at g.new.c.within)
+          (rw (h.bytes_f, h.layout_f) at f.ensures.passed) (rw (h.bytes_g, h.layout_g) at g.ensures.passed)
+          (c.min-k-in-loop-k.ensures ∙ ap₂ min (rw (bytes_f, layout_f) at f.new.c.key_is) (rw (bytes_g, layout_g) at g.new.c.key_is)));
     }
 
 pub returns : goal.returns
 returns c =
-    let z = c.args in
-    c.named.ensures ∙ walked z.s.now z.scene z.notes.now c.requires.0 c.requires.1 c.requires.2 c.requires.3 c.loop-k.invariant.walking c.loop-k-test.false
+    let p = c.args.pair in
+    c.into.ensures
+    ∙ walked p.bytes.now (record { f = p.own; g = p.other }) c.args.notes.now p.own_read p.other_read c.requires.0 c.requires.1 c.loop-k.invariant.walking c.loop-k-test.false

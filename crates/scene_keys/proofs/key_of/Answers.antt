@@ -6,9 +6,9 @@ use Rattle.scene_keys.proofs.Elements.{point_is, point_in_range}
 use Rattle.scene_keys.proofs.key_of.Goals as goal
 
 pub point_of-requires : goal.point_of-requires
-point_of-requires c = let a = c.args in omega (arith, c.requires.1, fits a.s.now a.l c.requires.0 a.i c.if-i-l.true)
+point_of-requires c = let a = c.args in omega (arith, c.requires, fits a.o.bytes.now a.o.layout a.o.read a.i c.if-i-o.true)
 
 pub key-requires : goal.key-requires
 key-requires c =
     let a = c.args in
-    subst (λ (v : Point). T (in_range v)) (sym (c.point_of.ensures ∙ point_is a.s.now a.l a.i c.requires.1)) (point_in_range a.s.now a.l c.requires.0 a.i c.if-i-l.true)
+    subst (λ (v : Point). T (in_range v)) (sym (c.point_of.ensures ∙ point_is a.o.bytes.now a.o.layout a.i c.requires)) (point_in_range a.o.bytes.now a.o.layout a.o.read a.i c.if-i-o.true)

@@ -18,13 +18,13 @@ allowed : (k : Shape) → stands_in k (Element k) ≡ true
 allowed k = eq-eqb (shape_number k) (shape_number k) refl
 
 pub returns-then-s-at : goal.returns-then-s-at
-returns-then-s-at c = c.bad.ensures ∙ sym (no_byte c.args.s.now c.args.at (stands_in c.args.k) c.args.full c.if-s-at.true)
+returns-then-s-at c = c.at.ensures ∙ sym (no_byte c.args.s.now c.args.at (stands_in c.args.k) c.args.full c.if-s-at.true)
 
 pub returns-then-ne : goal.returns-then-ne
 returns-then-ne c =
     let a = c.args in
     let is = sym c.from.ensures ∙ c.in-Element.is in
-    c.bad-then-ne.ensures
+    c.at-then-ne.ensures
     ∙ sym (not_allowed a.s.now a.at (stands_in a.k) a.full (Element c.in-Element.e) c.if-s-at.false is
     (sym (same_numbers c.in-Element.e a.k) ∙ not-true (is_same c.in-Element.e a.k) (sym c.ne.ensures ∙ c.if-ne.true)))
 
@@ -32,13 +32,13 @@ pub returns-then-full : goal.returns-then-full
 returns-then-full c =
     let a = c.args in
     let is = same_type a.s.now a.at c.in-Element.e a.k (sym c.from.ensures ∙ c.in-Element.is) (sym c.ne.ensures ∙ c.if-ne.false) in
-    c.bad-then-full.ensures ∙ sym (no_room a.s.now a.at (stands_in a.k) a.full (Element a.k) c.if-s-at.false is (allowed a.k) (ap not c.if-full.true))
+    c.at-then-full.ensures ∙ sym (no_room a.s.now a.at (stands_in a.k) a.full (Element a.k) c.if-s-at.false is (allowed a.k) (ap not c.if-full.true))
 
 pub returns-then-s-at-2 : goal.returns-then-s-at-2
 returns-then-s-at-2 c =
     let a = c.args in
     let is = same_type a.s.now a.at c.in-Element.e a.k (sym c.from.ensures ∙ c.in-Element.is) (sym c.ne.ensures ∙ c.if-ne.false) in
-    c.bad-then-s-at-2.ensures
+    c.at-then-s-at-2.ensures
     ∙ sym (cut_body a.s.now a.at (stands_in a.k) a.full (Element a.k) c.if-s-at.false is (allowed a.k) (ap not c.if-full.false) (omega (arith, c.size.ensures)))
 
 pub returns-else-s-at-2 : goal.returns-else-s-at-2
@@ -57,4 +57,4 @@ pub returns-in-Start : goal.returns-in-Start
 returns-in-Start c =
     let a = c.args in
     let no = λ (k : Kind) (is : kind_at a.s.now a.at ≡ k) (n : stands_in a.k k ≡ false). sym (not_allowed a.s.now a.at (stands_in a.k) a.full k c.if-s-at.false is n) in
-    c.bad-in-Start.ensures ∙ ⊎_elim (λ e. no Start (sym c.from.ensures ∙ e) refl) (λ e. no Unknown (sym c.from.ensures ∙ e) refl) c.in-Start.is
+    c.at-in-Start.ensures ∙ ⊎_elim (λ e. no Start (sym c.from.ensures ∙ e) refl) (λ e. no Unknown (sym c.from.ensures ∙ e) refl) c.in-Start.is

@@ -23,7 +23,7 @@ pub returns-then-le : goal.returns-then-le
 unfolding ordered
 returns-then-le c =
     let a = c.args in
-    c.bad-then-le.ensures
+    c.at-then-le.ensures
     ∙ unordered a.segment a.at a.k (sym c.is_in_range.ensures ∙ c.if-not-is_in_range.false) (sym c.is_in_range-else-not-is_in_range.ensures ∙ c.if-not-is_in_range-2.false)
     (not-true _ (sym (upto_is a.segment.right a.segment.left) ∙ sym c.le.ensures ∙ c.if-le.true))
 

@@ -1,6 +1,5 @@
 -- Each turn parses the summary that stands there.
 use Rattle.std.proofs.Common.{ℕ, ◌*◌, ap, sym, ◌∙◌, T, subst, length, drop, arith, rules}
-use Rattle.std.proofs.lemmas.Result.{err_from_is_err_and}
 use Rattle.flags.specs.Flags.{pack}
 use Rattle.summary.specs.declared.Summary.{Summary}
 use Rattle.summary.specs.Summary.{is_good}
@@ -12,17 +11,15 @@ use Rattle.summary_window.proofs.judge.Goals as goal
 pub shows-requires : goal.shows-requires
 shows-requires c =
     let x = c.in-Some.record.now in
-    let p = parsed x _ c.parse.ensures c.ok_or.ensures.value c.in_ok-summary.was in
+    let p = parsed x c.parse.ensures c.in-Some-parse.is in
     subst (λ (m : Summary). T (is_good m)) p.1 (good_summary x p.0)
 
-pub returns-in_err-summary : goal.returns-in_err-summary
-returns-in_err-summary c =
+pub returns-in_default : goal.returns-in_default
+returns-in_default c =
     let l = c.loop-k.invariant in
     let next = c.in-Some.ensures.steps in
-    let answered = err_from_is_err_and c.from_residual.result c.from_residual.ensures.1 in
-    let p = not_parsed c.in-Some.record.now _ c.parse.ensures c.ok_or.ensures.value c.in_err-summary.was in
-    let bad = is_bad c.args.w c.args.s.now c.requires _ l.good (turn l.by_20 l.rest next.0.1) p.0 in
-    cc (answered.1, answered.2, p.1)
+    let bad = is_bad c.args.w c.args.s.now c.requires _ l.good (turn l.by_20 l.rest next.0.1) (not_parsed c.in-Some.record.now c.parse.ensures c.in_default.is) in
+    cc (c.at.ensures, next.1, bad)
 
 pub overflow_add-word : goal.overflow_add-word
 overflow_add-word c =
@@ -31,7 +28,7 @@ overflow_add-word c =
     let w = c.args.w in
     let s = c.args.s.now in
     let t = turn l.by_20 l.rest next.0.1 in
-    let p = parsed c.in-Some.record.now _ c.parse.ensures c.ok_or.ensures.value c.in_ok-summary.was in
+    let p = parsed c.in-Some.record.now c.parse.ensures c.in-Some-parse.is in
     let hit = hit_is w s c.requires _ l.good t p.0 p.1 c.shows.ensures in
     record { fits = fits (hit_one w s) _ (below_64 w s c.requires _ l.good t) next.1 l.word c.shows.result hit }
 
@@ -42,7 +39,7 @@ loop-k-preserved c =
     let w = c.args.w in
     let s = c.args.s.now in
     let t = turn l.by_20 l.rest next.0.1 in
-    let p = parsed c.in-Some.record.now _ c.parse.ensures c.ok_or.ensures.value c.in_ok-summary.was in
+    let p = parsed c.in-Some.record.now c.parse.ensures c.in-Some-parse.is in
     let hit = hit_is w s c.requires _ l.good t p.0 p.1 c.shows.ensures in
     record {
       can = search rules;

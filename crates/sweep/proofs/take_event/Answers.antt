@@ -1,100 +1,102 @@
 -- The element's record is an entry of its object, and the place that is found is one for its point.
-use Rattle.std.proofs.Common.{◌≡◌, ℕ, ◌<◌, Bool, List, T, sym, ap, subst, ◌∙◌, arith}
+use Rattle.std.proofs.Common.{◌≡◌, ℕ, ◌<◌, Bool, List, T, sym, ap, ap₂, subst, ◌∙◌}
+use Rattle.whole.proofs.Logic.{is_true}
 use Rattle.plane.specs.declared.Point.{Point}
 use Rattle.plane.specs.declared.Halfsegment.{Halfsegment}
 use Rattle.plane.specs.Plane.{in_range, dominating, choose}
 use Rattle.scene.specs.declared.Layout.{Layout}
-use Rattle.scene.specs.declared.Scene.{Scene}
-use Rattle.scene.specs.Read.{segment_at, halfsegment_at, place, IsScene}
+use Rattle.scene.specs.Read.{segment_at, halfsegment_at, place}
+use Rattle.scene.specs.Conditions.{has_segments, half}
 use Rattle.scene_keys.proofs.Elements.{dominating_in_range}
-use Rattle.sweep_laws.specs.Ready.{Ready, Readable, Held}
-use Rattle.sweep_laws.specs.Swept.{object_of, is_first, is_beginning, total, Entry}
+use Rattle.sweep_laws.specs.Held.{Readable}
+use Rattle.sweep_laws.specs.Swept.{object_of, is_first, is_beginning, Entry}
 use Rattle.sweep_laws.specs.Event.{Place, Began, Ended, CanBegin, CanEnd, it_began, it_ended}
-use Rattle.sweep_laws.proofs.Objects.{good, owned, entry}
-use Rattle.sweep_laws.proofs.Entries.{entry_readable, in_range_at, held_readable}
+use Rattle.sweep_laws.proofs.Objects.{has, owned, entry}
+use Rattle.sweep_laws.proofs.Entries.{held_readable}
+use Rattle.sweep_notes.specs.Numbers.{note_number}
+use Rattle.sweep.proofs.take_event.Goals.{After-find-place}
 use Rattle.sweep.proofs.take_event.Goals as goal
 
-module _ (s : List ℕ) (sc : Scene) (first : Bool) (k : ℕ) {at : ℕ} (at_is : at ≡ place (object_of s sc first) k) where
-  ready : IsScene s sc → k < total s sc first → {entries : List ℕ} → Held s sc entries → Ready s sc first at entries
-  ready is within held = record {
-    scene = is;
-    event = subst (Entry s sc) (sym at_is) (entry s sc is first k within);
-    object = ap (is_first s sc) at_is ∙ owned s sc is first k within;
-    held = held;
-  }
+-- the element's record
+at_is : (c : After-find-place) → c.place.result ≡ place (object_of c.args.read.now.bytes.now c.args.read.now.scene c.args.first) c.args.k
+at_is c = c.place.ensures.is ∙ ap (λ (l : Layout). place l c.args.k) c.object-object.ensures.1
 
-  -- its halfsegment was read: it begins, or not
-  module _ {h : Halfsegment} (read : h ≡ halfsegment_at s at) {left : Bool} (side : h.is_left ≡ left) where
-    beginning_is : is_beginning s sc first k ≡ left
-    beginning_is = ap (λ (m : ℕ). (halfsegment_at s m).is_left) (sym at_is) ∙ ap (λ (h : Halfsegment). h.is_left) (sym read) ∙ side
+read_at : (c : After-find-place) → c.half-h.result ≡ halfsegment_at c.args.read.now.bytes.now c.place.result
+read_at c =
+    let o = c.object-object.ensures in
+    c.half-h.ensures.is ∙ ap₂ (λ (s : List ℕ) (l : Layout). half s l c.args.k) o.0 o.1 ∙ ap (halfsegment_at c.args.read.now.bytes.now) (sym (at_is c))
 
--- a place for its point
-at_place : (s : List ℕ) (at : ℕ) {h : Halfsegment} → h ≡ halfsegment_at s at → {left : Bool} → h.is_left ≡ left → {p : Point} → p ≡ dominating h
-    → {entries old : List ℕ} → entries ≡ old → {k : ℕ} → Place s entries p k → Place s old (choose left (segment_at s at).left (segment_at s at).right) k
-unfolding dominating
-at_place s at {h} read {left} side p_is {entries} {old} same {k} found =
-    subst (λ (l : List ℕ). Place s l (choose left (segment_at s at).left (segment_at s at).right) k) same
-    (subst (λ (v : Point). Place s entries v k)
-    (p_is ∙ ap dominating read ∙ ap (λ (b : Bool). choose b (segment_at s at).left (segment_at s at).right) (ap (λ (h : Halfsegment). h.is_left) (sym read) ∙ side)) found)
-
-pub place-at-requires : goal.place-at-requires
-place-at-requires c =
+recorded : (c : After-find-place) → Entry c.args.read.now.bytes.now c.args.read.now.scene c.place.result
+recorded c =
     let a = c.args in
-    omega (arith, (good a.s.now a.scene c.requires.0 a.first a.k c.requires.1).there, ap (λ (l : Layout). place l a.k) (c.object_of.ensures a.s.now), c.well_formed)
+    let s = a.read.now.bytes.now in
+    subst (Entry s a.read.now.scene) (sym (at_is c)) (entry s a.read.now.scene a.read.now.read a.first a.k c.requires.0)
 
-pub halfsegment-h-requires : goal.halfsegment-h-requires
-halfsegment-h-requires c =
+of_object : (c : After-find-place) → is_first c.args.read.now.bytes.now c.args.read.now.scene c.place.result ≡ c.args.first
+of_object c =
     let a = c.args in
-    omega (arith, (good a.s.now a.scene c.requires.0 a.first a.k c.requires.1).there, c.place-at.ensures ∙ ap (λ (l : Layout). place l a.k) (c.object_of.ensures a.s.now))
+    let s = a.read.now.bytes.now in
+    ap (is_first s a.read.now.scene) (at_is c) ∙ owned s a.read.now.scene a.read.now.read a.first a.k c.requires.0
+
+-- it begins, or not
+module _ (c : After-find-place) {left : Bool} (side : c.half-h.result.is_left ≡ left) where
+  beginning_is : is_beginning c.args.read.now.bytes.now c.args.read.now.scene c.args.first c.args.k ≡ left
+  beginning_is = ap (λ (at : ℕ). (halfsegment_at c.args.read.now.bytes.now at).is_left) (sym (at_is c)) ∙ ap (λ (h : Halfsegment). h.is_left) (sym (read_at c)) ∙ side
+
+  -- a place for its point
+  found : let t = segment_at c.args.read.now.bytes.now c.place.result in Place c.args.read.now.bytes.now c.args.status.now (choose left t.left t.right) c.find-place.result
+  unfolding dominating
+  found =
+      let s = c.args.read.now.bytes.now in
+      let t = segment_at s c.place.result in
+      let point_is = c.dominating_point.ensures ∙ ap dominating (read_at c) ∙ ap (λ (b : Bool). choose b t.left t.right) (ap (λ (h : Halfsegment). h.is_left) (sym (read_at c)) ∙ side) in
+      subst (λ (l : List ℕ). Place s l (choose left t.left t.right) c.find-place.result) c.entries.ensures
+      (subst (λ (v : Point). Place s c.entries.result.now v c.find-place.result) point_is c.find-place.ensures)
+
+pub half-h-requires : goal.half-h-requires
+half-h-requires c =
+    let a = c.args in
+    let h = has a.read.now.bytes.now a.read.now.scene a.first a.k c.requires.0 in
+    subst (λ (l : Layout). (a.k < l.count) × T (has_segments l.shape)) (sym c.object-object.ensures.1) (h.1, is_true _ h.0)
+
+pub invariant_of-event : goal.invariant_of-event
+invariant_of-event c = let f = (goal.at.invariant_of-event c).After-find-place in record { recorded = recorded f; owned = of_object f }
+
+pub invariant_of-event-else-h : goal.invariant_of-event-else-h
+invariant_of-event-else-h c = let f = (goal.at.invariant_of-event-else-h c).After-find-place in record { recorded = recorded f; owned = of_object f }
+
+pub invariant_of-entries : goal.invariant_of-entries
+invariant_of-entries c =
+    let r = c.args.read.now in
+    record { readable = subst (Readable r.bytes.now) (sym c.entries.ensures) (held_readable c.requires.1 r.read) }
 
 pub find-place-requires : goal.find-place-requires
-find-place-requires c =
-    let a = c.args in
-    let s = a.s.now in
-    let at_is = c.place-at.ensures ∙ ap (λ (l : Layout). place l a.k) (c.object_of.ensures s) in
-    let r = ready s a.scene a.first a.k at_is c.requires.0 c.requires.1 c.requires.2 in
-    let readable = entry_readable s a.scene c.requires.0 r.event in (
-      subst (λ (p : Point). T (in_range p)) (sym c.dominating_point-p.ensures)
-          (dominating_in_range c.halfsegment-h.result (in_range_at readable (ap (λ (h : Halfsegment). h.segment) c.halfsegment-h.ensures))),
-      subst (Readable s) (sym c.entries.ensures) (held_readable c.requires.2 c.requires.0),
-    )
+find-place-requires c = subst (λ (p : Point). T (in_range p)) (sym c.dominating_point.ensures) (dominating_in_range c.half-h.result c.half-h.ensures.in_range)
 
 pub begin-requires : goal.begin-requires
-begin-requires c =
-    let a = c.args in
-    let s = a.s.now in
-    let at_is = c.place-at.ensures ∙ ap (λ (l : Layout). place l a.k) (c.object_of.ensures s) in
-    (ready s a.scene a.first a.k at_is c.requires.0 c.requires.1 c.requires.2, at_place s c.place-at.result c.halfsegment-h.ensures c.if-h.true c.dominating_point-p.ensures c.entries.ensures c.find-place.ensures)
+begin-requires c = let f = (goal.at.begin-requires c).After-find-place in (c.requires.1, found f c.if-h.true)
 
 pub end-requires : goal.end-requires
-end-requires c =
-    let a = c.args in
-    let s = a.s.now in
-    let at_is = c.place-at.ensures ∙ ap (λ (l : Layout). place l a.k) (c.object_of.ensures s) in
-    (ready s a.scene a.first a.k at_is c.requires.0 c.requires.1 c.requires.2, at_place s c.place-at.result c.halfsegment-h.ensures c.if-h.false c.dominating_point-p.ensures c.entries.ensures c.find-place.ensures, c.requires.3)
+end-requires c = let f = (goal.at.end-requires c).After-find-place in (c.requires.1, found f c.if-h.false)
 
 pub returns-then-h : goal.returns-then-h
 returns-then-h c =
-    let a = c.args in
-    let s = a.s.now in
-    let old = a.status.now in
-    let at_is = c.place-at.ensures ∙ ap (λ (l : Layout). place l a.k) (c.object_of.ensures s) in
-    let e = beginning_is s a.scene a.first a.k at_is c.halfsegment-h.ensures c.if-h.true in
+    let r = c.args.read.now in
+    let f = (goal.at.returns-then-h c).After-find-place in
+    let begins = beginning_is f c.if-h.true in
     record {
-      done = λ note q. it_began e (subst (λ (at : ℕ). Began s a.scene a.first at old c.begin.new.status note) at_is (c.begin.ensures.done note q));
+      done = λ note q. it_began begins (subst (λ (at : ℕ). Began r.bytes.now r.scene c.args.first at c.args.status.now c.begin.new.status (note_number note)) (at_is f) (c.begin.ensures.done note q));
       goes_on = λ can. c.begin.ensures.goes_on
-          (can.0 e, subst (λ (at : ℕ). CanBegin s a.scene a.first at old) (sym at_is) (can.1.can_begin e) c.find-place.result (at_place s c.place-at.result c.halfsegment-h.ensures c.if-h.true c.dominating_point-p.ensures c.entries.ensures c.find-place.ensures));
+          (can.0 begins, subst (λ (at : ℕ). CanBegin r.bytes.now r.scene c.args.first at c.args.status.now) (sym (at_is f)) (can.1.can_begin begins) c.find-place.result (found f c.if-h.true));
     }
 
 pub returns-else-h : goal.returns-else-h
 returns-else-h c =
-    let a = c.args in
-    let s = a.s.now in
-    let old = a.status.now in
-    let at_is = c.place-at.ensures ∙ ap (λ (l : Layout). place l a.k) (c.object_of.ensures s) in
-    let e = beginning_is s a.scene a.first a.k at_is c.halfsegment-h.ensures c.if-h.false in
+    let r = c.args.read.now in
+    let f = (goal.at.returns-else-h c).After-find-place in
+    let ends = beginning_is f c.if-h.false in
     record {
-      done = λ note q. it_ended e (subst (λ (at : ℕ). Ended s a.scene a.first at old a.notes.now c.end.new.status note) at_is (c.end.ensures.done note q));
+      done = λ note q. it_ended ends (subst (λ (at : ℕ). Ended r.bytes.now r.scene c.args.first at c.args.status.now c.args.notes.now c.end.new.status (note_number note)) (at_is f) (c.end.ensures.done note q));
       goes_on = λ can. c.end.ensures.goes_on
-          (subst (λ (at : ℕ). CanEnd s a.scene a.first at old) (sym at_is) (can.1.can_end e) c.find-place.result (at_place s c.place-at.result c.halfsegment-h.ensures c.if-h.false c.dominating_point-p.ensures c.entries.ensures c.find-place.ensures));
+          (subst (λ (at : ℕ). CanEnd r.bytes.now r.scene c.args.first at c.args.status.now) (sym (at_is f)) (can.1.can_end ends) c.find-place.result (found f c.if-h.false));
     }

@@ -19,13 +19,13 @@ same_side_lem false true false = refl
 same_side_lem false false true = refl
 same_side_lem false false false = refl
 
-pub overflow_cast-second : goal.overflow_cast-second
-overflow_cast-second c = omega (arith, ap (λ (l : Layout). l.start) c.given_second-second.ensures)
+pub overflow_cast-given_second : goal.overflow_cast-given_second
+overflow_cast-given_second c = omega (arith, ap (λ (l : Layout). l.start) c.given_second.ensures)
 
 pub returns : goal.returns
 returns c = λ s.
     let a = c.args in
     let entries = a.entries.now in
     c.has_odd_beside.ensures
-    ∙ ap₂ (λ (l : Layout) (t : Bool). odd (count (λ (e : ℕ). beq (not (beq a.first t)) (ltb e l.start)) entries)) c.given_second-second.ensures c.is_turned.ensures
+    ∙ ap₂ (λ (l : Layout) (t : Bool). odd (count (λ (e : ℕ). beq (not (beq a.first t)) (ltb e l.start)) entries)) c.given_second.ensures c.is_turned.ensures
     ∙ ap odd (count_same _ (λ (e : ℕ). beq a.first (is_first s a.scene e)) entries (λ e m. same_side_lem a.first (turned a.scene) (ltb e (given_second a.scene).start)))

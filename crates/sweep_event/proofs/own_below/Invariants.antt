@@ -6,5 +6,7 @@ use Rattle.sweep_event.proofs.own_below.Given as goal
 
 abbrev pub invariant-loop-k : goal.invariant-loop-k
 invariant-loop-k l =
-    ((i : ℕ) → l.k ≤ i → i < l.top → segment_at l.s (get_or l.entries i 0) ≡ segment_at l.s l.event.at)
-    × ((i : ℕ) → l.k ≤ i → i < l.top → strand_at l.s l.scene (get_or l.entries i 0) ≡ strand_of l.s l.scene l.event.first l.event.at → ⊥)
+    let s = l.event.read.bytes.now in
+    let sc = l.event.read.scene in
+    ((i : ℕ) → l.k ≤ i → i < l.top → segment_at s (get_or l.entries i 0) ≡ segment_at s l.event.at)
+    × ((i : ℕ) → l.k ≤ i → i < l.top → strand_at s sc (get_or l.entries i 0) ≡ strand_of s sc l.event.first l.event.at → ⊥)

@@ -1,5 +1,5 @@
 -- Each case of the answer, and what it says.
-use Rattle.std.proofs.Common.{◌∙◌, refl, ap, Ok, Err}
+use Rattle.std.proofs.Common.{◌∙◌, ap, Ok, Err}
 use Rattle.flags_masks.specs.declared.Wanted.{Wanted}
 use Rattle.scene.proofs.Outcomes.{handed_on}
 use Rattle.flags_vectors.proofs.Answered.{all_tidy, was_refused, was_taken}

@@ -12,10 +12,10 @@ pub returns-then-t : goal.returns-then-t
 unfolding odd
 returns-then-t c =
     let t = c.args.t in
-    let left = doubled_held t.left (left_in_doubled t c.requires.2) in
-    let right = doubled_held t.right (right_in_doubled t c.requires.2) in
+    let left = doubled_held t.left (left_in_doubled t c.requires.1) in
+    let right = doubled_held t.right (right_in_doubled t c.requires.1) in
     let upright : t.left.x ≡ t.right.x = bits_eq left.x_fits right.x_fits c.if-t.true in
-    rw (eq_z_yes t.left.x t.right.x upright) (ap odd c.count_for_ia.ensures ∙ sym (or-false (odd (count_below c.args.s.now c.args.l t))))
+    rw (eq_z_yes t.left.x t.right.x upright) (ap odd c.count_for_ia.ensures ∙ sym (or-false (odd (count_below c.args.o.bytes.now c.args.o.layout t))))
 
 pub returns-else-t : goal.returns-else-t
 unfolding odd

@@ -15,8 +15,8 @@ abbrev pub invariant-loop-low : goal.invariant-loop-low
 invariant-loop-low l =
     record {
       ascend : l.low ≤ l.high;
-      within : l.high ≤ l.l.count;
-      halving : Halving (test l.s l.l l.h) (place_for l.s l.l l.h) l.low l.high;
+      within : l.high ≤ l.o.layout.count;
+      halving : Halving (test l.o.bytes.now l.o.layout l.h) (place_for l.o.bytes.now l.o.layout l.h) l.low l.high;
     }
 
 abbrev pub decreases-loop-low : goal.decreases-loop-low

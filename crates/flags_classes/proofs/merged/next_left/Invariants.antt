@@ -1,8 +1,6 @@
--- What the loop of `next_left` keeps: `at` is where the element `k` stands, and from `i` on there is no left halfsegment before it.
-use Rattle.std.proofs.Common.{◌≡◌}
-use Rattle.scene.specs.Read.{place}
+-- What the loop of `next_left` keeps: from `i` on there is no left halfsegment before `k`.
 use Rattle.flags_classes.specs.Walked.{NoneLeft}
 use Rattle.flags_classes.proofs.merged.next_left.Given as goal
 
 abbrev pub invariant-loop-k : goal.invariant-loop-k
-invariant-loop-k l = record { stands : l.at ≡ place l.l l.k; passed : NoneLeft l.s l.l l.i l.k }
+invariant-loop-k l = NoneLeft l.o.bytes.now l.o.layout l.i l.k

@@ -1,7 +1,6 @@
 -- The answer without the scene.
-use Rattle.std.proofs.Common.{◌≡◌, ◌∙◌, sym, ap, ℕ, List, Ok, Err}
-use Rattle.check_verdict.specs.SharedPoints.{CheckedMeans}
-use Rattle.flags_vectors.specs.Vectors.{SceneAnswer, these, check_vectors, vectors_alone, answer_of, vectors_of, vectors_values, NoFlagWrong}
+use Rattle.std.proofs.Common.{◌≡◌, ◌∙◌, sym, ap, ℕ, List}
+use Rattle.flags_vectors.specs.Vectors.{SceneAnswer, these, vectors_alone, answer_of, vectors_of}
 use Rattle.scene.proofs.Outcomes.{handed_on}
 use Rattle.flags_vectors.proofs.NoFlagWrong.{with_meaning}
 use Rattle.flags_vectors.proofs.question.vectors.Goals as goal

@@ -1,33 +1,35 @@
 -- The check of two regions, then 17.
-use Rattle.std.proofs.Common.{◌<◌, ◌≤◌, ◌∙◌, refl, sym, length, arith}
+use Rattle.std.proofs.Common.{◌<◌, ◌≤◌, ◌∙◌, sym, length, arith}
 use Rattle.scene.proofs.Outcomes.{handed_on}
 use Rattle.overlap.specs.Rules.{list_of}
-use Rattle.overlap.proofs.Checked.{not_noted, no_regions, seventeen, roomy, two_regions}
+use Rattle.overlap.proofs.Checked.{not_noted, no_regions, seventeen, roomy, two_regions, regions_read}
 use Rattle.overlap.proofs.refusals.check_list.Goals as goal
 
 pub returns-in_err-scene : goal.returns-in_err-scene
 returns-in_err-scene c =
     let e = handed_on c.from_residual.result c.from_residual.ensures.1 in
-    (c.check_regions.ensures.0, e ∙ sym (no_regions c.args.s.now c.args.room c.in_err-scene.field-0.0 (sym c.check_regions.ensures.1 ∙ c.in_err-scene.was)), not_noted e)
+    (e ∙ sym (no_regions c.args.s.now c.args.room c.in_err-scene.field-0.0 (sym c.check_regions.ensures.0 ∙ c.in_err-scene.was)), not_noted e)
+
+pub invariant_of-read : goal.invariant_of-read
+invariant_of-read c = record { read = regions_read c.args.s.now c.in_ok-scene.scene (sym c.check_regions.ensures.0 ∙ c.in_ok-scene.was) }
 
 pub count-requires : goal.count-requires
 count-requires c =
-    let w = two_regions c.args.s.now c.in_ok-scene.scene (sym c.check_regions.ensures.1 ∙ c.in_ok-scene.was) in
-    (w.0.f_sound.read, w.0.g_sound.read, w.1, w.2)
+    let w = two_regions c.args.s.now c.in_ok-scene.scene (sym c.check_regions.ensures.0 ∙ c.in_ok-scene.was) in
+    rw (c.pair.ensures.1, c.pair.ensures.2) (w.1, w.2)
 
 pub returns-then-room-count : goal.returns-then-room-count
 returns-then-room-count c =
     let s = c.args.s.now in
     let sc = c.in_ok-scene.scene in
-    let h : c.args.room < length (list_of s sc) = omega (arith, c.if-room-count.true, c.count.ensures) in
-    (c.check_regions.ensures.0, sym (seventeen s c.args.room sc (sym c.check_regions.ensures.1 ∙ c.in_ok-scene.was) h), not_noted refl)
+    let h : c.args.room < length (list_of s sc) = omega (arith, c.if-room-count.true, rw (c.pair.ensures.0, c.pair.ensures.1, c.pair.ensures.2) at c.count.ensures) in
+    (c.at.ensures ∙ sym (seventeen s c.args.room sc (sym c.check_regions.ensures.0 ∙ c.in_ok-scene.was) h), not_noted c.at.ensures)
 
 pub returns : goal.returns
 returns c =
     let s = c.args.s.now in
     let sc = c.in_ok-scene.scene in
-    let h : length (list_of s sc) ≤ c.args.room = omega (arith, c.if-room-count.false, c.count.ensures) in (
-      c.check_regions.ensures.0,
-      sym (roomy s c.args.room sc (sym c.check_regions.ensures.1 ∙ c.in_ok-scene.was) h),
-      λ o e. c.check_regions.ensures.2 o (c.in_ok-scene.was ∙ e),
+    let h : length (list_of s sc) ≤ c.args.room = omega (arith, c.if-room-count.false, rw (c.pair.ensures.0, c.pair.ensures.1, c.pair.ensures.2) at c.count.ensures) in (
+      sym (roomy s c.args.room sc (sym c.check_regions.ensures.0 ∙ c.in_ok-scene.was) h),
+      λ o e. c.check_regions.ensures.1 o (c.in_ok-scene.was ∙ e),
     )

@@ -1,8 +1,7 @@
 -- `overlap::written::write` meets its contract: a byte of the list is due where a segment comes next, and there is room for it.
-use Rattle.std.proofs.Common.{arith, ℕ, List, ◌∷◌, map, length, sym, ap, subst}
+use Rattle.std.proofs.Common.{arith, ℕ, List, ◌∷◌, map, length, sym, ap, subst, ◌∙◌}
 use Rattle.scene.specs.declared.Layout.{Layout}
 use Rattle.flags.specs.Elements.{edges}
-use Rattle.flags_classes.proofs.Standing.{standing}
 use Rattle.overlap.specs.Bytes.{byte_of}
 use Rattle.overlap.specs.Walked.{NextByte}
 use Rattle.overlap.proofs.BySides.{next_byte}
@@ -19,31 +18,28 @@ due s f g all lent buffer {n} {i} {j} {b} {k} {m} next h =
 
 pub loop-next-init : goal.loop-next-init
 loop-next-init c =
-    let z = c.args in
-    record {
-      few_f = omega arith;
-      few_g = omega arith;
-      stands = standing z.s.now z.scene.f z.scene.g;
-      filled = filled_none (all_bytes z.s.now z.scene.f z.scene.g) z.list.now (bytes_start z.s.now z.scene.f z.scene.g);
-    }
-
-pub next_sides-requires : goal.next_sides-requires
-next_sides-requires c =
-    let h = c.loop-next.invariant in
-    ((listable c.args.s.now (length c.args.list.now) c.args.scene c.requires.0).taken, h.few_f, h.few_g, c.requires.1, c.requires.2, h.stands)
+    let z = c.args.regions.read in
+    let w = c.of-next-items.ensures in
+    let filled = filled_none (all_bytes z.bytes.now z.scene.f z.scene.g) c.args.list.now (bytes_start z.bytes.now z.scene.f z.scene.g) in
+    rw (c.into_iter-next-iterator.ensures.into_iter_gives) (record { same = w.0; filled = rw (w.1, w.2) filled })
 
 pub bounds-list-n : goal.bounds-list-n
 bounds-list-n c =
-    let z = c.args in
-    let next = next_byte z.s.now z.scene.f z.scene.g c.in-Some.ensures c.coded.ensures in
-    let d = due z.s.now z.scene.f z.scene.g (all_bytes z.s.now z.scene.f z.scene.g) z.list.now c.loop-next.list next c.loop-next.invariant.filled in
-    let room = (listable z.s.now (length z.list.now) z.scene c.requires.0).fits in
+    let z = c.args.regions.read in
+    let lent = c.args.list.now in
+    let h = c.loop-next.invariant in
+    let next = next_byte z.bytes.now z.scene.f z.scene.g (rw h.same at c.in-Some.ensures.steps.1) c.coded.ensures in
+    let d = due z.bytes.now z.scene.f z.scene.g (all_bytes z.bytes.now z.scene.f z.scene.g) lent c.loop-next.list next h.filled in
+    let room = (listable z.bytes.now (length lent) z.scene c.requires).fits in
     omega (arith, filled_count d)
 
 pub loop-next-preserved : goal.loop-next-preserved
 loop-next-preserved c =
-    let z = c.args in
-    let next = next_byte z.s.now z.scene.f z.scene.g c.in-Some.ensures c.coded.ensures in
-    let d = due z.s.now z.scene.f z.scene.g (all_bytes z.s.now z.scene.f z.scene.g) z.list.now c.loop-next.list next c.loop-next.invariant.filled in
-    let room = (listable z.s.now (length z.list.now) z.scene c.requires.0).fits in
-    record { few_f = next.next.within_f; few_g = next.next.within_g; stands = next.stands; filled = filled_more (omega (arith, filled_count d)) d }
+    let z = c.args.regions.read in
+    let lent = c.args.list.now in
+    let h = c.loop-next.invariant in
+    let step = c.in-Some.ensures.steps in
+    let next = next_byte z.bytes.now z.scene.f z.scene.g (rw h.same at step.1) c.coded.ensures in
+    let d = due z.bytes.now z.scene.f z.scene.g (all_bytes z.bytes.now z.scene.f z.scene.g) lent c.loop-next.list next h.filled in
+    let room = (listable z.bytes.now (length lent) z.scene c.requires).fits in
+    record { same = step.0 ∙ h.same; filled = filled_more (omega (arith, filled_count d)) d }

@@ -8,4 +8,5 @@ use Rattle.sweep_laws.proofs.Evenly.{parity_from}
 use Rattle.sweep.proofs.evenly.ends_evenly.Given as goal
 
 abbrev pub invariant-loop-i : goal.invariant-loop-i
-invariant-loop-i l = (v : Point) → parity (dominated_by l.s l.l v) (elements l.l) ≡ parity_from (dominated_by l.s l.l v) (2 * l.i) l.l.count
+invariant-loop-i l =
+    (v : Point) → parity (dominated_by l.o.bytes.now l.o.layout v) (elements l.o.layout) ≡ parity_from (dominated_by l.o.bytes.now l.o.layout v) (2 * l.i) l.o.layout.count

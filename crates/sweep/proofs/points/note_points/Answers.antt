@@ -1,13 +1,38 @@
-use Rattle.std.proofs.Common.{T, sym, ◌∙◌, arith}
+use Rattle.std.proofs.Common.{ℕ, true, List, T, sym, ap₂, subst, ◌∙◌, arith}
 use Rattle.whole.proofs.Logic.{is_true}
-use Rattle.sweep_laws.specs.Located.{is_point_next}
+use Rattle.plane.specs.declared.Point.{Point}
+use Rattle.scene.specs.declared.Layout.{Layout}
+use Rattle.scene.specs.Read.{point_at, place}
+use Rattle.sweep_laws.specs.Located.{NearNote, is_point_next}
+use Rattle.sweep_laws.specs.Held.{Readable}
+use Rattle.sweep_laws.proofs.Entries.{held_readable}
+use Rattle.sweep_laws.proofs.Objects.{few_elements}
 use Rattle.sweep_laws.proofs.PointRun.{next_within, points_more}
+use Rattle.sweep_notes.specs.Numbers.{note_number}
 use Rattle.sweep.proofs.points.note_points.Goals as goal
 
-pub loop-scene-preserved : goal.loop-scene-preserved
-loop-scene-preserved c =
-    let a = c.args in
-    let k = c.loop-scene.k in
-    let next : T (is_point_next a.s.now a.scene k a.j) = is_true _ (sym c.is_point_next.ensures ∙ c.loop-scene-test.true) in
-    let within = next_within a.s.now a.scene k a.j next in
-    (omega (arith, within), points_more a.s.now a.scene a.j a.entries.now a.i a.notes.now k c.loop-scene.invariant.1 next (omega (arith, within, c.loop-scene.invariant.1.same_length)) c.note_of.ensures)
+pub invariant_of-entries : goal.invariant_of-entries
+invariant_of-entries c =
+    let r = c.args.read.now in
+    record { readable = subst (Readable r.bytes.now) (sym c.entries.ensures) (held_readable c.requires.3 r.read) }
+
+pub write-requires : goal.write-requires
+write-requires c =
+    let r = c.args.read.now in
+    let next = is_true _ (sym c.is_point_next.ensures ∙ c.loop-entries-test.true) in
+    omega (arith, next_within r.bytes.now r.scene c.loop-entries.k c.args.j next, few_elements r.bytes.now r.scene r.read true)
+
+pub loop-entries-preserved : goal.loop-entries-preserved
+loop-entries-preserved c =
+    let s = c.args.read.now.bytes.now in
+    let sc = c.args.read.now.scene in
+    let k = c.loop-entries.k in
+    let next : T (is_point_next s sc k c.args.j) = is_true _ (sym c.is_point_next.ensures ∙ c.loop-entries-test.true) in
+    let within = next_within s sc k c.args.j next in
+    let point_is = c.point.ensures.is ∙ ap₂ (λ (s : List ℕ) (l : Layout). point_at s (place l k)) c.object.ensures.0 c.object.ensures.1 in
+    let noted = subst (λ (l : List ℕ). NearNote s l (point_at s (place sc.f k)) (note_number c.locate.result)) c.entries.ensures
+    (subst (λ (v : Point). NearNote s c.entries.result.now v (note_number c.locate.result)) point_is c.locate.ensures) in (
+      omega (arith, within),
+      rw c.write.ensures.is (points_more s sc c.args.j c.args.status.now c.args.i c.args.notes.now k c.loop-entries.invariant.1 next
+          (omega (arith, within, few_elements s sc c.args.read.now.read true, c.write.ensures.room)) noted),
+    )

@@ -3,8 +3,8 @@ use Rattle.std.proofs.Common.{◌-◌, ◌≤◌}
 use Rattle.sweep_laws.specs.Located.{PointsTaken}
 use Rattle.sweep.proofs.points.note_points.Given as goal
 
-abbrev pub invariant-loop-scene : goal.invariant-loop-scene
-invariant-loop-scene l = (l.k ≤ l.scene.f.count) × PointsTaken l.s l.scene l.j l.entries l.i l.k l.initial.notes l.notes
+abbrev pub invariant-loop-entries : goal.invariant-loop-entries
+invariant-loop-entries l = (l.k ≤ l.read.scene.f.count) × PointsTaken l.read.bytes.now l.read.scene l.j l.status l.i l.k l.initial.notes l.notes
 
-abbrev pub decreases-loop-scene : goal.decreases-loop-scene
-decreases-loop-scene l = l.scene.f.count - l.k
+abbrev pub decreases-loop-entries : goal.decreases-loop-entries
+decreases-loop-entries l = l.read.scene.f.count - l.k

@@ -3,8 +3,7 @@ use Rattle.std.proofs.Common.{◌≡◌, ℕ, ◌<◌, [], get_or, sym, ap, subs
 use Rattle.scene.specs.declared.Layout.{Layout}
 use Rattle.scene.specs.Read.{place}
 use Rattle.sweep_laws.specs.Swept.{slot}
-use Rattle.sweep_laws.specs.Ready.{Placed}
-use Rattle.sweep_laws.proofs.Notes.{slot_room}
+use Rattle.sweep_laws.specs.Held.{Placed}
 use Rattle.sweep_status.proofs.note.note_at.Goals as goal
 
 -- an index below 1,024, where it is that of a record
@@ -13,17 +12,13 @@ few p is = subst (λ (i : ℕ). i < 1024) (sym (is p.index p.is_place)) p.few
 
 pub index_at-requires : goal.index_at-requires
 index_at-requires c =
-    let p = subst (λ (l : Layout). Placed l c.args.at) (sym (c.object_of.ensures [])) (c.requires.0 []) in
+    let p = subst (λ (l : Layout). Placed l c.args.at) (sym c.object.ensures) (c.requires []) in
     omega (arith, p.is_place)
 
-pub slot-requires : goal.slot-requires
-slot-requires c = few (subst (λ (l : Layout). Placed l c.args.at) (sym (c.object_of.ensures [])) (c.requires.0 [])) c.index_at.ensures
-
-pub bounds-notes-slot : goal.bounds-notes-slot
-bounds-notes-slot c =
-    let f = few (subst (λ (l : Layout). Placed l c.args.at) (sym (c.object_of.ensures [])) (c.requires.0 [])) c.index_at.ensures in
-    omega (arith, slot_room c.args.first c.index_at.result f)
+pub of-requires : goal.of-requires
+of-requires c = few (subst (λ (l : Layout). Placed l c.args.at) (sym c.object.ensures) (c.requires [])) c.index_at.ensures
 
 pub returns : goal.returns
-returns c = λ s k is. ap (λ (m : ℕ). get_or c.args.notes.now m 0)
-    (c.slot.ensures ∙ ap (slot c.args.first) (c.index_at.ensures k (is ∙ ap (λ (l : Layout). place l k) (sym (c.object_of.ensures s)))))
+returns c = λ s k is.
+    c.of.ensures
+    ∙ ap (λ (m : ℕ). get_or c.args.notes.now (slot c.args.first m) 0) (c.index_at.ensures k (is ∙ ap (λ (l : Layout). place l k) (sym c.object.ensures)))

@@ -1,0 +1,2 @@
+-- The walks of a sweep over its two objects.
+pub mod Walk

@@ -1,0 +1,2 @@
+-- The notes of the sweep as numbers.
+pub mod Numbers
