@@ -1,9 +1,9 @@
--- `cells::table::has` meets its contract: the last bit of what is left of the vector.
+-- `flags::has_bit` meets its contract: the last bit of what is left of the vector.
 use Rattle.std.proofs.Common.{◌/◌, ◌^◌, ap, nat_eq}
 use lib.Bits.{and_mask}
 use Rattle.whole.specs.Count.{odd}
 use Rattle.flags.specs.Flags.{has_bit}
-use Rattle.cells.proofs.table.has.Goals as goal
+use Rattle.flags.proofs.has_bit.Goals as goal
 
 pub returns : goal.returns
 unfolding has_bit odd
