@@ -1,14 +1,15 @@
--- Laws of a number's decimal writing: how it grows by a digit, that it spells the number, how long it is.
+-- Laws of a number's decimal writing: how it grows by a digit, that it spells the number, that std writes the same, how long it is.
 use Prim.Native.Nat.{ℕ, zero, suc, ◌+◌, ◌-◌, ◌*◌, ◌/◌, ◌%◌, ◌^◌, ◌≤◌, ◌<◌}
 use mathlib.Core.Path.{◌≡◌, refl, sym, ap, ◌∙◌}
 use mathlib.Core.Bool.{Bool, true, false}
 use mathlib.Core.List.{List, [], ◌∷◌, ◌++◌}
-use native.Mathlib.Nat.{pow-suc}
 use native.Mathlib.Omega.{arith}
 use lib.Dec.{ltb}
 use lib.ListN.{length, get_or, length-append, get_or-append}
 use lib.Seq.{get_or-append_seam}
 use borrow.Author.Tests.{ltb-true, ltb-false, lt-ltb, le-ltb}
+use Rattle.std.specs.Fmt as Fmt
+use Rattle.std.proofs.lemmas.Fmt.{decimal_by_steps, length-decimal-le}
 use Rattle.answer_line.specs.Line.{digit, digits, decimal, read_after, Spells}
 
 -- ---- one digit, or one digit more
@@ -173,30 +174,28 @@ decimal_only =
     (λ n h. only n (λ h₁₀. absurd (omega arith)))
     (λ n h shorter. only n (λ _. shorter))
 
+-- ---- it is what std writes
+
+pub same_decimal : (n : ℕ) → n < 2 ^ 64 → Fmt.decimal n ≡ decimal n
+same_decimal =
+    decimal_by_steps
+    (λ n l. l ≡ decimal n)
+    (λ n h. sym (decimal_one n h))
+    (λ n l h e. ap (λ (m : List ℕ). m ++ digit (n % 10) ∷ []) e ∙ sym (decimal_more n h))
+
 -- ---- how long it is
 
-length_one : (n : ℕ) → n < 10 → length (decimal n) ≡ 1
-length_one n h = ap length (decimal_one n h)
-
-length_more : (n : ℕ) → 10 ≤ n → length (decimal n) ≡ length (decimal (n / 10)) + 1
-length_more n h = ap length (decimal_more n h) ∙ length-append (decimal (n / 10)) (digit (n % 10) ∷ [])
-
-decimal_length : (k n : ℕ) → n < 10 ^ suc k → length (decimal n) ≤ suc k
-decimal_length zero n h = omega (arith, length_one n h)
-decimal_length (suc k) n h =
-    below_ten
-    n
-    (λ h₁. omega (arith, length_one n h₁))
-    (λ h₁₀. omega (arith, length_more n h₁₀, decimal_length k (n / 10) (omega (arith, pow-suc 10 (suc k)))))
+decimal_length : (k n : ℕ) → 0 < k → n < 10 ^ k → n < 2 ^ 64 → length (decimal n) ≤ k
+decimal_length k n some fits h = rw (same_decimal n h) at (length-decimal-le k n some fits h)
 
 -- the most digits of a byte, of 16 bits and of 64 bits
 pub length_u8 : (n : ℕ) → n < 2 ^ 8 → length (decimal n) ≤ 3
-length_u8 n h = decimal_length 2 n (omega arith)
+length_u8 n h = decimal_length 3 n (omega arith) (omega arith) (omega arith)
 
 pub length_u16 : (n : ℕ) → n < 2 ^ 16 → length (decimal n) ≤ 5
-length_u16 n h = decimal_length 4 n (omega arith)
+length_u16 n h = decimal_length 5 n (omega arith) (omega arith) (omega arith)
 
 pub length_u64 : (n : ℕ) → n < 2 ^ 64 → length (decimal n) ≤ 20
-length_u64 n h = decimal_length 19 n (omega arith)
+length_u64 n h = decimal_length 20 n (omega arith) (omega arith) h
 
 pub ruleset lengths = (length_u8, length_u16, length_u64)

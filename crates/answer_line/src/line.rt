@@ -1,114 +1,48 @@
-// The answer line while it is written.
+// What is written at the end of an answer line, which is a vector of any room.
 ghost use Rattle.std.specs.Prelude.{◌≡◌, [], ◌∷◌, ◌++◌, map, ◌+◌, ◌<◌, ◌≤◌, length};
 ghost use Rattle.plane_dimensions.specs.Dimensions.{sign};
+ghost use Rattle.arrayvec.specs.ArrayVec.{array_vec_len};
 ghost use Rattle.answer_line.specs.Line.{space, decimal, cell_bytes};
 
-use crate::LINE_LIMIT;
+use arrayvec::ArrayVec;
 use plane_dimensions::Dimension;
-use std::marker::Model;
 
-/// Clauses see the bytes written so far. What stands above the first `length` does not matter.
-#[derive(Drop)]
-pub struct Line {
-    bytes: [u8; LINE_LIMIT],
-    length: usize,
+// The bytes fit: what is dropped is never an error.
+pub fn append<const ROOM: usize>(line: &mut ArrayVec<u8, ROOM>, bytes: &[u8])
+    requires { array_vec_len line.old + length bytes.now ≤ ROOM }
+    ensures { line.new.items ≡ line.old.items ++ bytes.now }
+{
+    let _ = line.try_extend_from_slice(bytes);
 }
 
-impl Model for Line {
-    ghost use Rattle.std.specs.Prelude.{List, ℕ, ◌≤◌, take};
-
-    ghost Value = { List ℕ };
-
-    ghost view = { λ a. take a.length a.bytes };
-
-    ghost use Rattle.answer_line.specs.declared.TheConstants.{LINE_LIMIT};
-
-    ghost invariant = { λ a. a.length ≤ LINE_LIMIT };
+#[tactic(auto, using(crate::proofs::Decimal::same_decimal))]
+pub fn decimal<const ROOM: usize>(line: &mut ArrayVec<u8, ROOM>, n: u64)
+    requires { array_vec_len line.old + length (decimal n) ≤ ROOM }
+    ensures { line.new.items ≡ line.old.items ++ decimal n }
+{
+    append(line, itoa::Buffer::new().format(n).as_bytes());
 }
 
-impl Line {
-    pub fn new() -> Self
-        ensures { result ≡ [] }
-    {
-        Line {
-            bytes: [0; LINE_LIMIT],
-            length: 0,
-        }
-    }
+// A space, then the number.
+pub fn field<const ROOM: usize>(line: &mut ArrayVec<u8, ROOM>, n: u64)
+    requires { array_vec_len line.old + 1 + length (decimal n) ≤ ROOM }
+    ensures { line.new.items ≡ line.old.items ++ space ∷ decimal n }
+{
+    line.push(b' ');
+    decimal(line, n);
+}
 
-    pub fn bytes(&self) -> &[u8]
-        ensures written { result.now ≡ self.now }
-        ensures within { length self.now ≤ LINE_LIMIT }
-    {
-        &self.bytes[..self.length]
-    }
+fn signs(row: [Dimension; 3]) -> [u8; 3]
+    ensures { result ≡ map sign row }
+{
+    row.map(u8::from)
+}
 
-    pub fn push(&mut self, byte: u8)
-        requires { length self.old < LINE_LIMIT }
-        ensures { self.new ≡ self.old ++ byte ∷ [] }
-    {
-        self.bytes[self.length] = byte;
-        self.length += 1;
-    }
-
-    pub fn append(&mut self, bytes: &[u8])
-        requires { length self.old + length bytes.now ≤ LINE_LIMIT }
-        ensures { self.new ≡ self.old ++ bytes.now }
-    {
-        let end = self.length + bytes.len();
-        self.bytes[self.length..end].copy_from_slice(bytes);
-        self.length = end;
-    }
-
-    // The digits of a number: those of all but the last, then the last.
-    // Kept by hand: a formatter's text would have to be copied into the line, and says no more.
-    #[tactic(auto, using(crate::proofs::Decimal::decimal_one, crate::proofs::Decimal::decimal_more, std::proofs::lemmas::Grind::common_steps))]
-    fn decimal(&mut self, n: u64)
-        requires { length self.old + length (decimal n) ≤ LINE_LIMIT }
-        ensures { self.new ≡ self.old ++ decimal n }
-    {
-        if n < 10 {
-            self.push(b'0' + n as u8);
-        } else {
-            self.decimal(n / 10);
-            self.push(b'0' + (n % 10) as u8);
-        }
-    }
-
-    // A space, then the number.
-    pub fn field(&mut self, n: u64)
-        requires { length self.old + 1 + length (decimal n) ≤ LINE_LIMIT }
-        ensures { self.new ≡ self.old ++ space ∷ decimal n }
-    {
-        self.push(b' ');
-        self.decimal(n);
-    }
-
-    fn cell(&mut self, cell: Dimension)
-        requires { length self.old < LINE_LIMIT }
-        ensures { self.new ≡ self.old ++ sign cell ∷ [] }
-    {
-        self.push(u8::from(cell));
-    }
-
-    fn row(&mut self, row: [Dimension; 3])
-        requires { length self.old + 3 ≤ LINE_LIMIT }
-        ensures written { self.new ≡ self.old ++ map sign row }
-        ensures three { length self.new ≡ length self.old + 3 }
-    {
-        self.cell(row[0]);
-        self.cell(row[1]);
-        self.cell(row[2]);
-    }
-
-    // The nine cells, row by row.
-    pub fn cells(&mut self, cells: [[Dimension; 3]; 3])
-        requires { length self.old + 9 ≤ LINE_LIMIT }
-        ensures written { self.new ≡ self.old ++ cell_bytes cells }
-        ensures nine { length self.new ≡ length self.old + 9 }
-    {
-        self.row(cells[0]);
-        self.row(cells[1]);
-        self.row(cells[2]);
-    }
+// The nine cells, row by row.
+pub fn cells<const ROOM: usize>(line: &mut ArrayVec<u8, ROOM>, cells: [[Dimension; 3]; 3])
+    requires { array_vec_len line.old + 9 ≤ ROOM }
+    ensures written { line.new.items ≡ line.old.items ++ cell_bytes cells }
+    ensures nine { array_vec_len line.new ≡ array_vec_len line.old + 9 }
+{
+    append(line, cells.map(signs).as_flattened());
 }

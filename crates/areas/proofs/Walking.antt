@@ -2,8 +2,8 @@
 use Prim.Native.Nat.{ℕ, ◌+◌, ◌*◌, ◌≤◌}
 use native.Mathlib.Omega.{arith}
 use mathlib.Core.Path.{◌≡◌, refl, sym, ap, ap₂, ◌∙◌}
-use mathlib.Core.List.{List, []}
-use lib.IntN.{ℤ, pos, nat_abs, ◌+ℤ◌, +ℤ_idl, +ℤ_idr, +ℤ_assoc}
+use mathlib.Core.List.{List}
+use lib.IntN.{ℤ, pos, nat_abs, ◌+ℤ◌, +ℤ_idl, +ℤ_assoc}
 use Rattle.plane.specs.declared.Segment.{Segment}
 use Rattle.scene.specs.declared.Layout.{Layout}
 use Rattle.scene.specs.declared.Scene.{Scene}
@@ -14,12 +14,12 @@ use Rattle.flags.proofs.Elements.{outline_edges}
 use Rattle.plane.proofs.Machine.{nat_abs_sum}
 use Rattle.overlap.specs.declared.adjoining.Sides.{Sides}
 use Rattle.overlap.specs.Bytes.{merge}
-use Rattle.overlap.specs.Walked.{merged_from, NextSides, TwoRegions}
+use Rattle.overlap.specs.Walked.{merged_from, NextSides}
 use Rattle.overlap.proofs.Merging.{from_start}
 use Rattle.areas.specs.Parts.{total, shoelace, weighed, Part, in_both, in_f_only, in_g_only, belongs, share, part_area}
 use Rattle.areas.proofs.Bounds.{most_term, weighed_most}
 use Rattle.areas.specs.declared.sums.Sums.{Sums}
-use Rattle.areas.specs.Areas.{area_in, sum_of, Small, Added, Summed}
+use Rattle.areas.specs.Areas.{area_in, sum_of, Added}
 use Rattle.areas.proofs.Adding.{value_most}
 
 abbrev pub none : Sums
@@ -57,9 +57,6 @@ module _ (s : List ℕ) (sc : Scene) where
       ap (λ z. z +ℤ left p 0 0) (none_is p) ∙ +ℤ_idl (left p 0 0)
       ∙ sym (ap (total (shares p)) (ap₂ merge (outline_edges s sc.f ∙ from_start s sc.f) (outline_edges s sc.g ∙ from_start s sc.g)))
 
-  pub makes_end : (x : Sums) (i j : ℕ) → merged_from s sc.f sc.g i j ≡ [] → Makes x i j → Summed s sc x
-  makes_end x i j e h p = sym (+ℤ_idr (sum_of x p)) ∙ ap (λ m. sum_of x p +ℤ total (shares p) m) (sym e) ∙ h p
-
   module _ {i j k m : ℕ} {t : Segment} {f g : Sides} (n : NextSides s sc.f sc.g i j t f g k m) {x r : Sums} (a : Added x t f g r) where
     share_is : (p : Part) → weighed (belongs p f.above g.above) (belongs p f.below g.below) (shoelace t) ≡ shares p t
     share_is p =
@@ -76,6 +73,3 @@ module _ (s : List ℕ) (sc : Scene) where
     pub most_next : Most x (i + j) → Most r (k + m)
     most_next h p =
         omega (arith, ap nat_abs (a p), nat_abs_sum (sum_of x p) (weighed (belongs p f.above g.above) (belongs p f.below g.below) (shoelace t)), weighed_most (belongs p f.above g.above) (belongs p f.below g.below) (shoelace t), value_most t n.next.in_range_lem, h p, n.next.further)
-
-  pub most_small : TwoRegions s sc → {x : Sums} {i j : ℕ} → i ≤ sc.f.count → j ≤ sc.g.count → Most x (i + j) → Small x
-  most_small good b c h p = omega (arith, h p, few s sc.f good.0.f_sound.read, few s sc.g good.0.g_sound.read)

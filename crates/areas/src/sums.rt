@@ -6,7 +6,7 @@ ghost use Rattle.areas.specs.Areas.{Small, Added, Summed};
 
 use overlap::adjoining::Sides;
 use overlap::regions::Regions;
-use overlap::walk::MergedSides;
+use overlap::walk::{MergedSides, Sided};
 use plane::{Point, Segment};
 
 // The sums, one for each part.
@@ -26,13 +26,13 @@ fn shoelace(t: Segment) -> i64
 }
 
 // A sum and a term, which is added for what adjoins above and taken away for what adjoins below, so that both or neither leave the sum alone.
-fn added(sum: i64, above: bool, below: bool, v: i64) -> i64
+fn added(sum: i64, sides: Sides, v: i64) -> i64
     requires { (nat_abs sum ≤ 2 ^ 61) × (nat_abs v ≤ 2 ^ 61) }
-    ensures { result ≡ sum +ℤ weighed above below v }
+    ensures { result ≡ sum +ℤ weighed sides.above sides.below v }
 {
-    if above == below {
+    if sides.above == sides.below {
         sum
-    } else if above {
+    } else if sides.above {
         sum + v
     } else {
         sum - v
@@ -40,15 +40,15 @@ fn added(sum: i64, above: bool, below: bool, v: i64) -> i64
 }
 
 // The sums with one more segment.
-fn add(sums: Sums, t: Segment, f: Sides, g: Sides) -> Sums
-    requires { T (segment_in_range t) × Small sums }
-    ensures { Added sums t f g result }
+fn add(sums: Sums, next: Sided) -> Sums
+    requires { T (segment_in_range next.segment) × Small sums }
+    ensures { Added sums next.segment next.of_f next.of_g result }
 {
-    let v = shoelace(t);
+    let v = shoelace(next.segment);
     Sums {
-        both: added(sums.both, f.above && g.above, f.below && g.below, v),
-        f_only: added(sums.f_only, f.above && !g.above, f.below && !g.below, v),
-        g_only: added(sums.g_only, !f.above && g.above, !f.below && g.below, v),
+        both: added(sums.both, next.of_f.and(next.of_g), v),
+        f_only: added(sums.f_only, next.of_f.without(next.of_g), v),
+        g_only: added(sums.g_only, next.of_g.without(next.of_f), v),
     }
 }
 
@@ -62,7 +62,7 @@ pub fn sums_of(regions: Regions<'_>) -> Sums
         g_only: 0,
     };
     for next in MergedSides::of(regions) {
-        sums = add(sums, next.segment, next.of_f, next.of_g);
+        sums = add(sums, next);
     }
     sums
 }

@@ -4,7 +4,8 @@
 use scene::Shape;
 
 // What a taken scene's cells follow from, in the caller's order: the two types, the two vectors with every flag wanted, and which objects are empty.
-// Kept flat, and no pair of the two objects' parts: the definitions of the cells take the six one by one.
+// Kept flat, and no struct for each object: nine places name the fields (five functions, three definitions, a lemma). A struct would shorten `exchanged`, and the
+// lemma if a helper made it; the others would take it apart at once, since a matrix is read off the six one by one.
 #[derive(Clone, Copy)]
 pub struct Explored {
     pub f: Shape,

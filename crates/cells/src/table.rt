@@ -7,20 +7,13 @@ ghost use Rattle.cells_matrix.specs.Matrix.{value_if, length_or_points, no_cells
 ghost use Rattle.cells.specs.Explored.{matrix_from};
 
 use crate::Explored;
+use flags::has_bit as has;
 use plane_dimensions::Dimension;
 use plane_dimensions::Dimension::{Area, Empty, Length, Points};
 use scene::Shape;
 
-// Is bit k of a vector set?
-fn has(v: u16, k: u32) -> bool
-    requires { k < 16 }
-    ensures { result ≡ has_bit v k }
-{
-    v >> k & 1 == 1
-}
-
 // Is one of two bits set?
-fn has_either(v: u16, k: u32, l: u32) -> bool
+fn has_either(v: u16, k: usize, l: usize) -> bool
     requires { (k < 16) × (l < 16) }
     ensures { result ≡ (has_bit v k || has_bit v l) }
 {
@@ -46,18 +39,22 @@ fn length_or_points(segment: bool, point: bool) -> Dimension
 }
 
 // One matrix for each pair of types that does not descend: rows are interior, boundary, exterior of F, columns the same of G.
-// Kept as a function each: every one is a table of nine cells with names of its own for the bits.
+// Kept as a function each: nine cells of its own, read off the flags of its own pair of types, which the lines name.
 fn points_points(v: u16, w: u16) -> [[Dimension; 3]; 3]
     ensures { result ≡ matrix_of Shape.Points Shape.Points v w true true }
 {
     [
         [
-            value_if(Points, has(v, 1)),
+            value_if(Points, has(v, 1)), // poi_shared
             Empty,
-            value_if(Points, has(v, 0)),
+            value_if(Points, has(v, 0)), // poi_disjoint
         ],
         [Empty; 3],
-        [value_if(Points, has(w, 0)), Empty, Area],
+        [
+            value_if(Points, has(w, 0)), // poi_disjoint of G
+            Empty,
+            Area,
+        ],
     ]
 }
 
@@ -66,14 +63,14 @@ fn points_line(v: u16, w: u16, g_empty: bool) -> [[Dimension; 3]; 3]
 {
     [
         [
-            value_if(Points, has(v, 1)),
-            value_if(Points, has(v, 2)),
-            value_if(Points, has(v, 0)),
+            value_if(Points, has(v, 1)), // poi_on_interior
+            value_if(Points, has(v, 2)), // poi_on_bound
+            value_if(Points, has(v, 0)), // poi_disjoint
         ],
         [Empty; 3],
         [
             value_if(Length, !g_empty),
-            value_if(Points, has(w, 0)),
+            value_if(Points, has(w, 0)), // bound_poi_disjoint of G
             Area,
         ],
     ]
@@ -84,9 +81,9 @@ fn points_region(v: u16, g_empty: bool) -> [[Dimension; 3]; 3]
 {
     [
         [
-            value_if(Points, has(v, 0)),
-            value_if(Points, has(v, 1)),
-            value_if(Points, has(v, 2)),
+            value_if(Points, has(v, 0)), // poi_inside
+            value_if(Points, has(v, 1)), // poi_on_bound
+            value_if(Points, has(v, 2)), // poi_outside
         ],
         [Empty; 3],
         [value_if(Area, !g_empty), value_if(Length, !g_empty), Area],
@@ -98,18 +95,18 @@ fn line_line(v: u16, w: u16) -> [[Dimension; 3]; 3]
 {
     [
         [
-            length_or_points(has(v, 0), has(v, 1)),
-            value_if(Points, has(w, 1)),
-            value_if(Length, has(v, 2)),
+            length_or_points(has(v, 0), has(v, 1)), // seg_shared, interior_poi_shared
+            value_if(Points, has(w, 1)), // bound_on_interior of G
+            value_if(Length, has(v, 2)), // seg_unshared
         ],
         [
-            value_if(Points, has(v, 3)),
-            value_if(Points, has(v, 4)),
-            value_if(Points, has(v, 5)),
+            value_if(Points, has(v, 3)), // bound_on_interior
+            value_if(Points, has(v, 4)), // bound_shared
+            value_if(Points, has(v, 5)), // bound_disjoint
         ],
         [
-            value_if(Length, has(w, 0)),
-            value_if(Points, has(w, 2)),
+            value_if(Length, has(w, 0)), // seg_unshared of G
+            value_if(Points, has(w, 2)), // bound_disjoint of G
             Area,
         ],
     ]
@@ -120,16 +117,20 @@ fn line_region(v: u16, w: u16, g_empty: bool) -> [[Dimension; 3]; 3]
 {
     [
         [
-            value_if(Length, has(v, 0)),
-            length_or_points(has(v, 1), has(v, 3)),
-            value_if(Length, has(v, 2)),
+            value_if(Length, has(v, 0)), // seg_inside
+            length_or_points(has(v, 1), has(v, 3)), // seg_shared, poi_shared
+            value_if(Length, has(v, 2)), // seg_outside
         ],
         [
-            value_if(Points, has(v, 4)),
-            value_if(Points, has(v, 5)),
-            value_if(Points, has(v, 6)),
+            value_if(Points, has(v, 4)), // bound_inside
+            value_if(Points, has(v, 5)), // bound_shared
+            value_if(Points, has(v, 6)), // bound_disjoint
         ],
-        [value_if(Area, !g_empty), value_if(Length, has(w, 0)), Area],
+        [
+            value_if(Area, !g_empty),
+            value_if(Length, has(w, 0)), // seg_unshared of G
+            Area,
+        ],
     ]
 }
 
@@ -151,28 +152,32 @@ fn own_interior(own: u16, other: u16, opposite: bool) -> bool
 fn both_boundaries(v: u16) -> Dimension
     ensures { result ≡ length_or_points (has_bit v 4 || has_bit v 5 || has_bit v 6) (has_bit v 7) }
 {
-    if has(v, 4) || has(v, 5) || has(v, 6) {
-        Length
-    } else {
-        value_if(Points, has(v, 7))
-    }
+    length_or_points(has(v, 4) || has(v, 5) || has(v, 6), has(v, 7))
 }
 
 fn region_region(v: u16, w: u16) -> [[Dimension; 3]; 3]
     ensures { result ≡ matrix_of Shape.Region Shape.Region v w true true }
 {
-    let opposite = has(v, 6);
+    let opposite = has(v, 6); // (1/1)
     let inner = value_if(Area, both_interiors(v, w));
     let only_f = value_if(Area, own_interior(v, w, opposite));
     let only_g = value_if(Area, own_interior(w, v, opposite));
     [
-        [inner, value_if(Length, has_either(w, 2, 3)), only_f],
         [
-            value_if(Length, has_either(v, 2, 3)),
-            both_boundaries(v),
-            value_if(Length, has_either(v, 0, 1)),
+            inner,
+            value_if(Length, has_either(w, 2, 3)), // (1/2) or (2/1) of G
+            only_f,
         ],
-        [only_g, value_if(Length, has_either(w, 0, 1)), Area],
+        [
+            value_if(Length, has_either(v, 2, 3)), // (1/2) or (2/1)
+            both_boundaries(v),
+            value_if(Length, has_either(v, 0, 1)), // (0/1) or (1/0)
+        ],
+        [
+            only_g,
+            value_if(Length, has_either(w, 0, 1)), // (0/1) or (1/0) of G
+            Area,
+        ],
     ]
 }
 

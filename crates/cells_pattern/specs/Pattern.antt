@@ -13,7 +13,7 @@ use Rattle.plane_dimensions.specs.Dimensions.{Value, sign, not_empty}
 use Rattle.scene.specs.Read.{Condition, condition, unless}
 use Rattle.cells_matrix.specs.Matrix.{Part, index, parts}
 use Rattle.cells_pattern.specs.declared.pattern.Character.{Character}
-use Rattle.cells_pattern.specs.declared.pattern.Character.TheVariants.{NotEmpty, Is, Either}
+use Rattle.cells_pattern.specs.declared.pattern.Character.TheVariants.{NotEmpty, Is, Any}
 
 -- ---- a character and a cell
 
@@ -44,7 +44,7 @@ is_character c = eqb c must_be || is_sign c || eqb c either
 abbrev pub byte_of : Character → ℕ
 byte_of NotEmpty = must_be
 byte_of (Is d) = sign d
-byte_of Either = either
+byte_of Any = either
 
 -- what a byte may be read as: the character that it is, or, of none of the six, the reason to turn it away
 abbrev pub ReadAs : ℕ → Result Character Reason → Type 0

@@ -15,7 +15,7 @@ use std::marker::Model;
 pub enum Character {
     NotEmpty,
     Is(Dimension),
-    Either,
+    Any,
 }
 
 impl TryFrom<u8> for Character {
@@ -32,7 +32,7 @@ impl TryFrom<u8> for Character {
             b'0' => Ok(Character::Is(Dimension::Points)),
             b'1' => Ok(Character::Is(Dimension::Length)),
             b'2' => Ok(Character::Is(Dimension::Area)),
-            b'*' => Ok(Character::Either),
+            b'*' => Ok(Character::Any),
             _ => Err(Reason::NoCharacter),
         }
     }
@@ -43,7 +43,7 @@ impl Character {
     fn asks(self) -> bool
         ensures { result ≡ asks (byte_of self) }
     {
-        !matches!(self, Character::Either)
+        !matches!(self, Character::Any)
     }
 
     // Does a cell fit it?
@@ -53,7 +53,7 @@ impl Character {
         match self {
             Character::NotEmpty => cell != Dimension::Empty,
             Character::Is(value) => cell == value,
-            Character::Either => true,
+            Character::Any => true,
         }
     }
 }
@@ -83,7 +83,7 @@ impl Pattern {
         if p.len() != 9 {
             return Reason::NotNine.at(0);
         }
-        let mut characters = [Character::Either; 9];
+        let mut characters = [Character::Any; 9];
         for (place, byte) in p.iter().enumerate() {
             match Character::try_from(*byte) {
                 Ok(character) => characters[place] = character,

@@ -29,7 +29,7 @@ fn is_at_fault(pair: Pair<'_>, flaw: Flaw, i: usize) -> bool
     }
 }
 
-// The earliest record of an object that has a flaw. For 15, the other one is the scene's other object.
+// The earliest record of an object that has a flaw. For `TouchingAcross`, the other one is the scene's other object.
 pub fn fault_under(pair: Pair<'_>, flaw: Flaw) -> Option<usize>
     ensures { result ≡ fault_under pair.entry.bytes.now pair.entry.own pair.entry.other flaw }
 {

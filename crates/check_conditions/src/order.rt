@@ -61,6 +61,7 @@ pub fn is_ordered(o: Object<'_>) -> bool
 
 // ---- one element
 
+// Kept beside the pass: the pass asks the type once, this test at each element; and the pass does not know the index, which says the place.
 #[tactic(auto, unfolding(plane::specs::Plane::before), using(scene_segments::proofs::Elements::order_of_points, scene_segments::proofs::Elements::order_of_halves))]
 fn in_order(o: Object<'_>, i: usize, j: usize) -> bool
     requires { (i < o.layout.count) × (j < o.layout.count) }

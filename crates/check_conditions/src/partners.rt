@@ -42,11 +42,7 @@ fn has_partner(o: Object<'_>, i: usize) -> bool
     ensures { result ≡ has_partner o.entry.bytes.now o.entry.layout i }
 {
     let h = o.half(i);
-    let turned = Halfsegment {
-        is_left: !h.is_left,
-        ..h
-    };
-    let j = place_for(o, turned);
+    let j = place_for(o, h.other());
     j < o.layout.count && are_partners(h, o.ia(i), o.half(j), o.ia(j))
 }
 

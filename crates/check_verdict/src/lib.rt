@@ -31,7 +31,7 @@ const SCENE_FLAWS: [Flaw; 6] = [
 ];
 
 // The earliest record of one of two objects that has a flaw: of the first, or else of the second.
-// Kept as a match: tried with `Option::or_else`, where the check knows nothing of what the closure answers, so the proof did not close.
+// Kept as a match: for `Option::or_else` the closure needs a clause of its own, since none is inferred of it here, and that says `fault_under`'s once more.
 fn fault_in_either(pair: Pair<'_>, flaw: Flaw) -> Option<usize>
     ensures { result ≡ or_else (fault_under pair.entry.bytes.now pair.entry.own pair.entry.other flaw) (fault_under pair.entry.bytes.now pair.entry.other pair.entry.own flaw) }
 {

@@ -19,14 +19,13 @@ impl<'a> TakenScene<'a> {
     pub fn read(self) -> ReadScene<'a>
         ensures { (result.bytes.now ≡ self.entry.bytes.now) × (result.scene ≡ self.entry.scene) }
     {
-        ReadScene {
-            bytes: self.bytes,
-            scene: self.scene,
-        }
+        let TakenScene { bytes, scene } = self;
+        ReadScene { bytes, scene }
     }
 }
 
 /// A scene that is taken, with the sweep's notes of it.
+// Kept flat: with a `TakenScene` as a field it would need a function that makes it, as `Regions` (overlap) does, since bytes and notes are lent for different times.
 #[derive(Clone, Copy)]
 pub struct NotedScene<'a> {
     pub bytes: &'a [u8],
@@ -40,9 +39,7 @@ impl<'a> NotedScene<'a> {
     pub fn taken(self) -> TakenScene<'a>
         ensures { (result.bytes.now ≡ self.entry.bytes.now) × (result.scene ≡ self.entry.scene) }
     {
-        TakenScene {
-            bytes: self.bytes,
-            scene: self.scene,
-        }
+        let NotedScene { bytes, scene, .. } = self;
+        TakenScene { bytes, scene }
     }
 }

@@ -13,7 +13,7 @@ use plane::Point;
 const RANGE: u32 = 1_000_000;
 
 // The side of c against a segment from a to b, or that it is too close to tell.
-#[derive(Clone, Copy, PartialEq, Eq)]
+#[derive(Clone, Copy)]
 pub enum Side {
     Left,
     Right,

@@ -3,7 +3,7 @@
 
 ghost use Rattle.std.specs.Prelude.{◌≡◌, ◌<◌, ◌≤◌, ◌^◌, not, eqb};
 ghost use Rattle.std.specs.Int.Bits.{bit_and, bit_or};
-ghost use Rattle.flags.specs.Flags.{pack};
+ghost use Rattle.flags.specs.Flags.{pack, has_bit};
 
 // The vector of some flags, bit 0 first.
 // Kept as a loop: that each sum fits is told by its invariant, and the closure of a fold would have to ask for it.
@@ -16,6 +16,14 @@ pub fn packed<const N: usize>(flags: [bool; N]) -> u16
         vector = 2 * vector + flags[k] as u16;
     }
     vector
+}
+
+// Is bit k of a vector set? A set of cells is such a number too.
+pub fn has_bit(v: u16, k: usize) -> bool
+    requires { k < 16 }
+    ensures { result ≡ has_bit v k }
+{
+    v >> k & 1 == 1
 }
 
 // A set of marks, a bit of a number for each.

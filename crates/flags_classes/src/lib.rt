@@ -15,7 +15,7 @@ use sweep_notes::{Note, Notes};
 pub mod merged;
 
 // Which classes the segments of an object have beside the other object: with their own interior above them, or not. A line's have none.
-#[derive(Clone, Copy)]
+#[derive(Clone, Copy, Default)]
 pub struct Classes {
     // None of the other's, outside it or inside, by an even note or another: (0/1), (1/0), (1/2), (2/1).
     pub above_outside: bool,
@@ -28,7 +28,7 @@ pub struct Classes {
     pub opposite: bool,
 }
 
-#[derive(Clone, Copy)]
+#[derive(Clone, Copy, Default)]
 pub struct ClassesOfBoth {
     pub f: Classes,
     pub g: Classes,

@@ -95,6 +95,13 @@ has_stray all mask = not (eqb (only all mask) mask)
 abbrev pub any_stray : ℕ → ℕ → ℕ → ℕ → Bool
 any_stray f g wantF wantG = has_stray (mask_of_f f g) wantF || has_stray (mask_of_g f g) wantG
 
+-- is a flag of either mask none of `all`, and is one of them one of `some`?
+abbrev pub exceeds : FlagMasks → FlagMasks → Bool
+exceeds masks all = has_stray all.f masks.f || has_stray all.g masks.g
+
+abbrev pub meets : FlagMasks → FlagMasks → Bool
+meets masks some = not (eqb (only some.f masks.f) 0) || not (eqb (only some.g masks.g) 0)
+
 -- the same as a sentence on the object's flags
 abbrev pub Stray : List Bool → ℕ → Type 0
 Stray flags mask = (k : ℕ) × T (has_bit mask k) × (length flags ≤ k)

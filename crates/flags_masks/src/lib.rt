@@ -3,7 +3,7 @@
 
 ghost use Rattle.std.specs.Prelude.{◌≡◌, cond, map, ◌<◌, get_or};
 ghost use Rattle.scene.specs.Read.{shape_number};
-ghost use Rattle.flags_masks.specs.Wanted.{mask_of_f, mask_of_g, entry_of, place_in, cell_masks_in, masks_for, has_stray, any_stray};
+ghost use Rattle.flags_masks.specs.Wanted.{mask_of_f, mask_of_g, entry_of, place_in, cell_masks_in, masks_for, any_stray, exceeds, meets};
 
 use scene::{Scene, Shape};
 
@@ -15,8 +15,25 @@ pub struct FlagMasks {
     pub g: u16,
 }
 
-// No flag of either object.
-const NONE: FlagMasks = FlagMasks { f: 0, g: 0 };
+impl FlagMasks {
+    // No flag of either object.
+    pub const NONE: FlagMasks = FlagMasks { f: 0, g: 0 };
+
+    // Is there a flag here that is none of `all`?
+    #[tactic(auto, unfolding(crate::specs::Wanted::has_stray))]
+    pub fn exceeds(self, all: FlagMasks) -> bool
+        ensures { result ≡ exceeds self all }
+    {
+        self.f & all.f != self.f || self.g & all.g != self.g
+    }
+
+    // Is there a flag here that is one of `some`?
+    pub fn meets(self, some: FlagMasks) -> bool
+        ensures { result ≡ meets self some }
+    {
+        self.f & some.f != 0 || self.g & some.g != 0
+    }
+}
 
 // What is wanted of a scene: the flags of two masks, all that its pair of types has, or those that some of the nine cells are read off. Cells are a bit each, row
 // by row, in the caller's order. Kept as a word, and no nine bools: it is packed and read as flags are.
@@ -27,63 +44,63 @@ pub enum Wanted {
     Cells(u16),
 }
 
-// The flags that each pair has: a row for each type of F, a column for each type of G. F's type is never above G's.
-const FLAG_MASKS: [[FlagMasks; 3]; 3] = [
-    [
-        FlagMasks { f: 3, g: 1 },
-        FlagMasks { f: 7, g: 1 },
-        FlagMasks { f: 7, g: 0 },
-    ],
-    [NONE, FlagMasks { f: 63, g: 7 }, FlagMasks { f: 127, g: 1 }],
-    [NONE, NONE, FlagMasks { f: 255, g: 15 }],
-];
-
+// The flags that each pair of types has. F's type is never above G's.
+// Kept as two types, here and in flags_table: a function matches on both at once or hands them to one that does, and the definitions take them one by one; a
+// struct of the two would only be taken apart.
 pub fn masks_of(f: Shape, g: Shape) -> FlagMasks
     ensures { (result.f ≡ mask_of_f (shape_number f) (shape_number g)) × (result.g ≡ mask_of_g (shape_number f) (shape_number g)) }
 {
-    FLAG_MASKS[f as usize][g as usize]
+    match (f, g) {
+        (Shape::Points, Shape::Points) => FlagMasks { f: 3, g: 1 },
+        (Shape::Points, Shape::Line) => FlagMasks { f: 7, g: 1 },
+        (Shape::Points, Shape::Region) => FlagMasks { f: 7, g: 0 },
+        (Shape::Line, Shape::Line) => FlagMasks { f: 63, g: 7 },
+        (Shape::Line, Shape::Region) => FlagMasks { f: 127, g: 1 },
+        (Shape::Region, Shape::Region) => FlagMasks { f: 255, g: 15 },
+        (Shape::Line, Shape::Points) | (Shape::Region, Shape::Points | Shape::Line) =>
+            FlagMasks::NONE,
+    }
 }
 
-// The flags that each cell is read off: for each type of F and each type of G the nine cells, row by row.
-const CELL_MASKS: [[[FlagMasks; 9]; 3]; 3] = [
-    [
-        [
+// The flags that each cell of a scene's pair of types is read off, row by row.
+fn cell_masks(scene: Scene) -> [FlagMasks; 9]
+    ensures { result ≡ map entry_of (cell_masks_in scene) }
+{
+    match (scene.f.shape, scene.g.shape) {
+        (Shape::Points, Shape::Points) => [
             FlagMasks { f: 2, g: 0 },
-            NONE,
+            FlagMasks::NONE,
             FlagMasks { f: 1, g: 0 },
-            NONE,
-            NONE,
-            NONE,
+            FlagMasks::NONE,
+            FlagMasks::NONE,
+            FlagMasks::NONE,
             FlagMasks { f: 0, g: 1 },
-            NONE,
-            NONE,
+            FlagMasks::NONE,
+            FlagMasks::NONE,
         ],
-        [
+        (Shape::Points, Shape::Line) => [
             FlagMasks { f: 2, g: 0 },
             FlagMasks { f: 4, g: 0 },
             FlagMasks { f: 1, g: 0 },
-            NONE,
-            NONE,
-            NONE,
-            NONE,
+            FlagMasks::NONE,
+            FlagMasks::NONE,
+            FlagMasks::NONE,
+            FlagMasks::NONE,
             FlagMasks { f: 0, g: 1 },
-            NONE,
+            FlagMasks::NONE,
         ],
-        [
+        (Shape::Points, Shape::Region) => [
             FlagMasks { f: 1, g: 0 },
             FlagMasks { f: 2, g: 0 },
             FlagMasks { f: 4, g: 0 },
-            NONE,
-            NONE,
-            NONE,
-            NONE,
-            NONE,
-            NONE,
+            FlagMasks::NONE,
+            FlagMasks::NONE,
+            FlagMasks::NONE,
+            FlagMasks::NONE,
+            FlagMasks::NONE,
+            FlagMasks::NONE,
         ],
-    ],
-    [
-        [NONE; 9],
-        [
+        (Shape::Line, Shape::Line) => [
             FlagMasks { f: 3, g: 0 },
             FlagMasks { f: 0, g: 2 },
             FlagMasks { f: 4, g: 0 },
@@ -92,24 +109,20 @@ const CELL_MASKS: [[[FlagMasks; 9]; 3]; 3] = [
             FlagMasks { f: 32, g: 0 },
             FlagMasks { f: 0, g: 1 },
             FlagMasks { f: 0, g: 4 },
-            NONE,
+            FlagMasks::NONE,
         ],
-        [
+        (Shape::Line, Shape::Region) => [
             FlagMasks { f: 1, g: 0 },
             FlagMasks { f: 10, g: 0 },
             FlagMasks { f: 4, g: 0 },
             FlagMasks { f: 16, g: 0 },
             FlagMasks { f: 32, g: 0 },
             FlagMasks { f: 64, g: 0 },
-            NONE,
+            FlagMasks::NONE,
             FlagMasks { f: 0, g: 1 },
-            NONE,
+            FlagMasks::NONE,
         ],
-    ],
-    [
-        [NONE; 9],
-        [NONE; 9],
-        [
+        (Shape::Region, Shape::Region) => [
             FlagMasks { f: 60, g: 12 },
             FlagMasks { f: 0, g: 12 },
             FlagMasks { f: 67, g: 12 },
@@ -118,16 +131,11 @@ const CELL_MASKS: [[[FlagMasks; 9]; 3]; 3] = [
             FlagMasks { f: 3, g: 0 },
             FlagMasks { f: 76, g: 3 },
             FlagMasks { f: 0, g: 3 },
-            NONE,
+            FlagMasks::NONE,
         ],
-    ],
-];
-
-// The row of a scene's pair of types.
-fn cell_masks(scene: Scene) -> [FlagMasks; 9]
-    ensures { result ≡ map entry_of (cell_masks_in scene) }
-{
-    CELL_MASKS[scene.f.shape as usize][scene.g.shape as usize]
+        (Shape::Line, Shape::Points) | (Shape::Region, Shape::Points | Shape::Line) =>
+            [FlagMasks::NONE; 9],
+    }
 }
 
 // Where a cell of the caller's stands in the row of its pair: with the objects exchanged, rows are columns.
@@ -138,7 +146,7 @@ fn cell_place(turned: bool, at: usize) -> usize
     if turned { at % 3 * 3 + at / 3 } else { at }
 }
 
-// The flags that some cells are read off. The row is looked up once: a table is laid out anew wherever it is named.
+// The flags that some cells are read off.
 fn masks_of_cells(cells: u16, scene: Scene) -> FlagMasks
     ensures { result ≡ masks_for (Wanted.Cells cells) scene }
 {
@@ -147,7 +155,7 @@ fn masks_of_cells(cells: u16, scene: Scene) -> FlagMasks
     let mut f: u16 = 0;
     let mut g: u16 = 0;
     for at in 0..9 {
-        if cells >> at & 1 == 1 {
+        if flags::has_bit(cells, at) {
             let masks = row[cell_place(turned, at)];
             f |= masks.f;
             g |= masks.g;
@@ -161,13 +169,9 @@ fn masks_of_cells(cells: u16, scene: Scene) -> FlagMasks
 fn arranged(masks: FlagMasks, scene: Scene) -> FlagMasks
     ensures { result ≡ masks_for (Wanted.These masks) scene }
 {
-    if scene.is_turned() {
-        FlagMasks {
-            f: masks.g,
-            g: masks.f,
-        }
-    } else {
-        masks
+    FlagMasks {
+        f: scene.as_given(masks.f, masks.g),
+        g: scene.as_given(masks.g, masks.f),
     }
 }
 
@@ -183,17 +187,9 @@ pub fn masks_for(wanted: Wanted, scene: Scene) -> FlagMasks
     }
 }
 
-#[tactic(auto, unfolding(crate::specs::Wanted::has_stray))]
-fn has_stray(all: u16, mask: u16) -> bool
-    ensures { result ≡ has_stray all mask }
-{
-    mask & all != mask
-}
-
 // 9: is a bit wanted that has no flag?
 pub fn any_stray(scene: Scene, wanted: FlagMasks) -> bool
     ensures { result ≡ any_stray (shape_number scene.f.shape) (shape_number scene.g.shape) wanted.f wanted.g }
 {
-    let masks = masks_of(scene.f.shape, scene.g.shape);
-    has_stray(masks.f, wanted.f) || has_stray(masks.g, wanted.g)
+    wanted.exceeds(masks_of(scene.f.shape, scene.g.shape))
 }

@@ -16,7 +16,7 @@ use sweep_notes::{Note, Notes};
 
 /// How elements of F and of G meet at points: for each kind of point, whether there is one. By the number of an object's elements that have it, its degree
 /// there, a point is bound in the object if the boundary rule holds of the degree, and inner if some element has it and the rule does not hold.
-#[derive(Clone, Copy)]
+#[derive(Clone, Copy, Default)]
 pub struct Meetings {
     // Bound in F, and none of G's: outside G, inside G or on it, by an even note, an odd one, or `On`. Beside a line the first two are both "off it".
     pub bound_outside: bool,

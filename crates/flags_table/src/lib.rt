@@ -86,7 +86,7 @@ pub fn flags_of_f(f: Shape, g: Shape, m: Meetings, c: Classes) -> u16
 }
 
 // The vector of G with every flag, by the meetings of both objects and the classes of G.
-// Kept beside `flags_of_f`: the two are tables of their own, with other flags in every row.
+// Kept beside `flags_of_f`: the two are tables of their own. Of the rows that have flags only that of two regions begins alike, with the same four classes.
 pub fn flags_of_g(f: Shape, g: Shape, m: Meetings, c: Classes) -> u16
     ensures { result ≡ pack (flags_of_g_by f g m c) }
 {

@@ -14,22 +14,21 @@ fn class_flags(f: Shape, g: Shape) -> FlagMasks
         (Shape::Line, Shape::Line) => FlagMasks { f: 5, g: 1 },
         (Shape::Line, Shape::Region) => FlagMasks { f: 7, g: 1 },
         (Shape::Region, Shape::Region) => FlagMasks { f: 127, g: 15 },
-        _ => FlagMasks { f: 0, g: 0 },
+        _ => FlagMasks::NONE,
     }
 }
 
 // Is one of the wanted flags read off the meetings?
+#[tactic(auto, unfolding(flags_masks::specs::Wanted::has_stray))]
 pub fn reads_meetings(f: Shape, g: Shape, want: FlagMasks) -> bool
     ensures { result ≡ reads_meetings f g want.f want.g }
 {
-    let classes = class_flags(f, g);
-    want.f & classes.f != want.f || want.g & classes.g != want.g
+    want.exceeds(class_flags(f, g))
 }
 
 // Is one of the wanted flags read off the classes?
 pub fn reads_classes(f: Shape, g: Shape, want: FlagMasks) -> bool
     ensures { result ≡ reads_classes f g want.f want.g }
 {
-    let classes = class_flags(f, g);
-    want.f & classes.f != 0 || want.g & classes.g != 0
+    want.meets(class_flags(f, g))
 }

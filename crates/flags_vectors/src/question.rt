@@ -10,8 +10,7 @@ ghost use Rattle.flags_table.specs.Walks.{reads_meetings, reads_classes};
 ghost use Rattle.flags_vectors.specs.Vectors.{scene_vectors, given_vectors, these, check_vectors, answer_of, vectors_of, vectors_values, NoFlagWrong};
 
 use crate::{SceneVectors, Vectors};
-use check_verdict::taken::{NotedScene, TakenScene};
-use flags::MarkSet;
+use check_verdict::taken::NotedScene;
 use flags_classes::ClassesOfBoth;
 use flags_masks::{FlagMasks, Wanted};
 use flags_meetings::Meetings;
@@ -21,30 +20,27 @@ use scene_segments::ReadScene;
 use sweep_notes::Notes;
 
 // How the elements of a scene meet at points, where a wanted flag is read off that.
-fn wanted_meetings(taken: TakenScene<'_>, masks: FlagMasks, notes: &Notes) -> Meetings
-    ensures { T (reads_meetings taken.entry.scene.f.shape taken.entry.scene.g.shape masks.f masks.g) → result ≡ meetings taken.entry.bytes.now taken.entry.scene notes.now }
+fn wanted_meetings(noted: NotedScene<'_>, masks: FlagMasks) -> Meetings
+    ensures { T (reads_meetings noted.entry.scene.f.shape noted.entry.scene.g.shape masks.f masks.g) → result ≡ meetings noted.entry.bytes.now noted.entry.scene noted.entry.notes.now }
 {
-    let scene = taken.scene;
+    let scene = noted.scene;
     if walks::reads_meetings(scene.f.shape, scene.g.shape, masks) {
-        flags_meetings::meetings_of(taken.read().pair(), notes)
+        flags_meetings::meetings_of(noted.taken().read().pair(), noted.notes)
     } else {
-        MarkSet::NONE.into()
+        Meetings::default()
     }
 }
 
 // The classes of its segments, where a wanted flag is read off those.
-fn wanted_classes(taken: TakenScene<'_>, masks: FlagMasks, notes: &Notes) -> ClassesOfBoth
-    ensures { T (reads_classes taken.entry.scene.f.shape taken.entry.scene.g.shape masks.f masks.g)
-        → (result.f ≡ classes_of_f taken.entry.bytes.now taken.entry.scene notes.now) × (result.g ≡ classes_of_g taken.entry.bytes.now taken.entry.scene notes.now) }
+fn wanted_classes(noted: NotedScene<'_>, masks: FlagMasks) -> ClassesOfBoth
+    ensures { T (reads_classes noted.entry.scene.f.shape noted.entry.scene.g.shape masks.f masks.g)
+        → (result.f ≡ classes_of_f noted.entry.bytes.now noted.entry.scene noted.entry.notes.now) × (result.g ≡ classes_of_g noted.entry.bytes.now noted.entry.scene noted.entry.notes.now) }
 {
-    let scene = taken.scene;
+    let scene = noted.scene;
     if walks::reads_classes(scene.f.shape, scene.g.shape, masks) {
-        flags_classes::classes_of(taken, notes)
+        flags_classes::classes_of(noted.taken(), noted.notes)
     } else {
-        ClassesOfBoth {
-            f: MarkSet::NONE.into(),
-            g: MarkSet::NONE.into(),
-        }
+        ClassesOfBoth::default()
     }
 }
 
@@ -53,8 +49,8 @@ fn swept_vectors(noted: NotedScene<'_>, masks: FlagMasks) -> Vectors
     ensures { result ≡ scene_vectors noted.entry.bytes.now noted.entry.scene masks }
 {
     let scene = noted.scene;
-    let met = wanted_meetings(noted.taken(), masks, noted.notes);
-    let beside = wanted_classes(noted.taken(), masks, noted.notes);
+    let met = wanted_meetings(noted, masks);
+    let beside = wanted_classes(noted, masks);
     Vectors {
         f: flags_table::flags_of_f(scene.f.shape, scene.g.shape, met, beside.f) & masks.f,
         g: flags_table::flags_of_g(scene.f.shape, scene.g.shape, met, beside.g) & masks.g,
@@ -65,10 +61,9 @@ fn swept_vectors(noted: NotedScene<'_>, masks: FlagMasks) -> Vectors
 fn as_given(scene: Scene, v: Vectors) -> Vectors
     ensures { result ≡ given_vectors scene v }
 {
-    if scene.is_turned() {
-        Vectors { f: v.g, g: v.f }
-    } else {
-        v
+    Vectors {
+        f: scene.as_given(v.f, v.g),
+        g: scene.as_given(v.g, v.f),
     }
 }
 

@@ -1,10 +1,11 @@
 -- What C gets for each answer: number 0 means taken; a refusal has its number and place, no flag, nine F, no pattern that holds, no area, and a record of zeros. And what the signs of the cells mean.
-use Rattle.std.specs.Prelude.{ℕ, ◌≡◌, Option, Result, Ok, List, [], map, get_or, ℤ}
+use Rattle.std.specs.Prelude.{ℕ, ◌≡◌, Option, Result, Ok, Err, List, [], map, get_or, ℤ}
 use Rattle.plane.specs.declared.Point.{Point}
 use Rattle.plane_dimensions.specs.declared.Dimension.{Dimension}
 use Rattle.plane_dimensions.specs.Dimensions.{sign, Value}
 use Rattle.scene.specs.declared.Scene.{Scene}
 use Rattle.scene.specs.declared.Refusal.{Refusal}
+use Rattle.scene.specs.Read.{number_of}
 use Rattle.scene.specs.Conditions.{check_scene}
 use Rattle.flags_vectors.specs.Vectors.{VectorsAnswer, vectors_values}
 use Rattle.cells.specs.Explored.{CellsAnswer, cells_values, InCell}
@@ -29,6 +30,11 @@ use Rattle.karvoiss.specs.declared.KarvoissEstimate.{KarvoissEstimate}
 use Rattle.summary_window.specs.declared.InWindow.{InWindow}
 use Rattle.summary_window.specs.Window.{WindowValues, window_values}
 use Rattle.karvoiss.specs.declared.KarvoissInWindow.{KarvoissInWindow}
+
+-- the number and the place, of every answer alike
+abbrev pub outcome : {A : Type 0} → Result A Refusal → ℕ × ℕ
+outcome (Ok a) = (0, 0)
+outcome (Err r) = (number_of r.reason, r.place)
 
 abbrev pub vectors_for_c : VectorsAnswer → KarvoissVectors
 vectors_for_c e =

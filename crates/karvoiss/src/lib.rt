@@ -13,7 +13,7 @@ ghost use Rattle.areas.specs.Areas.{areas_of, PartsMakeWhole};
 ghost use Rattle.summary.specs.Summary.{asked_of};
 ghost use Rattle.summary_objects.specs.Objects.{GoodExactlyIfMade, ToldInFull, LookExactlyIfNear};
 ghost use Rattle.summary_making.specs.Making.{summary_answer_of};
-ghost use Rattle.karvoiss.specs.Answer.{vectors_for_c, row_signs, signs, cells_for_c, NoSignWrong, relate_for_c, overlap_for_c, areas_for_c, summary_for_c, far_for_c, at, estimate_for_c, in_window_for_c, from_c};
+ghost use Rattle.karvoiss.specs.Answer.{outcome, vectors_for_c, row_signs, signs, cells_for_c, NoSignWrong, relate_for_c, overlap_for_c, areas_for_c, summary_for_c, far_for_c, at, estimate_for_c, in_window_for_c, from_c};
 ghost use Rattle.estimate.specs.Estimate.{estimated, EstimateHolds};
 ghost use Rattle.summary_window.specs.Window.{answer_of, BadRight, HitsRight};
 
@@ -30,6 +30,20 @@ use summary_window::{InWindow, Window};
 
 // Each struct that C gets is made from the answer of its question: number 0 and the values, or a refusal's number and place with zeros beside them.
 // Kept as a struct and an `impl From` for each call, with number and place in each: they are the header's types.
+
+// The number and the place of an answer: zeros where it is taken.
+fn outcome<T>(answer: &Result<T, Refusal>) -> (u32, usize)
+    ensures { result ≡ outcome answer.now }
+{
+    match answer {
+        Ok(_) => (0, 0),
+        Err(r) => (u8::from(r.reason) as u32, r.place),
+    }
+}
+
+// The vectors beside a refusal, and beside "look".
+const NO_FLAG: Vectors = Vectors { f: 0, g: 0 };
+
 #[repr(C)]
 #[derive(Clone, Copy)]
 pub struct KarvoissVectors {
@@ -43,19 +57,13 @@ impl From<Result<Vectors, Refusal>> for KarvoissVectors {
     ghost from_gives = { λ answer c. c ≡ vectors_for_c answer };
 
     fn from(answer: Result<Vectors, Refusal>) -> KarvoissVectors {
-        match answer {
-            Ok(v) => KarvoissVectors {
-                number: 0,
-                place: 0,
-                f: v.f,
-                g: v.g,
-            },
-            Err(r) => KarvoissVectors {
-                number: u8::from(r.reason) as u32,
-                place: r.place,
-                f: 0,
-                g: 0,
-            },
+        let (number, place) = outcome(&answer);
+        let vectors = answer.unwrap_or(NO_FLAG);
+        KarvoissVectors {
+            number,
+            place,
+            f: vectors.f,
+            g: vectors.g,
         }
     }
 }
@@ -95,18 +103,11 @@ impl From<Result<Explored, Refusal>> for KarvoissCells {
     ghost from_gives = { λ answer c. c ≡ cells_for_c answer };
 
     fn from(answer: Result<Explored, Refusal>) -> KarvoissCells {
-        let cell = signs(cells::question::cells(answer));
-        match answer {
-            Ok(_) => KarvoissCells {
-                number: 0,
-                place: 0,
-                cell,
-            },
-            Err(r) => KarvoissCells {
-                number: u8::from(r.reason) as u32,
-                place: r.place,
-                cell,
-            },
+        let (number, place) = outcome(&answer);
+        KarvoissCells {
+            number,
+            place,
+            cell: signs(cells::question::cells(answer)),
         }
     }
 }
@@ -133,17 +134,11 @@ impl From<Result<bool, Refusal>> for KarvoissRelate {
     ghost from_gives = { λ answer c. c ≡ relate_for_c answer };
 
     fn from(answer: Result<bool, Refusal>) -> KarvoissRelate {
-        match answer {
-            Ok(holds) => KarvoissRelate {
-                number: 0,
-                place: 0,
-                holds,
-            },
-            Err(r) => KarvoissRelate {
-                number: u8::from(r.reason) as u32,
-                place: r.place,
-                holds: false,
-            },
+        let (number, place) = outcome(&answer);
+        KarvoissRelate {
+            number,
+            place,
+            holds: answer.unwrap_or(false),
         }
     }
 }
@@ -170,17 +165,11 @@ impl From<Result<usize, Refusal>> for KarvoissOverlap {
     ghost from_gives = { λ answer c. c ≡ overlap_for_c answer };
 
     fn from(answer: Result<usize, Refusal>) -> KarvoissOverlap {
-        match answer {
-            Ok(count) => KarvoissOverlap {
-                number: 0,
-                place: 0,
-                count,
-            },
-            Err(r) => KarvoissOverlap {
-                number: u8::from(r.reason) as u32,
-                place: r.place,
-                count: 0,
-            },
+        let (number, place) = outcome(&answer);
+        KarvoissOverlap {
+            number,
+            place,
+            count: answer.unwrap_or(0),
         }
     }
 }
@@ -209,21 +198,18 @@ impl From<Result<Sums, Refusal>> for KarvoissAreas {
     ghost from_gives = { λ answer c. c ≡ areas_for_c answer };
 
     fn from(answer: Result<Sums, Refusal>) -> KarvoissAreas {
-        match answer {
-            Ok(sums) => KarvoissAreas {
-                number: 0,
-                place: 0,
-                both: sums.both,
-                f_only: sums.f_only,
-                g_only: sums.g_only,
-            },
-            Err(r) => KarvoissAreas {
-                number: u8::from(r.reason) as u32,
-                place: r.place,
-                both: 0,
-                f_only: 0,
-                g_only: 0,
-            },
+        let (number, place) = outcome(&answer);
+        let sums = answer.unwrap_or(Sums {
+            both: 0,
+            f_only: 0,
+            g_only: 0,
+        });
+        KarvoissAreas {
+            number,
+            place,
+            both: sums.both,
+            f_only: sums.f_only,
+            g_only: sums.g_only,
         }
     }
 }
@@ -250,17 +236,11 @@ impl From<Result<Summary, Refusal>> for KarvoissSummary {
     ghost from_gives = { λ answer c. c ≡ summary_for_c answer };
 
     fn from(answer: Result<Summary, Refusal>) -> KarvoissSummary {
-        match answer {
-            Ok(summary) => KarvoissSummary {
-                number: 0,
-                place: 0,
-                record: writing::written(summary),
-            },
-            Err(r) => KarvoissSummary {
-                number: u8::from(r.reason) as u32,
-                place: r.place,
-                record: [0; 20],
-            },
+        let (number, place) = outcome(&answer);
+        KarvoissSummary {
+            number,
+            place,
+            record: answer.map_or([0; 20], writing::written),
         }
     }
 }
@@ -288,28 +268,19 @@ impl From<Result<Option<Vectors>, Refusal>> for KarvoissFar {
     ghost from_gives = { λ answer c. c ≡ far_for_c answer };
 
     fn from(answer: Result<Option<Vectors>, Refusal>) -> KarvoissFar {
-        match answer {
-            Ok(Some(v)) => KarvoissFar {
-                number: 0,
-                place: 0,
-                look: false,
-                f: v.f,
-                g: v.g,
-            },
-            Ok(None) => KarvoissFar {
-                number: 0,
-                place: 0,
-                look: true,
-                f: 0,
-                g: 0,
-            },
-            Err(r) => KarvoissFar {
-                number: u8::from(r.reason) as u32,
-                place: r.place,
-                look: false,
-                f: 0,
-                g: 0,
-            },
+        let (number, place) = outcome(&answer);
+        // Kept as a match, with the three answers side by side: by two `unwrap_or` a refusal, which is no "look", would first become `Some(NO_FLAG)`.
+        let (look, v) = match answer {
+            Ok(Some(v)) => (false, v),
+            Ok(None) => (true, NO_FLAG),
+            Err(_) => (false, NO_FLAG),
+        };
+        KarvoissFar {
+            number,
+            place,
+            look,
+            f: v.f,
+            g: v.g,
         }
     }
 }
@@ -376,19 +347,13 @@ impl From<Result<InWindow, Refusal>> for KarvoissInWindow {
     ghost from_gives = { λ answer c. c ≡ in_window_for_c answer };
 
     fn from(answer: Result<InWindow, Refusal>) -> KarvoissInWindow {
-        match answer {
-            Ok(seen) => KarvoissInWindow {
-                number: 0,
-                place: 0,
-                word: seen.word,
-                hits: seen.hits,
-            },
-            Err(r) => KarvoissInWindow {
-                number: u8::from(r.reason) as u32,
-                place: r.place,
-                word: 0,
-                hits: 0,
-            },
+        let (number, place) = outcome(&answer);
+        let seen = answer.unwrap_or(InWindow { word: 0, hits: 0 });
+        KarvoissInWindow {
+            number,
+            place,
+            word: seen.word,
+            hits: seen.hits,
         }
     }
 }

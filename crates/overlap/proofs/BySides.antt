@@ -9,10 +9,7 @@ use Rattle.flags.specs.Flags.{Edge}
 use Rattle.flags.specs.Elements.{edges}
 use Rattle.overlap.specs.declared.adjoining.Sides.{Sides}
 use Rattle.overlap.specs.Bytes.{byte_of}
-use Rattle.overlap.specs.Walked.{SidesAre, NextSides, NextByte}
-
-abbrev pub coded : Sides → Sides → ℕ
-coded x y = 3 * (bit x.below + bit y.below) + (bit x.above + bit y.above)
+use Rattle.overlap.specs.Walked.{SidesAre, coded, NextSides, NextByte}
 
 pub coded_byte : (F G : List Edge) (t : Segment) {x y : Sides} {r : ℕ} → r ≡ coded x y → SidesAre x F t → SidesAre y G t → r ≡ byte_of F G t
 coded_byte F G t e p q =

@@ -1,6 +1,7 @@
 -- What the walk over the different segments of two regions promises: the segments from an element on, and the next of both objects, with its sides and
 -- with its byte.
-use Rattle.std.specs.Prelude.{ℕ, ◌+◌, ◌-◌, ◌<◌, ◌≡◌, List, [], ◌∷◌, map, T, Option, Some, None}
+use Rattle.std.specs.Prelude.{ℕ, ◌+◌, ◌-◌, ◌*◌, ◌<◌, ◌≡◌, List, [], ◌∷◌, map, T, Option, Some, None}
+use Rattle.whole.specs.Count.{bit}
 use Rattle.plane.specs.declared.Segment.{Segment}
 use Rattle.plane.specs.Plane.{segment_in_range}
 use Rattle.scene.specs.declared.Layout.{Layout}
@@ -35,6 +36,10 @@ TwoRegions s sc = SoundScene s sc × T (is_region sc.f.shape) × T (is_region sc
 -- the sides where a region's interior adjoins the segment
 abbrev pub SidesAre : Sides → List Edge → Segment → Type 0
 SidesAre x R t = (x.below ≡ adjoins_below R t) × (x.above ≡ adjoins_above R t)
+
+-- the byte of a segment by the sides of the two regions
+abbrev pub coded : Sides → Sides → ℕ
+coded x y = 3 * (bit x.below + bit y.below) + (bit x.above + bit y.above)
 
 module _ (s : List ℕ) (f g : Layout) where
   pub record NextSides (i j : ℕ) (t : Segment) (x y : Sides) (k m : ℕ) : Type 0 where

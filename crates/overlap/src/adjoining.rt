@@ -1,5 +1,5 @@
 // The byte of a segment of two regions, by the sides where their interiors adjoin it: by ia, and by the sweep's note.
-ghost use Rattle.std.specs.Prelude.{◌≡◌, not, ◌+◌, ◌*◌, ◌<◌, eqb};
+ghost use Rattle.std.specs.Prelude.{◌≡◌, not, ◌&&◌, ◌+◌, ◌*◌, ◌<◌, eqb};
 ghost use Rattle.whole.specs.Count.{bit};
 ghost use Rattle.scene.specs.Conditions.{ia};
 ghost use Rattle.sweep_notes.specs.Numbers.{note_number};
@@ -7,11 +7,34 @@ ghost use Rattle.sweep_notes.specs.Numbers.{note_number};
 use scene_segments::Object;
 use sweep_notes::Note;
 
-// Whether the interior of a region adjoins a segment below (right, if vertical) and above (left).
+// Whether the interior of a region, or of a part of two, adjoins a segment below (right, if vertical) and above (left).
 #[derive(Clone, Copy)]
 pub struct Sides {
     pub below: bool,
     pub above: bool,
+}
+
+// Kept as `&`, which asks both sides always: by `&&` the areas question took up to 1.007 of the instructions.
+impl Sides {
+    // Of what is in both.
+    pub fn and(self, other: Sides) -> Sides
+        ensures { (result.below ≡ self.below && other.below) × (result.above ≡ self.above && other.above) }
+    {
+        Sides {
+            below: self.below & other.below,
+            above: self.above & other.above,
+        }
+    }
+
+    // Of what is in this one and not in the other.
+    pub fn without(self, other: Sides) -> Sides
+        ensures { (result.below ≡ self.below && not other.below) × (result.above ≡ self.above && not other.above) }
+    {
+        Sides {
+            below: self.below & !other.below,
+            above: self.above & !other.above,
+        }
+    }
 }
 
 // Of the segment of one of its own elements, by ia.

@@ -16,7 +16,8 @@ pub struct Regions<'a> {
 }
 
 impl<'a> Regions<'a> {
-    // A function, since a literal of it cannot take references of two lifetimes.
+    // Kept as a function: the borrow checker does not cover a literal here, whose `read`, a struct that holds a reference, is given one that lives longer than
+    // the notes. A call shortens it.
     pub fn of(read: ReadScene<'a>, notes: &'a Notes) -> Regions<'a>
         requires { TwoRegions read.bytes.now read.scene × Noted read.bytes.now read.scene notes.now }
         ensures { (result.read ≡ read.entry) × (result.notes.now ≡ notes.now) }

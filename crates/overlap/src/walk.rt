@@ -6,7 +6,7 @@ ghost use Rattle.scene.specs.Conditions.{is_region};
 ghost use Rattle.flags.specs.Elements.{edges};
 ghost use Rattle.flags_classes.proofs.Standing.{Standing};
 ghost use Rattle.overlap.specs.Bytes.{overlap_bytes};
-ghost use Rattle.overlap.specs.Walked.{SidesStepped};
+ghost use Rattle.overlap.specs.Walked.{coded, SidesStepped};
 
 use crate::adjoining;
 use crate::adjoining::Sides;
@@ -29,6 +29,15 @@ pub struct Sided {
     pub segment: Segment,
     pub of_f: Sides,
     pub of_g: Sides,
+}
+
+impl Sided {
+    // Its byte in the list.
+    pub fn byte(self) -> u8
+        ensures { result ≡ coded self.of_f self.of_g }
+    {
+        adjoining::coded(self.of_f, self.of_g)
+    }
 }
 
 /// A walk over the different segments of two regions: what is passed of either comes before all that is left of the other.

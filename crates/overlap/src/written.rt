@@ -2,11 +2,11 @@
 ghost use Rattle.std.specs.Prelude.{◌≡◌, ◌++◌, length, drop};
 ghost use Rattle.overlap.specs.Rules.{list_of, check_list};
 
-use crate::adjoining;
 use crate::regions::Regions;
 use crate::walk::MergedSides;
 
 // Writes the list from the start of a buffer with room for it, and says how long it is.
+// Counted by hand: the count is what is answered, and enumerate does not hand it out.
 pub fn write(regions: Regions<'_>, list: &mut [u8]) -> usize
     requires { check_list regions.read.bytes.now (length list.old) ≡ Ok regions.read.scene }
     ensures { (result ≡ length (list_of regions.entry.read.bytes.now regions.entry.read.scene))
@@ -14,7 +14,7 @@ pub fn write(regions: Regions<'_>, list: &mut [u8]) -> usize
 {
     let mut n: usize = 0;
     for next in MergedSides::of(regions) {
-        list[n] = adjoining::coded(next.of_f, next.of_g);
+        list[n] = next.byte();
         n += 1;
     }
     n

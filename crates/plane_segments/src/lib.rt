@@ -24,10 +24,7 @@ pub fn dominating_point(h: Halfsegment) -> Point
 pub fn far_end(h: Halfsegment) -> Point
     ensures { result ≡ far_end h }
 {
-    dominating_point(Halfsegment {
-        is_left: !h.is_left,
-        ..h
-    })
+    dominating_point(h.other())
 }
 
 // A function and no `Ord` of halfsegments: it asks that their ends are in range, and a `cmp` can ask nothing.

@@ -1,4 +1,6 @@
 // What stands in the bytes at an offset: coordinates, points, segments, halfsegments, each where its record has it.
+// Kept with the bytes and the offset side by side, here and where records are read: the definitions (`point_at s at`) have them so, and a record as a type would be
+// made at each call, to be taken apart in it.
 ghost use Rattle.std.specs.Prelude.{◌≡◌, ◌+◌, ◌≤◌, length};
 ghost use Rattle.scene.specs.Read.{coordinate, point_from, point_at, segment_at, halfsegment_at, ia_at};
 

@@ -14,7 +14,7 @@ pub enum Shape {
 }
 
 // What a record is, by its kind byte: a type record starts an object.
-// Kept with `Unknown`, and no Option of a kind: each match on it names the four side by side.
+// Kept with `Unknown`, and no Option of a kind: every byte has a kind in the definitions too (`kind_of`), and where it is wrong, it is so beside other kinds.
 #[derive(Clone, Copy)]
 pub enum Kind {
     Start,
@@ -39,7 +39,7 @@ pub struct Scene {
 }
 
 // What can be wrong with objects whose records are good: the conditions 10 to 15.
-#[derive(Clone, Copy, PartialEq, Eq)]
+#[derive(Clone, Copy)]
 pub enum Flaw {
     Misplaced,
     Unpaired,
@@ -65,7 +65,7 @@ impl From<Flaw> for u8 {
 }
 
 // Why something is turned away, each with its number in document 01's table or in the request that it came with. 8 is no longer given.
-#[derive(Clone, Copy, PartialEq, Eq)]
+#[derive(Clone, Copy)]
 pub enum Reason {
     CutShort,
     WrongKind,

@@ -51,19 +51,13 @@ impl Shape {
     pub fn has_segments(self) -> bool
         ensures { result ≡ has_segments self }
     {
-        match self {
-            Shape::Points => false,
-            Shape::Line | Shape::Region => true,
-        }
+        matches!(self, Shape::Line | Shape::Region)
     }
 
     pub fn is_region(self) -> bool
         ensures { result ≡ is_region self }
     {
-        match self {
-            Shape::Points | Shape::Line => false,
-            Shape::Region => true,
-        }
+        matches!(self, Shape::Region)
     }
 
     // How many bytes the record of an element takes.

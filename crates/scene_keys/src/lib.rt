@@ -3,8 +3,8 @@
 #![tactic(auto)]
 
 ghost use Rattle.std.specs.Prelude.{◌≡◌, ◌+◌, ◌*◌, ◌<◌, ◌≤◌, T, nat_abs, length};
-ghost use Rattle.plane.specs.Plane.{limit, in_range, dominating};
-ghost use Rattle.scene.specs.Read.{halfsegment_at, size, place};
+ghost use Rattle.plane.specs.Plane.{limit, in_range};
+ghost use Rattle.scene.specs.Read.{size, place};
 ghost use Rattle.scene_keys.specs.Keyed.{raised, key, point_in, next_key};
 
 use plane::Point;
@@ -15,7 +15,7 @@ use scene_segments::Object;
 const ROOM: u64 = 33_554_432;
 
 // The key past the last element, above that of every point.
-// Kept as a number: with an Option, two keys would be compared in four cases, where the order of numbers has them all.
+// Kept as a number: the end has to come after every point, and of an Option `None` comes first.
 pub const TOP: u64 = ROOM * ROOM;
 
 // A coordinate, counted from the least.
@@ -34,16 +34,6 @@ fn key(p: Point) -> u64
     ROOM * raised(p.x) + raised(p.y)
 }
 
-// The dominating point of the halfsegment at an offset, without a branch.
-// Kept beside `plane_segments::dominating_point`: it reads that point alone, and not the whole halfsegment.
-fn dominating(s: &[u8], at: usize) -> Point
-    requires { at + 18 ≤ length s.now }
-    ensures { result ≡ dominating (halfsegment_at s.now at) }
-{
-    let is_right = s[at + 17] != 1;
-    bytes::point(s, at + 8 * (is_right as usize))
-}
-
 // The point of the element at an offset.
 fn point_of(s: &[u8], k: Shape, at: usize) -> Point
     requires { at + size k ≤ length s.now }
@@ -51,7 +41,9 @@ fn point_of(s: &[u8], k: Shape, at: usize) -> Point
 {
     match k {
         Shape::Points => bytes::point(s, at),
-        Shape::Line | Shape::Region => dominating(s, at),
+        Shape::Line | Shape::Region => {
+            plane_segments::dominating_point(bytes::halfsegment(s, at))
+        }
     }
 }
 

@@ -28,7 +28,8 @@ fn are_fields_good(s: &[u8], k: Shape, at: usize) -> bool
 }
 
 // Does an element of the object's type stand at an offset, without fault?
-// Kept beside `element_record`: to say only whether a record is good takes far fewer instructions than to find what is wrong with it (docs/DECISIONS.md).
+// Kept beside `element_record`: through it, which finds what is wrong with a record, reading took 1.25 times the instructions for points and 1.11 times for lines
+// and regions (docs/DECISIONS.md).
 fn is_faultless(s: &[u8], k: Shape, at: usize) -> bool
     requires { at ≤ length s.now }
     ensures { (T result → IsElement s.now k at) × (IsElement s.now k at → T result) }

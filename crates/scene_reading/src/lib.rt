@@ -11,6 +11,8 @@ use scene::{Kind, Layout, Reason, Refusal, Scene, Shape, bytes, records};
 pub mod faultless;
 
 // 4 and 5 of a halfsegment record.
+// Kept with the record's kind in the answer, here and below, though the one caller asks only whether the record is good: so each contract is the definition's own
+// answer (`record_at`), and needs no other.
 fn segment_fields(segment: Segment, at: usize, k: Shape) -> Result<Kind, Refusal>
     ensures { result ≡ segment_fields segment at k }
 {

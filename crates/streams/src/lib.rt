@@ -1,7 +1,8 @@
 // What the programs read and write by: a reader into a lent buffer, and a writer that many short pieces go to.
 #![tactic(auto)]
 
-ghost use Rattle.std.specs.Prelude.{◌≡◌, ◌<◌, ◌↔◌, length, take, None, Err, IsTrue, IsSome, IsOk, IfSome, IfNone, OnOk};
+ghost use Rattle.std.specs.Prelude.{◌≡◌, ◌<◌, ◌↔◌, length, take, None, Err, IsTrue, IsSome, Ok, IsOk, IfSome, IfNone, OnOk};
+ghost use Rattle.std.specs.Fn.{FnOnceReturnsAtMut};
 ghost use Rattle.std.specs.Io.KnownBytes.{Appends, Consumes, IsAtEnd};
 ghost use Rattle.streams.specs.Counts.{IsPrefixLen};
 
@@ -10,6 +11,7 @@ use std::io;
 use std::io::{Read, Write};
 
 // Reads until buf is full, the input ends or a read fails. Answers how many bytes stand at the start of buf, and the failure, if it is that which ended it.
+// Kept as a loop: std's calls that read on either fail where the input ends early or need the heap.
 // Kept as a count: a contract names what buf holds after the call only where no slice of it is handed out, and what was read before a failure counts too.
 pub fn read_full<R: Read>(input: &mut R, buf: &mut [u8]) -> (usize, io::Result<()>)
     ensures in_bounds { IsPrefixLen result.0 buf.new }
@@ -42,16 +44,32 @@ impl<W: Write> Output<W> {
         Output { to, failure: None }
     }
 
+    // Runs a write, where no earlier one failed. Answers whether none has.
+    fn attempt<F: FnOnce(&mut W) -> io::Result<()>>(&mut self, write: F) -> bool
+        requires { F.IsAlwaysCallable write }
+        ensures ran { IsTrue result → FnOnceReturnsAtMut F.FnOnce write self.old.to (Ok tt) self.new.to }
+        ensures well { IsTrue result ↔ (self.new.failure ≡ None) }
+        ensures stays { IsSome self.old.failure → self.new ≡ self.old }
+    {
+        if self.failure.is_some() {
+            return false;
+        }
+        match write(&mut self.to) {
+            Ok(()) => true,
+            Err(e) => {
+                self.failure = Some(e);
+                false
+            }
+        }
+    }
+
     // Writes all of the bytes. Answers false where they could not be written, or an earlier write failed.
     pub fn write(&mut self, bytes: &[u8]) -> bool
         ensures written { IsTrue result → Appends (W.contents self.old.to) (W.contents self.new.to) bytes.now }
         ensures well { IsTrue result ↔ (self.new.failure ≡ None) }
         ensures stays { IsSome self.old.failure → self.new ≡ self.old }
     {
-        if self.failure.is_none() {
-            self.failure = self.to.write_all(bytes).err();
-        }
-        self.failure.is_none()
+        self.attempt(|to| to.write_all(bytes))
     }
 
     // Writes what `{}` writes of a value, as `write` does: `write!` and `writeln!` call it.
@@ -60,10 +78,7 @@ impl<W: Write> Output<W> {
         ensures well { IsTrue result ↔ (self.new.failure ≡ None) }
         ensures stays { IsSome self.old.failure → self.new ≡ self.old }
     {
-        if self.failure.is_none() {
-            self.failure = self.to.write_fmt(value).err();
-        }
-        self.failure.is_none()
+        self.attempt(|to| to.write_fmt(value))
     }
 
     // The first failure, if a write failed.

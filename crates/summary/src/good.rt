@@ -1,16 +1,9 @@
 // Good and bad summaries: range, order, the empty rule, and what each type asks of box and boundary byte.
 ghost use Rattle.std.specs.Prelude.{◌≡◌};
-ghost use Rattle.summary.specs.Summary.{is_origin, is_flat, is_point, good_box, good_for, is_good};
+ghost use Rattle.summary.specs.Summary.{is_flat, is_point, good_box, good_for, is_good};
 
 use crate::{Bounds, Summary};
-use plane::Point;
 use scene::Shape;
-
-fn is_origin(p: Point) -> bool
-    ensures { result ≡ is_origin p }
-{
-    p == Point::ORIGIN
-}
 
 impl Bounds {
     fn is_flat(self) -> bool
@@ -42,9 +35,7 @@ impl Summary {
         ensures { result ≡ good_for self.shape self.empty self.bounds self.boundary }
     {
         if self.empty {
-            return is_origin(self.bounds.least)
-                && is_origin(self.bounds.greatest)
-                && !self.boundary;
+            return self.bounds == Bounds::NOWHERE && !self.boundary;
         }
         match self.shape {
             Shape::Points => !self.boundary,

@@ -13,8 +13,16 @@ pub struct Bounds {
     pub greatest: Point,
 }
 
+impl Bounds {
+    // "an empty object has four zeros"
+    pub const NOWHERE: Bounds = Bounds {
+        least: Point::ORIGIN,
+        greatest: Point::ORIGIN,
+    };
+}
+
 // Kept with `empty` beside a box, and no Option of a box: that is what its 20 bytes have, four zeros for an empty object.
-#[derive(Clone, Copy, PartialEq, Eq)]
+#[derive(Clone, Copy)]
 pub struct Summary {
     pub shape: Shape,
     pub empty: bool,

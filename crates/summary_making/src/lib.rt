@@ -3,16 +3,15 @@
 // object's boundary has a point: so the checks, and the rule of the boundary, are those of the vectors question.
 #![tactic(auto)]
 
-ghost use Rattle.std.specs.Prelude.{◌≡◌, not, [], Ok};
+ghost use Rattle.std.specs.Prelude.{◌≡◌, not, Ok};
 ghost use Rattle.scene.specs.Conditions.{check_object};
 ghost use Rattle.check_verdict.specs.SharedPoints.{CheckedObjectMeans};
 ghost use Rattle.flags.specs.Flags.{Elements, pack};
-ghost use Rattle.summary.specs.Summary.{flags_f, shape_of, has_boundary, is_empty, box_of};
+ghost use Rattle.summary.specs.Summary.{flags_f, shape_of, has_boundary, is_empty};
 ghost use Rattle.summary_objects.specs.Objects.{summary_in};
 ghost use Rattle.summary_making.specs.Making.{beside_empty, summary_answer_of};
 
-use plane::Point;
-use scene::{Layout, Refusal, Shape};
+use scene::{Refusal, Shape};
 use scene_segments::Object;
 use summary::{Bounds, Summary};
 
@@ -20,52 +19,41 @@ pub mod beside;
 pub mod bounds;
 
 // Has the boundary a point? A line's has where bound_disjoint is set, its flag 5 beside an empty line.
+#[tactic(auto, using(flags::proofs::Bits::pack_bit))]
 fn has_boundary(k: Shape, empty: bool, v: u16) -> bool
     ensures { (F : Elements) → shape_of F ≡ k → is_empty F ≡ empty → v ≡ pack (flags_f k k (not empty) (has_boundary F)) → result ≡ has_boundary F }
 {
     match k {
         Shape::Points => false,
-        Shape::Line => 32 <= v,
+        Shape::Line => flags::has_bit(v, 5),
         Shape::Region => !empty,
     }
 }
 
-// "an empty object has four zeros"
-fn nowhere() -> Bounds
-    ensures { result ≡ box_of [] }
-{
-    Bounds {
-        least: Point::ORIGIN,
-        greatest: Point::ORIGIN,
-    }
-}
-
 // The box of an accepted object.
-fn bounds_in(s: &[u8], l: Layout) -> Bounds
-    requires { check_object s.now ≡ Ok l }
-    ensures { result ≡ (summary_in s.now l).bounds }
+fn bounds_in(o: Object<'_>) -> Bounds
+    requires { check_object o.bytes.now ≡ Ok o.layout }
+    ensures { result ≡ (summary_in o.entry.bytes.now o.entry.layout).bounds }
 {
-    if l.count == 0 {
-        nowhere()
+    if o.layout.count == 0 {
+        Bounds::NOWHERE
     } else {
-        bounds::bounds_of(Object {
-            bytes: s,
-            layout: l,
-        })
+        bounds::bounds_of(o)
     }
 }
 
 // The summary of an accepted object, from its vector beside an empty one of its type.
-fn made(s: &[u8], l: Layout, v: u16) -> Summary
-    requires { (check_object s.now ≡ Ok l) × (v ≡ beside_empty (summary_in s.now l)) }
-    ensures { result ≡ summary_in s.now l }
+fn made(o: Object<'_>, v: u16) -> Summary
+    requires { (check_object o.bytes.now ≡ Ok o.layout) × (v ≡ beside_empty (summary_in o.bytes.now o.layout)) }
+    ensures { result ≡ summary_in o.entry.bytes.now o.entry.layout }
 {
-    let empty = l.count == 0;
+    let shape = o.layout.shape;
+    let empty = o.layout.count == 0;
     Summary {
-        shape: l.shape,
+        shape,
         empty,
-        bounds: bounds_in(s, l),
-        boundary: has_boundary(l.shape, empty, v),
+        bounds: bounds_in(o),
+        boundary: has_boundary(shape, empty, v),
     }
 }
 
@@ -73,7 +61,8 @@ fn made(s: &[u8], l: Layout, v: u16) -> Summary
 pub fn summarize(s: &[u8]) -> Result<Summary, Refusal>
     ensures { (result ≡ summary_answer_of s.now) × CheckedObjectMeans s.now (check_object s.now) }
 {
-    let l = scene_reading::read_alone(s)?;
-    let answer = beside::answer(s, l.shape)?;
-    Ok(made(s, l, answer.vectors.f))
+    let layout = scene_reading::read_alone(s)?;
+    let o = Object { bytes: s, layout };
+    let answer = beside::answer(s, layout.shape)?;
+    Ok(made(o, answer.vectors.f))
 }

@@ -88,6 +88,7 @@ fn judge(w: Window, s: &[u8]) -> Result<InWindow, Refusal>
     })
 }
 
+// Kept apart from `in_window`: what the answer says in points is shown of the whole answer there, and not at each return here.
 #[tactic(auto, unfolding(crate::specs::Window::answer_of))]
 fn answer(w: Window, s: &[u8]) -> Result<InWindow, Refusal>
     ensures { result ≡ answer_of w s.now }

@@ -24,6 +24,9 @@ use sweep_status::place::Entries;
 pub mod evenly;
 pub mod points;
 
+// As many segments as both objects may have, each of which is two halfsegments.
+const ROOM: usize = 1024;
+
 /// A scene where it was read, each of whose objects is in order: 10 finds no fault.
 #[derive(Clone, Copy)]
 pub struct OrderedScene<'a> {
@@ -61,11 +64,11 @@ fn take_event(
     read: &ReadScene<'_>,
     first: bool,
     k: usize,
-    status: &mut Status,
+    status: &mut Status<ROOM>,
     notes: &Notes,
 ) -> Option<Note>
     requires { (k < total read.now.bytes.now read.now.scene first) × Held read.now.bytes.now read.now.scene status.old }
-    ensures { Steps (Taken read.now.bytes.now read.now.scene first k notes.now status.old status.new) ((is_beginning read.now.bytes.now read.now.scene first k ≡ true → length status.old < 1024) × CanTake read.now.bytes.now read.now.scene first k status.old) result }
+    ensures { Steps (Taken read.now.bytes.now read.now.scene first k notes.now status.old status.new) ((is_beginning read.now.bytes.now read.now.scene first k ≡ true → length status.old < ROOM) × CanTake read.now.bytes.now read.now.scene first k status.old) result }
 {
     let object = read.object(first);
     let event = Event {
@@ -87,17 +90,16 @@ fn take_event(
 }
 
 // All events, one after the other. No segment is active at the end.
-// Kept as a loop: which of the two cursors goes on is found anew at each turn.
 fn run_events(ordered: OrderedScene<'_>, notes: &mut Notes) -> bool
     requires { RegionsEndEvenly ordered.read.bytes.now ordered.read.scene }
     ensures { Decides (Passes ordered.entry.read.bytes.now ordered.entry.read.scene) result × (T result → SegmentsNoted ordered.entry.read.bytes.now ordered.entry.read.scene notes.new) }
 {
     let read = ordered.read;
     let all = event_count(read.scene.f) + event_count(read.scene.g);
-    let mut status = Status::new();
+    let mut status = Status::<ROOM>::new();
     let mut f = Cursor::first(read.object(true));
     let mut g = Cursor::first(read.object(false));
-    while f.index + g.index < all {
+    for _ in 0..all {
         let first = takes_first(read, &f, &g);
         let k = if first { f.index } else { g.index };
         let Some(note) = take_event(&read, first, k, &mut status, notes) else {

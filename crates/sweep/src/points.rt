@@ -12,7 +12,7 @@ ghost use Rattle.sweep_laws.specs.Noted.{Noted};
 ghost use Rattle.sweep_laws.specs.Swept.{total, Passes};
 ghost use Rattle.sweep_notes.specs.Numbers.{note_number};
 
-use crate::OrderedScene;
+use crate::{OrderedScene, ROOM};
 use plane::{Point, Turn};
 use scene_segments::ReadScene;
 use sweep_notes::{Note, Notes};
@@ -53,12 +53,11 @@ fn is_point_next(read: ReadScene<'_>, i: usize, j: usize) -> bool
 }
 
 // The points from i on that come before G's halfsegment j: the index of the first that does not.
-// Kept as a loop: the test of the next point ends it, and its index is what is asked for.
 fn note_points(
     read: &ReadScene<'_>,
     i: usize,
     j: usize,
-    status: &Status,
+    status: &Status<ROOM>,
     notes: &mut Notes,
 ) -> usize
     requires { (read.now.scene.f.shape ≡ Points) × (i ≤ read.now.scene.f.count) × (j ≤ total read.now.bytes.now read.now.scene false) × Held read.now.bytes.now read.now.scene status.now }
@@ -68,12 +67,13 @@ fn note_points(
         bytes: read.bytes,
         offsets: status.entries(),
     };
-    let mut k = i;
-    while is_point_next(*read, k, j) {
+    for k in i..read.scene.f.count {
+        if !is_point_next(*read, k, j) {
+            return k;
+        }
         notes.write(true, k, locate(entries, read.object(true).point(k)));
-        k += 1;
     }
-    k
+    read.scene.f.count
 }
 
 // All points of F and all halfsegments of G, one after the other. No segment is active at the end.
@@ -84,7 +84,7 @@ pub fn run_points(ordered: OrderedScene<'_>, notes: &mut Notes) -> bool
 {
     let read = ordered.read;
     let all = crate::event_count(read.scene.g);
-    let mut status = Status::new();
+    let mut status = Status::<ROOM>::new();
     let mut i: usize = 0;
     for j in 0..all {
         i = note_points(&read, i, j, &status, notes);

@@ -5,21 +5,15 @@ ghost use Rattle.sweep_laws.specs.Swept.{slot, object_of};
 ghost use Rattle.sweep_laws.specs.Held.{Placed};
 ghost use Rattle.sweep_notes.specs.Numbers.{note_number};
 
-use scene::{Layout, Scene, Shape};
+use scene::{Layout, Scene};
 use sweep_notes::{Note, Notes};
 
 // The index of the element whose record stands at an offset.
-// Kept as three divisions: each is by a constant, which costs a multiplication; one division by a size that is looked up is slower.
 fn index_at(l: Layout, at: usize) -> usize
     requires { l.start + 2 ≤ at }
     ensures { (k : ℕ) → at ≡ place l k → result ≡ k }
 {
-    let d = at - l.start - 2;
-    match l.shape {
-        Shape::Points => d / 9,
-        Shape::Line => d / 18,
-        Shape::Region => d / 19,
-    }
+    (at - l.start - 2) / l.shape.size()
 }
 
 // The note of that element.

@@ -10,9 +10,9 @@ ghost use Rattle.sweep_laws.specs.Status.{AtPlace, BelowPlace};
 ghost use Rattle.sweep_laws.specs.Event.{Place, Bracket, LowerNext, FitsOver, CanMeet};
 ghost use Rattle.sweep_laws.specs.Held.{Readable};
 
-use crate::owner::{self, Event};
+use crate::owner;
 use plane::{Point, Segment, Turn};
-use scene::bytes;
+use scene::{Scene, bytes};
 
 // ---- the tests of an entry, whose segment is u
 
@@ -24,16 +24,12 @@ fn is_under(u: Segment, p: Point) -> bool
     plane::turns(u.left, u.right, p, Turn::Left)
 }
 
-// Asked of many entries for each event, so the box of u is looked at here.
 #[tactic(auto, using(plane::proofs::Machine::turn_asks))]
 fn is_over(u: Segment, p: Point) -> bool
     requires { T (segment_in_range u) × T (in_range p) }
     ensures { result ≡ passes_over u p }
 {
-    match plane::beside_box(u.left, u.right, p) {
-        Some(way) => way == Turn::Right,
-        None => plane::turns(u.left, u.right, p, Turn::Right),
-    }
+    plane::turns(u.left, u.right, p, Turn::Right)
 }
 
 // Does it begin with t, and turn left into it?
@@ -174,16 +170,16 @@ impl<'a> Entries<'a> {
     // ---- a place for a segment, and a place that falls free
 
     // Does the entry just below place k belong under the segment that begins, and is it the lower of the two at the right?
-    pub fn fits_over(self, event: Event<'_>, k: usize) -> bool
-        requires { GoodHalfsegment self.bytes.now event.at × (k ≤ length self.offsets.now) }
-        ensures { Decides (BelowPlace self.entry.offsets.now k (FitsOver self.entry.bytes.now event.entry.read.scene event.entry.first event.entry.at)) result }
+    pub fn fits_over(self, scene: Scene, first: bool, at: usize, k: usize) -> bool
+        requires { GoodHalfsegment self.bytes.now at × (k ≤ length self.offsets.now) }
+        ensures { Decides (BelowPlace self.entry.offsets.now k (FitsOver self.entry.bytes.now scene first at)) result }
     {
         if k == 0 {
             return true;
         }
-        let own = event.first == owner::is_first(event.read.scene, self.offsets[k - 1] as usize);
+        let own = first == owner::is_first(scene, self.offsets[k - 1] as usize);
         let u = self.segment(k - 1);
-        let t = bytes::segment(self.bytes, event.at);
+        let t = bytes::segment(self.bytes, at);
         is_under_beginning(u, t, own) && is_lower(u, t)
     }
 

@@ -55,6 +55,8 @@ enum Mark {
 }
 
 // The bytes written so far, and what is being read.
+// Kept as the lent buffer and how far it is written: there is no heap, and std's Cursor over a slice answers each write with a Result that is never an error.
+// Kept as a clause of each method that the length of out stays: a ghost field says what holds at one time, and cannot name the length at the call.
 #[derive(Drop)]
 struct Writer<'a> {
     out: &'a mut [u8],
@@ -70,20 +72,26 @@ struct Writer<'a> {
 
 impl<'a> Writer<'a> {
     // A byte that finds no room is left out.
-    fn put(&mut self, b: u8) {
+    fn put(&mut self, b: u8)
+        ensures { length self.new.out.now ≡ length self.old.out.now }
+    {
         if self.at < self.out.len() {
             self.out[self.at] = b;
             self.at += 1;
         }
     }
 
-    fn put_word(&mut self, w: u32) {
+    fn put_word(&mut self, w: u32)
+        ensures { length self.new.out.now ≡ length self.old.out.now }
+    {
         for b in w.to_le_bytes() {
             self.put(b);
         }
     }
 
-    fn put_points(&mut self, count: u32) {
+    fn put_points(&mut self, count: u32)
+        ensures { length self.new.out.now ≡ length self.old.out.now }
+    {
         for x in 0..count {
             self.put(b'P');
             self.put_word(x);
@@ -92,19 +100,25 @@ impl<'a> Writer<'a> {
     }
 
     // A number begins, after a mark.
-    fn begin(&mut self, mark: Mark, coordinates: u8) {
+    fn begin(&mut self, mark: Mark, coordinates: u8)
+        ensures { length self.new.out.now ≡ length self.old.out.now }
+    {
         self.mark = mark;
         self.number = None;
         self.coordinates = coordinates;
     }
 
-    fn begin_record(&mut self, kind: u8, coordinates: u8) {
+    fn begin_record(&mut self, kind: u8, coordinates: u8)
+        ensures { length self.new.out.now ≡ length self.old.out.now }
+    {
         self.put(kind);
         self.begin(Mark::Plain, coordinates);
     }
 
     // A number of more than nine digits is that of its first nine.
-    fn digit(&mut self, d: u8) {
+    fn digit(&mut self, d: u8)
+        ensures { length self.new.out.now ≡ length self.old.out.now }
+    {
         let number = self.number.unwrap_or(0);
         self.number = Some(if number < 100_000_000 {
             number * 10 + u32::from(d)
@@ -113,7 +127,9 @@ impl<'a> Writer<'a> {
         });
     }
 
-    fn put_number(&mut self, number: u32) {
+    fn put_number(&mut self, number: u32)
+        ensures { length self.new.out.now ≡ length self.old.out.now }
+    {
         match self.mark {
             Mark::Count => self.put_points(number),
             _ if self.coordinates == 0 => self.put((number % 256) as u8),
@@ -123,7 +139,9 @@ impl<'a> Writer<'a> {
     }
 
     // The number read so far has ended, if there was one.
-    fn end(&mut self) {
+    fn end(&mut self)
+        ensures { length self.new.out.now ≡ length self.old.out.now }
+    {
         if let Some(number) = self.number {
             self.put_number(number);
             self.coordinates = self.coordinates.saturating_sub(1);
@@ -131,7 +149,9 @@ impl<'a> Writer<'a> {
         self.begin(Mark::Plain, self.coordinates);
     }
 
-    fn read(&mut self, c: u8) {
+    fn read(&mut self, c: u8)
+        ensures { length self.new.out.now ≡ length self.old.out.now }
+    {
         match c {
             b'0'..=b'9' => self.digit(c - b'0'),
             b'-' => self.begin(Mark::Minus, self.coordinates),
@@ -143,14 +163,18 @@ impl<'a> Writer<'a> {
     }
 
     // The bytes written.
-    fn finish(self) -> &'a [u8] {
+    fn finish(self) -> &'a [u8]
+        ensures { length result.now ≤ length self.entry.out.now }
+    {
         let Writer { out, at, .. } = self;
         &out[..at]
     }
 }
 
 // Writes the bytes that a text stands for at the start of out, as far as there is room, and answers them.
-pub fn write<'a>(out: &'a mut [u8], text: &[u8]) -> &'a [u8] {
+pub fn write<'a>(out: &'a mut [u8], text: &[u8]) -> &'a [u8]
+    ensures within { length result.now ≤ length out.old }
+{
     let mut writer = Writer {
         out,
         at: 0,

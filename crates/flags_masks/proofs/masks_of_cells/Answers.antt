@@ -1,27 +1,14 @@
 -- `flags_masks::masks_of_cells` meets its contract: a cell that is asked gives the flags of its entry in the table, and one that is not gives none.
-use Rattle.std.proofs.Common.{arith, ℕ, ◌/◌, ◌^◌, ◌≡◌, Bool, true, false, cond, List, map, get_or, sym, ap, ap₂, ◌∙◌}
-use Rattle.std.specs.Int.Bits.{bit_and}
-use lib.Bits.{and_mask, or_zero_r}
-use borrow.Author.Tests.{eq-eqb}
-use Rattle.std.proofs.lemmas.Bool.{ne_eqb}
-use Rattle.whole.specs.Count.{odd}
+use Rattle.std.proofs.Common.{arith, ℕ, ◌≡◌, Bool, cond, List, map, get_or, sym, ap, ap₂, ◌∙◌}
+use lib.Bits.{or_zero_r}
 use Rattle.scene.specs.declared.Scene.{Scene}
 use Rattle.scene.specs.Read.{turned}
-use Rattle.flags.specs.Flags.{has_bit}
-use Rattle.flags.proofs.Marks.{gathering, gathered_one, gathered_all}
+use Rattle.flags.proofs.Marks.{gathered_one, gathered_all}
 use Rattle.flags_masks.specs.declared.FlagMasks.{FlagMasks}
 use Rattle.flags_masks.specs.Wanted.{entry_of, place_in, cell_masks_in, cell_masks_of, wanted_for_f, wanted_for_g, masks_for}
 use Rattle.std.proofs.Math.ListN.{get_or-map}
 use Rattle.flags_masks.proofs.masks_of_cells.Goals as goal
-use Rattle.flags_masks.proofs.masks_of_cells.Goals.{then-cells-at-eq1, else-cells-at-eq1}
-
-is_set : (n k : ℕ) → bit_and (n / 2 ^ k) 1 ≡ 1 → has_bit n k ≡ true
-unfolding has_bit odd
-is_set n k e = eq-eqb _ 1 (sym (and_mask (n / 2 ^ k) 1) ∙ e)
-
-is_clear : (n k : ℕ) → (bit_and (n / 2 ^ k) 1 ≡ 1 → ⊥) → has_bit n k ≡ false
-unfolding has_bit odd
-is_clear n k e = ne_eqb _ 1 (λ h. e (and_mask (n / 2 ^ k) 1 ∙ h))
+use Rattle.flags_masks.proofs.masks_of_cells.Goals.{then-has_bit, else-has_bit}
 
 -- the entry of a cell, as the code reads it
 entry_is : (sc : Scene) (at place : ℕ) (row : List FlagMasks) (b : Bool)
@@ -31,25 +18,22 @@ entry_is : (sc : Scene) (at place : ℕ) (row : List FlagMasks) (b : Bool)
     → get_or row place (entry_of (0, 0)) ≡ entry_of (cell_masks_of sc at)
 entry_is sc at place row b e t p = ap₂ (λ r q. get_or r q (entry_of (0, 0))) e (p ∙ ap (λ x. place_in x at) t) ∙ get_or-map entry_of (cell_masks_in sc) (place_in (turned sc) at) (0, 0)
 
-pub loop-at-init : goal.loop-at-init
-loop-at-init c = record { f_is = gathering _ 9; g_is = gathering _ 9 }
-
 pub loop-at-preserved : goal.loop-at-preserved
 loop-at-preserved c =
     let sc = c.args.scene in
     let cells = c.args.cells in
     let at = c.loop-at.at in
     let h = c.loop-at.invariant in
-    elim c.if-cells-at-eq1.branch [
-      | then-cells-at-eq1 w ↦
-          let asked = is_set cells at w.if-cells-at-eq1.true in
+    elim c.if-has_bit.branch [
+      | then-has_bit w ↦
+          let asked = sym c.has_bit.ensures ∙ w.if-has_bit.true in
           let m = entry_is sc at w.cell_place.result c.cell_masks-row.result c.is_turned-turned.result c.cell_masks-row.ensures c.is_turned-turned.ensures w.cell_place.ensures.0 in
           record {
             f_is = gathered_one (wanted_for_f sc cells) 9 h.f_is c.loop-at-test.true (ap (λ (e : FlagMasks). e.f) m ∙ sym (ap (λ b. cond b (cell_masks_of sc at).0 0) asked)) w.f-is;
             g_is = gathered_one (wanted_for_g sc cells) 9 h.g_is c.loop-at-test.true (ap (λ (e : FlagMasks). e.g) m ∙ sym (ap (λ b. cond b (cell_masks_of sc at).1 0) asked)) w.g-is;
           }
-      | else-cells-at-eq1 w ↦
-          let not_asked = is_clear cells at w.if-cells-at-eq1.false in
+      | else-has_bit w ↦
+          let not_asked = sym c.has_bit.ensures ∙ w.if-has_bit.false in
           record {
             f_is = gathered_one (wanted_for_f sc cells) 9 h.f_is c.loop-at-test.true (sym (ap (λ b. cond b (cell_masks_of sc at).0 0) not_asked)) (w.f-is ∙ sym (or_zero_r c.loop-at.f));
             g_is = gathered_one (wanted_for_g sc cells) 9 h.g_is c.loop-at-test.true (sym (ap (λ b. cond b (cell_masks_of sc at).1 0) not_asked)) (w.g-is ∙ sym (or_zero_r c.loop-at.g));

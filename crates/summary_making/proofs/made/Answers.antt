@@ -10,8 +10,8 @@ use Rattle.summary_making.proofs.made.Goals as goal
 
 pub returns : goal.returns
 returns c =
-    let s = c.args.s.now in
-    let l = c.args.l in
+    let s = c.args.o.bytes.now in
+    let l = c.args.o.layout in
     let type = shape_is s l in
     let empty = empty_is s l (sound_object s l c.requires.0) in
     λ i. record {

@@ -1,17 +1,16 @@
 -- The element's record is an entry of its object, and the place that is found is one for its point.
-use Rattle.std.proofs.Common.{◌≡◌, ℕ, ◌<◌, Bool, List, T, sym, ap, ap₂, subst, ◌∙◌}
-use Rattle.whole.proofs.Logic.{is_true}
+use Rattle.std.proofs.Common.{arith, ◌≡◌, ℕ, Bool, List, T, sym, ap, ap₂, subst, ◌∙◌}
 use Rattle.plane.specs.declared.Point.{Point}
 use Rattle.plane.specs.declared.Halfsegment.{Halfsegment}
 use Rattle.plane.specs.Plane.{in_range, dominating, choose}
 use Rattle.scene.specs.declared.Layout.{Layout}
 use Rattle.scene.specs.Read.{segment_at, halfsegment_at, place}
-use Rattle.scene.specs.Conditions.{has_segments, half}
+use Rattle.scene.specs.Conditions.{half}
 use Rattle.scene_keys.proofs.Elements.{dominating_in_range}
 use Rattle.sweep_laws.specs.Held.{Readable}
 use Rattle.sweep_laws.specs.Swept.{object_of, is_first, is_beginning, Entry}
 use Rattle.sweep_laws.specs.Event.{Place, Began, Ended, CanBegin, CanEnd, it_began, it_ended}
-use Rattle.sweep_laws.proofs.Objects.{has, owned, entry}
+use Rattle.sweep_laws.proofs.Objects.{owned, entry}
 use Rattle.sweep_laws.proofs.Entries.{held_readable}
 use Rattle.sweep_notes.specs.Numbers.{note_number}
 use Rattle.sweep.proofs.take_event.Goals.{After-find-place}
@@ -53,12 +52,6 @@ module _ (c : After-find-place) {left : Bool} (side : c.half-h.result.is_left �
       subst (λ (l : List ℕ). Place s l (choose left t.left t.right) c.find-place.result) c.entries.ensures
       (subst (λ (v : Point). Place s c.entries.result.now v c.find-place.result) point_is c.find-place.ensures)
 
-pub half-h-requires : goal.half-h-requires
-half-h-requires c =
-    let a = c.args in
-    let h = has a.read.now.bytes.now a.read.now.scene a.first a.k c.requires.0 in
-    subst (λ (l : Layout). (a.k < l.count) × T (has_segments l.shape)) (sym c.object-object.ensures.1) (h.1, is_true _ h.0)
-
 pub invariant_of-event : goal.invariant_of-event
 invariant_of-event c = let f = (goal.at.invariant_of-event c).After-find-place in record { recorded = recorded f; owned = of_object f }
 
@@ -74,10 +67,10 @@ pub find-place-requires : goal.find-place-requires
 find-place-requires c = subst (λ (p : Point). T (in_range p)) (sym c.dominating_point.ensures) (dominating_in_range c.half-h.result c.half-h.ensures.in_range)
 
 pub begin-requires : goal.begin-requires
-begin-requires c = let f = (goal.at.begin-requires c).After-find-place in (c.requires.1, found f c.if-h.true)
+begin-requires c = let f = (goal.at.begin-requires c).After-find-place in (omega arith, (c.requires.1, found f c.if-h.true))
 
 pub end-requires : goal.end-requires
-end-requires c = let f = (goal.at.end-requires c).After-find-place in (c.requires.1, found f c.if-h.false)
+end-requires c = let f = (goal.at.end-requires c).After-find-place in (omega arith, (c.requires.1, found f c.if-h.false))
 
 pub returns-then-h : goal.returns-then-h
 returns-then-h c =

@@ -13,20 +13,20 @@ use Rattle.sweep_event.proofs.begin.Goals.{then-not-fits_over-via-then-not-fits_
 use Rattle.sweep_event.proofs.begin.Goals as goal
 
 pub invariant_of-entries : goal.invariant_of-entries
-invariant_of-entries c =
+invariant_of-entries g c =
     let r = c.args.event.read in
     record { readable = subst (Readable r.bytes.now) (sym c.entries.ensures) (held_readable c.requires.0 r.read) }
 
 pub fits_over-requires : goal.fits_over-requires
-fits_over-requires c =
+fits_over-requires g c =
     let r = c.args.event.read in
     (entry_readable r.bytes.now r.scene r.read c.args.event.recorded, omega (arith, c.requires.1.within, ap length c.entries.ensures))
 
 pub fits_under-requires : goal.fits_under-requires
-fits_under-requires c = let r = c.args.event.read in entry_readable r.bytes.now r.scene r.read c.args.event.recorded
+fits_under-requires g c = let r = c.args.event.read in entry_readable r.bytes.now r.scene r.read c.args.event.recorded
 
 pub returns-then-not-fits_over : goal.returns-then-not-fits_over
-returns-then-not-fits_over c =
+returns-then-not-fits_over g c =
     let a = c.args in
     let s = a.event.read.bytes.now in
     let e = sym c.entries.ensures in
@@ -40,13 +40,13 @@ returns-then-not-fits_over c =
     ])
 
 pub has_odd_of-own-requires : goal.has_odd_of-own-requires
-has_odd_of-own-requires c = let r = c.args.event.read in start_small r.bytes.now r.scene r.read
+has_odd_of-own-requires g c = let r = c.args.event.read in start_small r.bytes.now r.scene r.read
 
 pub overflow_cast-event : goal.overflow_cast-event
-overflow_cast-event c = let r = c.args.event.read in omega (arith, entry_small r.bytes.now r.scene r.read c.args.event.recorded)
+overflow_cast-event g c = let r = c.args.event.read in omega (arith, entry_small r.bytes.now r.scene r.read c.args.event.recorded)
 
 pub returns : goal.returns
-returns c =
+returns g c =
     let a = c.args in
     let s = a.event.read.bytes.now in
     let sc = a.event.read.scene in

@@ -21,11 +21,6 @@ module _ (start : ℕ) (entries : List ℕ) where
   all : of true + of false ≡ length entries
   all = own_and_other true (λ e. ltb e start) entries
 
-pub returns-then-before : goal.returns-then-before
-returns-then-before c =
-    let a = c.args in
-    c.has_odd_before-odd.ensures ∙ of_first a.start a.entries.now ∙ ap (λ (b : Bool). odd (of a.start a.entries.now b)) (sym c.if-before.true)
-
 pub returns-else-before : goal.returns-else-before
 unfolding odd
 returns-else-before c =

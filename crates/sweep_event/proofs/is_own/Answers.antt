@@ -11,7 +11,7 @@ use Rattle.scene.specs.declared.Scene.{Scene}
 use Rattle.sweep_laws.specs.Swept.{object_of, is_first, strand_of, strand_at}
 use Rattle.sweep_laws.specs.Kept.{Strand}
 use Rattle.sweep_laws.proofs.Entries.{entry_readable, entry_ia, same_strand, and_none}
-use Rattle.sweep_event.proofs.Read.{alike, apart, region_is}
+use Rattle.sweep_event.proofs.Read.{alike, region_is}
 use Rattle.sweep_event.proofs.is_own.Goals as goal
 
 -- the entry is of the same object
@@ -30,9 +30,6 @@ segment-requires c = let r = c.args.event.read in (entry_readable r.bytes.now r.
 
 pub segment-requires-2 : goal.segment-requires-2
 segment-requires-2 c = let r = c.args.event.read in (entry_readable r.bytes.now r.scene r.read c.args.event.recorded).there
-
-pub returns-then-ne : goal.returns-then-ne
-returns-then-ne c = no (λ w. apart c.ne.ensures c.segment.ensures c.segment-2.ensures c.if-ne.true (ap (λ (a : Strand). a.segment) w))
 
 pub returns-then-not-is_region : goal.returns-then-not-is_region
 returns-then-not-is_region c =

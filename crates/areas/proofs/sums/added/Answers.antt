@@ -19,19 +19,19 @@ other true false h = (λ _. refl, λ e. sym e)
 other false true h = (λ e. sym e, λ _. refl)
 other false false h = (λ _. refl, λ _. sym h)
 
-pub returns-then-above-below : goal.returns-then-above-below
-returns-then-above-below c =
+pub returns-then-sides : goal.returns-then-sides
+returns-then-sides c =
     let a = c.args in
-    back a.sum c.requires.0 ∙ added_none a.sum a.v a.above ∙ ap (λ b. a.sum +ℤ weighed a.above b a.v) (same a.above a.below c.if-above-below.true)
+    back a.sum c.requires.0 ∙ added_none a.sum a.v a.sides.above ∙ ap (λ b. a.sum +ℤ weighed a.sides.above b a.v) (same a.sides.above a.sides.below c.if-sides.true)
 
-pub returns-then-above : goal.returns-then-above
-returns-then-above c =
+pub returns-then-sides-2 : goal.returns-then-sides-2
+returns-then-sides-2 c =
     let a = c.args in
     machine_sum_is a.sum a.v c.requires.0 c.requires.1 ∙ added_plus a.sum a.v
-    ∙ ap₂ (λ x y. a.sum +ℤ weighed x y a.v) (sym c.if-above.true) (sym ((other a.above a.below c.if-above-below.false).0 c.if-above.true))
+    ∙ ap₂ (λ x y. a.sum +ℤ weighed x y a.v) (sym c.if-sides-2.true) (sym ((other a.sides.above a.sides.below c.if-sides.false).0 c.if-sides-2.true))
 
-pub returns-else-above : goal.returns-else-above
-returns-else-above c =
+pub returns-else-sides-2 : goal.returns-else-sides-2
+returns-else-sides-2 c =
     let a = c.args in
     machine_difference_is a.sum a.v c.requires.0 c.requires.1 ∙ added_minus a.sum a.v
-    ∙ ap₂ (λ x y. a.sum +ℤ weighed x y a.v) (sym c.if-above.false) (sym ((other a.above a.below c.if-above-below.false).1 c.if-above.false))
+    ∙ ap₂ (λ x y. a.sum +ℤ weighed x y a.v) (sym c.if-sides-2.false) (sym ((other a.sides.above a.sides.below c.if-sides.false).1 c.if-sides-2.false))

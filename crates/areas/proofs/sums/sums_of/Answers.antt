@@ -1,6 +1,6 @@
 -- `areas::sums::sums_of` meets its contract: a segment more in the sums, one less to come.
 use Rattle.std.proofs.Common.{◌∙◌}
-use Rattle.areas.proofs.Walking.{makes_start, makes_next, makes_end, most_none, most_next, most_small}
+use Rattle.areas.proofs.Walking.{makes_start, makes_next, most_none, most_next}
 use Rattle.areas.proofs.sums.sums_of.Goals as goal
 
 pub loop-next-init : goal.loop-next-init
@@ -8,14 +8,6 @@ loop-next-init c =
     let z = c.args.regions.read in
     let w = c.of-next-items.ensures in
     rw (c.into_iter-next-iterator.ensures.into_iter_gives) (record { same = w.0; makes = rw (w.1, w.2) (makes_start z.bytes.now z.scene); most = rw (w.1, w.2) most_none })
-
-pub add-sums-requires : goal.add-sums-requires
-add-sums-requires c =
-    let z = c.args.regions in
-    let w = c.loop-next.next-iterator in
-    let h = c.loop-next.invariant in
-    let small = most_small z.read.bytes.now z.read.scene z.two (rw (w.own, h.same) at w.merged.within_own) (rw (w.other, h.same) at w.merged.within_other) h.most in
-    (c.in-Some.ensures.steps.1.next.in_range_lem, small)
 
 pub loop-next-preserved : goal.loop-next-preserved
 loop-next-preserved c =
@@ -28,10 +20,3 @@ loop-next-preserved c =
       makes = makes_next z.bytes.now z.scene n c.add-sums.ensures h.makes;
       most = most_next z.bytes.now z.scene n c.add-sums.ensures h.most;
     }
-
-pub returns : goal.returns
-returns c =
-    let z = c.args.regions.read in
-    let w = c.loop-next in
-    let none = rw w.invariant.same at c.in-None.ensures.steps.1 in
-    makes_end z.bytes.now z.scene w.sums w.next-iterator.merged.i w.next-iterator.merged.j none w.invariant.makes

@@ -1,11 +1,10 @@
 use Rattle.std.proofs.Common.{◌≡◌, ◌∙◌, sym, ap, subst, ℕ, ◌+◌, ◌-◌, ◌<◌, Bool, List, arith}
-use Rattle.whole.proofs.Deciding.{yes, no}
+use Rattle.whole.proofs.Deciding.{no}
 use Rattle.scene.specs.declared.Layout.{Layout}
 use Rattle.scene.specs.Read.{size, place}
 use Rattle.scene.specs.Conditions.{is_in_order}
-use Rattle.scene_segments.proofs.Walk.{place_fits}
-use Rattle.check_conditions.specs.Ordered.{AsksNeighbours, TellsOrder}
-use Rattle.check_conditions.proofs.Pass.{begin, done, turn}
+use Rattle.check_conditions.specs.Ordered.{TellsOrder}
+use Rattle.check_conditions.proofs.Pass.{begin, turn}
 use Rattle.check_conditions.proofs.order.ascends.Goals as goal
 
 -- the offset of the element i follows that of the one before
@@ -18,32 +17,13 @@ onward l {step} {at} {i} e h here = beyond ∙ ap (place l) on_one
     on_one : i - 1 + 1 ≡ i
     on_one = omega arith
 
-asked : (l : Layout) (Takes : ℕ → ℕ → Type 0) → AsksNeighbours l Takes → {at next : ℕ} (i : ℕ) → 0 < i → i < l.count → at ≡ place l (i - 1) → next ≡ place l i → Takes at next
-asked l Takes asks {at} {next} i after h here there =
-    subst (λ (y : ℕ). Takes at y) (sym there) (subst (λ (x : ℕ). Takes x (place l i)) (sym here) (asks i after h))
-
 told : (l : Layout) (s : List ℕ) (Answers : ℕ → ℕ → Bool → Type 0) → TellsOrder l s Answers → {at next : ℕ} (i : ℕ) → 0 < i → i < l.count → at ≡ place l (i - 1) → next ≡ place l i
     → {r : Bool} → Answers at next r → r ≡ is_in_order s l (i - 1) i
 told l s Answers tells {at} {next} i after h here there {r} k =
     tells i after h r (subst (λ (x : ℕ). Answers x (place l i) r) here (subst (λ (y : ℕ). Answers at y r) there k))
 
-pub overflow_add-at : goal.overflow_add-at
-overflow_add-at g c = omega (arith, c.requires.0)
-
 pub loop-init : goal.loop-init
 loop-init g c = record { after_first = omega arith; here = omega arith; reached = λ s tells. begin s c.args.l }
-
-pub overflow_add-next : goal.overflow_add-next
-overflow_add-next g c =
-    let l = c.args.l in
-    let v = c.loop.invariant in
-    omega (arith, onward l c.requires.1 v.after_first v.here, place_fits l c.loop.counter (omega (arith, c.loop-test.true)), c.requires.0)
-
-pub in_order-requires : goal.in_order-requires
-in_order-requires g c =
-    let l = c.args.l in
-    let v = c.loop.invariant in
-    asked l (λ x y. g.F.Fn.pre c.args.in_order (x, (y, tt))) c.requires.2 c.loop.counter v.after_first c.loop-test.true v.here (onward l c.requires.1 v.after_first v.here)
 
 pub returns-then-not-in_order : goal.returns-then-not-in_order
 returns-then-not-in_order g c = λ s tells.
@@ -64,6 +44,3 @@ loop-preserved g c =
           let tested = told l s (λ x y r. g.F.Fn.post c.args.in_order (x, (y, tt)) r) tells c.loop.counter v.after_first c.loop-test.true v.here there c.in_order.ensures in
           (turn s l c.requires.1 (v.reached s tells) c.loop-test.true).on (sym tested ∙ c.if-not-in_order.false);
     }
-
-pub returns : goal.returns
-returns g c = λ s tells. yes (done s c.args.l (c.loop.invariant.reached s tells) c.loop-test.false)

@@ -14,7 +14,9 @@ returns-then-j-o c =
     let l = c.args.o.layout in
     let sought = place_for s l (turned s l c.args.i) in
     let is_place : c.place_for-j.result ≡ sought =
-    c.place_for-j.ensures ∙ ap (λ (h : Halfsegment). place_for s l (record { segment = h.segment; is_left = not h.is_left })) c.half-h.ensures.is in
+    c.place_for-j.ensures
+    ∙ ap (place_for s l) c.other.ensures
+    ∙ ap (λ (h : Halfsegment). place_for s l (record { segment = h.segment; is_left = not h.is_left })) c.half-h.ensures.is in
     c.are_partners.ensures
     ∙ ap₂ (partners c.half-h.result c.ia.result) c.half.ensures.is c.ia-then-j-o.ensures
     ∙ partner_is s l c.args.i sought c.half-h.ensures.is c.ia.ensures (ap (place l) is_place)

@@ -15,14 +15,14 @@ of_scene notes {s} {t} {f} {g} {sc} e p q =
 
 pub meetings_of-requires : goal.meetings_of-requires
 meetings_of-requires c =
-    let t = c.args.taken in
-    let o = accepted t.bytes.now t.scene t.taken in
+    let n = c.args.noted in
+    let o = accepted n.bytes.now n.scene n.taken in
     let pair = c.pair.ensures in
-    rw (pair.0, pair.1, pair.2, c.read.ensures.0, c.read.ensures.1) (o.f_sound.order, o.g_sound.order)
+    rw (pair.0, pair.1, pair.2, c.read.ensures.0, c.read.ensures.1, c.taken.ensures.0, c.taken.ensures.1) (o.f_sound.order, o.g_sound.order)
 
 pub returns-then-reads_meetings : goal.returns-then-reads_meetings
 returns-then-reads_meetings c = λ reads.
     let pair = c.pair.ensures in
-    let read = c.read.ensures in
+    let scene = c.read.ensures.1 ∙ c.taken.ensures.1 in
     c.meetings_of.ensures
-    ∙ of_scene c.args.notes.now (pair.0 ∙ read.0) (pair.1 ∙ ap (λ (sc : Scene). sc.f) read.1) (pair.2 ∙ ap (λ (sc : Scene). sc.g) read.1)
+    ∙ of_scene c.args.noted.notes.now (pair.0 ∙ c.read.ensures.0 ∙ c.taken.ensures.0) (pair.1 ∙ ap (λ (sc : Scene). sc.f) scene) (pair.2 ∙ ap (λ (sc : Scene). sc.g) scene)

@@ -28,7 +28,7 @@ bounds-list-n c =
     let z = c.args.regions.read in
     let lent = c.args.list.now in
     let h = c.loop-next.invariant in
-    let next = next_byte z.bytes.now z.scene.f z.scene.g (rw h.same at c.in-Some.ensures.steps.1) c.coded.ensures in
+    let next = next_byte z.bytes.now z.scene.f z.scene.g (rw h.same at c.in-Some.ensures.steps.1) c.byte.ensures in
     let d = due z.bytes.now z.scene.f z.scene.g (all_bytes z.bytes.now z.scene.f z.scene.g) lent c.loop-next.list next h.filled in
     let room = (listable z.bytes.now (length lent) z.scene c.requires).fits in
     omega (arith, filled_count d)
@@ -39,7 +39,7 @@ loop-next-preserved c =
     let lent = c.args.list.now in
     let h = c.loop-next.invariant in
     let step = c.in-Some.ensures.steps in
-    let next = next_byte z.bytes.now z.scene.f z.scene.g (rw h.same at step.1) c.coded.ensures in
+    let next = next_byte z.bytes.now z.scene.f z.scene.g (rw h.same at step.1) c.byte.ensures in
     let d = due z.bytes.now z.scene.f z.scene.g (all_bytes z.bytes.now z.scene.f z.scene.g) lent c.loop-next.list next h.filled in
     let room = (listable z.bytes.now (length lent) z.scene c.requires).fits in
     record { same = step.0 ∙ h.same; filled = filled_more (omega (arith, filled_count d)) d }

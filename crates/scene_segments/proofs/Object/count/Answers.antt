@@ -16,9 +16,6 @@ returns-then-not-has_segments g c =
 pub loop-i-init : goal.loop-i-init
 loop-i-init g c = record { few = omega arith; rest = λ passes told. omega (arith, count_segments c.args.self.bytes.now c.args.self.layout passes) }
 
-pub test-requires : goal.test-requires
-test-requires g c = c.requires c.half-h.result.segment c.half-h.ensures.in_range
-
 pub loop-i-preserved : goal.loop-i-preserved
 loop-i-preserved g c =
     let o = c.args.self in

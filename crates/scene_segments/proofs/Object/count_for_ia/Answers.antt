@@ -15,9 +15,6 @@ all s l t = ap (count_until (left_passes s l (beyond t)) (left_passes s l (is_be
 pub loop-i-init : goal.loop-i-init
 loop-i-init c = record { few = omega arith; rest = omega (arith, all c.args.self.bytes.now c.args.self.layout c.args.t) }
 
-pub is_left_below-requires : goal.is_left_below-requires
-is_left_below-requires c = (c.half-h.ensures.in_range, c.doubled_midpoint-m.ensures.1, c.doubled_midpoint-m.ensures.0)
-
 pub returns-then-is_beyond : goal.returns-then-is_beyond
 returns-then-is_beyond c =
     let o = c.args.self in

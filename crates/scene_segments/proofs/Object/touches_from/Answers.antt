@@ -26,9 +26,6 @@ pub loop-i-init : goal.loop-i-init
 unfolding touches_from
 loop-i-init c = refl
 
-pub is_left_touched-requires : goal.is_left_touched-requires
-is_left_touched-requires c = (c.requires.0, c.requires.1, c.half-h.ensures.in_range, c.half-h.ensures.in_order)
-
 pub returns-then-is_beyond : goal.returns-then-is_beyond
 returns-then-is_beyond c =
     let o = c.args.self in

@@ -9,7 +9,7 @@ use Rattle.sweep_laws.proofs.Lasting.{at_end_lem}
 use Rattle.sweep_laws.proofs.Objects.{few_elements}
 use Rattle.sweep_laws.proofs.PointRun.{Passed, passed_none, still_noted, no_events, passed_points, passed_event, all_noted}
 use Rattle.sweep_notes.specs.Numbers.{note_number}
-use Rattle.sweep.proofs.Turn.{SoFar, none_yet, point_turn, held_at, at_end, within, short, on_second, held, can_take, taken_on, before}
+use Rattle.sweep.proofs.Turn.{SoFar, none_yet, point_turn, at_end, short, on_second, can_take, taken_on, before}
 use Rattle.sweep.proofs.points.run_points.Goals as goal
 
 -- where points are noted, what holds of the events so far still does
@@ -21,16 +21,6 @@ loop-j-init c =
     let s = c.args.ordered.read.bytes.now in
     let sc = c.args.ordered.read.scene in
     rw c.new-status.ensures (record { within_f = omega arith; so_far = none_yet s sc c.args.notes.now; passed = passed_none s sc [] c.args.notes.now })
-
-pub note_points-i-requires : goal.note_points-i-requires
-note_points-i-requires c =
-    let t = point_turn c.args.ordered.read.read c.args.ordered.in_order c.requires.0 c.requires.1 {j = c.loop-j.j} (omega arith) in
-    (c.requires.0, c.loop-j.invariant.within_f, omega arith, held t c.loop-j.invariant.so_far)
-
-pub take_event-requires : goal.take_event-requires
-take_event-requires c =
-    let t = point_turn c.args.ordered.read.read c.args.ordered.in_order c.requires.0 c.requires.1 {j = c.loop-j.j} (omega arith) in
-    (within t, held t c.loop-j.invariant.so_far)
 
 pub returns-in_default : goal.returns-in_default
 returns-in_default c =
@@ -63,11 +53,6 @@ loop-j-preserved c =
       passed = passed_event s sc is order r.0 r.1 passed p.1 more (before t so_far taken next.1)
           (λ k h. get_or-set_other c.note_points-i.new.notes (1024 + j) k (note_number c.in-Some.note) 0 (λ q. omega (arith, q, h, p.0, few)));
     })
-
-pub note_points-requires : goal.note_points-requires
-note_points-requires c =
-    let inv = c.loop-j.invariant in
-    (c.requires.0, inv.within_f, omega arith, held_at c.args.ordered.read.read c.args.ordered.in_order (omega arith) (omega arith) inv.so_far.run)
 
 pub returns : goal.returns
 returns c =

@@ -1,8 +1,7 @@
 -- The index is that of the element whose record stands there.
-use Rattle.std.proofs.Common.{◌≡◌, ℕ, ◌<◌, [], get_or, sym, ap, subst, ◌∙◌, arith}
+use Rattle.std.proofs.Common.{◌≡◌, ℕ, ◌<◌, [], sym, subst, arith}
 use Rattle.scene.specs.declared.Layout.{Layout}
 use Rattle.scene.specs.Read.{place}
-use Rattle.sweep_laws.specs.Swept.{slot}
 use Rattle.sweep_laws.specs.Held.{Placed}
 use Rattle.sweep_status.proofs.note.note_at.Goals as goal
 
@@ -17,8 +16,3 @@ index_at-requires c =
 
 pub of-requires : goal.of-requires
 of-requires c = few (subst (λ (l : Layout). Placed l c.args.at) (sym c.object.ensures) (c.requires [])) c.index_at.ensures
-
-pub returns : goal.returns
-returns c = λ s k is.
-    c.of.ensures
-    ∙ ap (λ (m : ℕ). get_or c.args.notes.now (slot c.args.first m) 0) (c.index_at.ensures k (is ∙ ap (λ (l : Layout). place l k) (sym c.object.ensures)))

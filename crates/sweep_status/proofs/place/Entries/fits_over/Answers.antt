@@ -18,10 +18,10 @@ returns-then-is_under_beginning c =
     let a = c.args in
     let below = get_or a.self.offsets.now (a.k - 1) 0 in
     let whose = c.is_first.ensures a.self.bytes.now in
-    let own = beq a.event.first (is_first a.self.bytes.now a.event.read.scene below) in
-    let asked = c.is_under_beginning.ensures ∙ ap (λ (b : Bool). is_under (beq a.event.first b) c.segment-u.result c.segment-t.result) whose in
+    let own = beq a.first (is_first a.self.bytes.now a.scene below) in
+    let asked = c.is_under_beginning.ensures ∙ ap (λ (b : Bool). is_under (beq a.first b) c.segment-u.result c.segment-t.result) whose in
     let belongs = tested (is_under own) asked c.segment-u.ensures.0 c.segment-t.ensures in
-    by_below a.self.offsets.now a.k (FitsOver a.self.bytes.now a.event.read.scene a.event.first a.event.at) (a.k - 1) (omega arith)
+    by_below a.self.offsets.now a.k (FitsOver a.self.bytes.now a.scene a.first a.at) (a.k - 1) (omega arith)
     (and_second belongs c.if-is_under_beginning.true (tested lower_at_right c.is_lower.ensures c.segment-u.ensures.0 c.segment-t.ensures))
 
 pub returns-else-is_under_beginning : goal.returns-else-is_under_beginning
@@ -29,8 +29,8 @@ returns-else-is_under_beginning c =
     let a = c.args in
     let below = get_or a.self.offsets.now (a.k - 1) 0 in
     let whose = c.is_first.ensures a.self.bytes.now in
-    let own = beq a.event.first (is_first a.self.bytes.now a.event.read.scene below) in
-    let asked = c.is_under_beginning.ensures ∙ ap (λ (b : Bool). is_under (beq a.event.first b) c.segment-u.result c.segment-t.result) whose in
+    let own = beq a.first (is_first a.self.bytes.now a.scene below) in
+    let asked = c.is_under_beginning.ensures ∙ ap (λ (b : Bool). is_under (beq a.first b) c.segment-u.result c.segment-t.result) whose in
     let belongs = tested (is_under own) asked c.segment-u.ensures.0 c.segment-t.ensures in
-    by_below a.self.offsets.now a.k (FitsOver a.self.bytes.now a.event.read.scene a.event.first a.event.at) (a.k - 1) (omega arith)
+    by_below a.self.offsets.now a.k (FitsOver a.self.bytes.now a.scene a.first a.at) (a.k - 1) (omega arith)
     (and_first belongs c.if-is_under_beginning.false)

@@ -1,2 +1,0 @@
--- Of entries that move.
-mod Moved
