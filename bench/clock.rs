@@ -8,6 +8,8 @@ const BATCHES: usize = 5;
 /// A batch's length, and what is spent at most on one call's batches, in microseconds.
 const BATCH: f64 = 4_000.0;
 const MOST: f64 = 2_000_000.0;
+/// The length of a short batch.
+const SHORT: f64 = 500.0;
 
 #[repr(C)]
 #[derive(Default)]
@@ -44,6 +46,12 @@ pub fn best<T>(mut call: impl FnMut() -> T) -> f64 {
     let calls = (BATCH / first).clamp(1.0, 100_000.0) as usize;
     let batches = (MOST / first).clamp(0.0, BATCHES as f64) as usize;
     (0..batches).map(|_| batch(&mut call, calls)).fold(first, f64::min)
+}
+
+/// Microseconds for one call, from one short batch: for calls that are asked again in many passes, so that none has only the machine's slow moments.
+pub fn shortly<T>(mut call: impl FnMut() -> T) -> f64 {
+    let first = batch(&mut call, 1);
+    batch(&mut call, (SHORT / first).clamp(1.0, 100_000.0) as usize)
 }
 
 /// Microseconds for one call, the best of three: enough to find the slow ones among many.

@@ -88,7 +88,10 @@ const USAGE: &str = "usage: bench compare           GEOS's cells against ours; f
        bench count geos FILE..  the same of GEOS
        bench report DIR         makes docs/BENCH.md and docs/bench.svg from the runs' outputs in DIR";
 
+/// Passes over all rows: GEOS's, long ones, and ours, short ones. A row's ratios are between times of one pass after the other, so each question meets the same
+/// moments of the machine.
 const PASSES: usize = 3;
+const OUR_PASSES: usize = 30;
 
 /// Random scenes of each pair that are asked in turn.
 const IN_TURN: u64 = 40;
@@ -165,10 +168,11 @@ impl Timed {
         self.best[which] = self.best[which].min(time);
     }
 
-    fn pass(&mut self, geos: &Geos, with_ours: bool) {
-        if with_ours {
-            our_times(&self.row).into_iter().enumerate().for_each(|(which, time)| self.take(which, time));
-        }
+    fn our_pass(&mut self) {
+        our_times(&self.row).into_iter().enumerate().for_each(|(which, time)| self.take(which, time));
+    }
+
+    fn pass(&mut self, geos: &Geos) {
         self.take(OURS, clock::best(|| bench_geos_from_bytes(geos, &self.row.bytes, &self.parts)));
         let built = Pair::build(geos, &self.row.bytes, &self.parts);
         self.take(OURS + 1, clock::best(|| built.relate()));
@@ -180,12 +184,12 @@ fn our_times(Row { kinds, bytes, .. }: &Row) -> [f64; OURS] {
     let (all_f, all_g) = all_flags(kinds.0, kinds.1);
     let own = own_pattern(bytes);
     [
-        clock::best(|| library::cells_as_given(bytes)),
-        clock::best(|| library::vectors(bytes, all_f, all_g)),
-        clock::best(|| library::vectors(bytes, 0, 0)),
-        clock::best(|| library::overlap(bytes, &mut [])),
-        clock::best(|| library::relate(bytes, &own)),
-        clock::best(|| library::relate(bytes, WITHIN)),
+        clock::shortly(|| library::cells_as_given(bytes)),
+        clock::shortly(|| library::vectors(bytes, all_f, all_g)),
+        clock::shortly(|| library::vectors(bytes, 0, 0)),
+        clock::shortly(|| library::overlap(bytes, &mut [])),
+        clock::shortly(|| library::relate(bytes, &own)),
+        clock::shortly(|| library::relate(bytes, WITHIN)),
     ]
 }
 
@@ -202,12 +206,19 @@ fn columns(times: &[f64]) -> String {
     times.iter().map(|time| format!("{time:.3}")).collect::<Vec<_>>().join(" ")
 }
 
-/// One pass over all rows, ours alone. An archive of before 0.3.0 refuses a first type above the second: such a row has no time then. One of before 0.6.0 has cells
+/// All rows, ours alone. An archive of before 0.3.0 refuses a first type above the second: such a row has no time then. One of before 0.6.0 has cells
 /// of other signs, which are not looked at here.
 fn ours() -> bool {
     let is_taken = |row: &Row| library::cells_as_given(&row.bytes).number == 0;
-    for row in rows::all().into_iter().filter(is_taken) {
-        println!("row {} {}", row.name(), columns(&our_times(&row)));
+    let mut rows: Vec<(Row, [f64; OURS])> = rows::all().into_iter().filter(is_taken).map(|row| (row, [f64::MAX; OURS])).collect();
+    for _ in 0..OUR_PASSES {
+        for (row, best) in &mut rows {
+            let times = our_times(row);
+            *best = std::array::from_fn(|which| best[which].min(times[which]));
+        }
+    }
+    for (row, best) in &rows {
+        println!("row {} {}", row.name(), columns(best));
     }
     true
 }
@@ -217,8 +228,13 @@ fn time(with_ours: bool) -> bool {
     let geos = Geos::new();
     println!("version {}", Geos::version());
     let mut rows: Vec<Timed> = rows::all().into_iter().map(|row| Timed::new(&geos, row)).collect();
+    if with_ours {
+        for _ in 0..OUR_PASSES {
+            rows.iter_mut().for_each(Timed::our_pass);
+        }
+    }
     for _ in 0..PASSES {
-        rows.iter_mut().for_each(|timed| timed.pass(&geos, with_ours));
+        rows.iter_mut().for_each(|timed| timed.pass(&geos));
     }
     for Timed { row, verdict, best, .. } in &rows {
         println!("row {} {} {verdict}", row.name(), columns(best));

@@ -11,7 +11,7 @@ ghost use Rattle.flags_vectors.specs.Vectors.{scene_vectors, given_vectors, thes
 
 use crate::{SceneVectors, Vectors};
 use check_verdict::taken::NotedScene;
-use flags_classes::ClassesOfBoth;
+use flags_classes::{Classes, ClassesOfBoth};
 use flags_masks::{FlagMasks, Wanted};
 use flags_meetings::Meetings;
 use flags_table::walks;
@@ -44,6 +44,26 @@ fn wanted_classes(noted: NotedScene<'_>, masks: FlagMasks) -> ClassesOfBoth
     }
 }
 
+// The wanted flags of an object, by the meetings and its classes: where none is wanted, none is looked up.
+// Kept as a function for each object: they read two tables.
+fn wanted_of_f(scene: Scene, met: Meetings, classes: Classes, mask: u16) -> u16
+    ensures { result ≡ only mask (pack (flags_of_f_by scene.f.shape scene.g.shape met classes)) }
+{
+    if mask == 0 {
+        return 0;
+    }
+    flags_table::flags_of_f(scene.f.shape, scene.g.shape, met, classes) & mask
+}
+
+fn wanted_of_g(scene: Scene, met: Meetings, classes: Classes, mask: u16) -> u16
+    ensures { result ≡ only mask (pack (flags_of_g_by scene.f.shape scene.g.shape met classes)) }
+{
+    if mask == 0 {
+        return 0;
+    }
+    flags_table::flags_of_g(scene.f.shape, scene.g.shape, met, classes) & mask
+}
+
 // The wanted flags of both objects, from what the sweep noted.
 fn swept_vectors(noted: NotedScene<'_>, masks: FlagMasks) -> Vectors
     ensures { result ≡ scene_vectors noted.entry.bytes.now noted.entry.scene masks }
@@ -52,8 +72,8 @@ fn swept_vectors(noted: NotedScene<'_>, masks: FlagMasks) -> Vectors
     let met = wanted_meetings(noted, masks);
     let beside = wanted_classes(noted, masks);
     Vectors {
-        f: flags_table::flags_of_f(scene.f.shape, scene.g.shape, met, beside.f) & masks.f,
-        g: flags_table::flags_of_g(scene.f.shape, scene.g.shape, met, beside.g) & masks.g,
+        f: wanted_of_f(scene, met, beside.f, masks.f),
+        g: wanted_of_g(scene, met, beside.g, masks.g),
     }
 }
 

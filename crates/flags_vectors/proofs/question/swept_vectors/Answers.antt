@@ -1,6 +1,5 @@
 -- The flags by meetings and classes, and those that are wanted.
-use Rattle.std.proofs.Common.{◌∙◌, ap}
-use Rattle.flags_masks.specs.Wanted.{only}
+use Rattle.std.proofs.Common.{◌∙◌}
 use Rattle.flags_vectors.proofs.Answered.{accepted, vector_f, vector_g}
 use Rattle.flags_vectors.proofs.question.swept_vectors.Goals as goal
 
@@ -11,6 +10,6 @@ returns c =
     let o = accepted n.bytes.now n.scene n.taken in
     let met = c.wanted_meetings-met.ensures in
     let beside = c.wanted_classes-beside.ensures in
-    let f = ap (only m.f) c.flags_of_f.ensures ∙ vector_f o n.noted m met beside in
-    let g = ap (only m.g) c.flags_of_g.ensures ∙ vector_g o n.noted m met beside in
+    let f = c.wanted_of_f.ensures ∙ vector_f o n.noted m met beside in
+    let g = c.wanted_of_g.ensures ∙ vector_g o n.noted m met beside in
     λ i. record { f = f i; g = g i }
