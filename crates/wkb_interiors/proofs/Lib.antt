@@ -1,0 +1,3 @@
+-- The laws of interiors.
+pub mod Columns
+pub mod Entries
