@@ -46,10 +46,11 @@ run: target/bin/explore target/tools/scene
 	done
 endif
 
-# The companion tool, outside the proved crates: scenes as text, listings, pictures
-tools: target/tools/scene target/bin/explore
+# The companion tool, outside the proved crates: scenes as text, listings, pictures; with the archive well-known binary too
+tools: archive target/bin/explore
+	@tools/build
 
-target/tools/scene: $(shell find tools -type f)
+target/tools/scene: $(shell find tools -type f) $(wildcard target/staticlib/libkarvoiss.a)
 	@tools/build
 
 pictures: $(patsubst scenes/%.wkt,docs/scenes/%.svg,$(wildcard scenes/*.wkt))

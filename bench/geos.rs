@@ -1,5 +1,5 @@
 //! GEOS, through its C interface: a scene's objects built from the scene's bytes, tested for validity, and related under its own boundary rule, the
-//! OGC's of odd counts, which is document 02's boundary of a line if each segment is a part of its own. And the areas of two regions, by overlay.
+//! OGC's of odd counts, which is document 02's boundary of a line if each segment is a part of its own. And the areas of two regions, by overlay, and well-known binary.
 
 use crate::cells::{of_signs, Matrix};
 use crate::plane::{Point, Segment};
@@ -36,6 +36,17 @@ extern "C" {
     fn GEOSDifference_r(handle: Handle, f: *const c_void, g: *const c_void) -> Geometry;
     fn GEOSArea_r(handle: Handle, geometry: *const c_void, area: *mut c_double) -> c_int;
     fn GEOSFree_r(handle: Handle, what: *mut c_void);
+    fn GEOSEquals_r(handle: Handle, f: *const c_void, g: *const c_void) -> c_char;
+    fn GEOSGetGeometryN_r(handle: Handle, geometry: *const c_void, index: c_int) -> *const c_void;
+    fn GEOSGetNumGeometries_r(handle: Handle, geometry: *const c_void) -> c_int;
+    fn GEOSWKBReader_create_r(handle: Handle) -> *mut c_void;
+    fn GEOSWKBReader_read_r(handle: Handle, reader: *mut c_void, wkb: *const u8, size: usize) -> Geometry;
+    fn GEOSWKBReader_destroy_r(handle: Handle, reader: *mut c_void);
+    fn GEOSWKBWriter_create_r(handle: Handle) -> *mut c_void;
+    fn GEOSWKBWriter_setOutputDimension_r(handle: Handle, writer: *mut c_void, dimension: c_int);
+    fn GEOSWKBWriter_setByteOrder_r(handle: Handle, writer: *mut c_void, order: c_int);
+    fn GEOSWKBWriter_write_r(handle: Handle, writer: *mut c_void, geometry: *const c_void, size: *mut usize) -> *mut u8;
+    fn GEOSWKBWriter_destroy_r(handle: Handle, writer: *mut c_void);
 }
 
 type Overlay = unsafe extern "C" fn(Handle, *const c_void, *const c_void) -> Geometry;
@@ -233,5 +244,73 @@ pub fn shared_area_from_bytes(geos: &Geos, bytes: &[u8], parts: &[Parts; 2]) -> 
         pair.shared_area()
     } else {
         None
+    }
+}
+
+/// One geometry as GEOS holds it, for well-known binary.
+pub struct Shape<'a> {
+    geos: &'a Geos,
+    geometry: Geometry,
+}
+
+impl<'a> Shape<'a> {
+    pub fn build(geos: &'a Geos, bytes: &[u8], parts: &Parts) -> Shape<'a> {
+        Shape { geos, geometry: geos.build(bytes, parts) }
+    }
+
+    /// What its reader makes of well-known binary; none if it raised an exception.
+    pub fn read(geos: &'a Geos, wkb: &[u8]) -> Option<Shape<'a>> {
+        let geometry = unsafe {
+            let reader = GEOSWKBReader_create_r(geos.0);
+            let geometry = GEOSWKBReader_read_r(geos.0, reader, wkb.as_ptr(), wkb.len());
+            GEOSWKBReader_destroy_r(geos.0, reader);
+            geometry
+        };
+        (!geometry.is_null()).then_some(Shape { geos, geometry })
+    }
+
+    pub fn is_valid(&self) -> bool {
+        unsafe { GEOSisValid_r(self.geos.0, self.geometry) == 1 }
+    }
+
+    /// Whether the two have the same points.
+    pub fn equals(&self, other: &Shape) -> bool {
+        unsafe { GEOSEquals_r(self.geos.0, self.geometry, other.geometry) == 1 }
+    }
+
+    /// What its writer writes, high byte first or low byte first throughout.
+    pub fn wkb(&self, high_first: bool) -> Vec<u8> {
+        self.geos.written(self.geometry, high_first)
+    }
+
+    /// The same with a byte order of its own for the whole and for each part, which its writer writes one by one.
+    pub fn mixed_wkb(&self, orders: &mut dyn FnMut() -> bool) -> Vec<u8> {
+        let mut wkb = self.wkb(orders())[..9].to_vec();
+        for index in 0..unsafe { GEOSGetNumGeometries_r(self.geos.0, self.geometry) } {
+            wkb.extend(self.geos.written(unsafe { GEOSGetGeometryN_r(self.geos.0, self.geometry, index) }, orders()));
+        }
+        wkb
+    }
+}
+
+impl Geos {
+    fn written(&self, geometry: *const c_void, high_first: bool) -> Vec<u8> {
+        let mut size = 0;
+        unsafe {
+            let writer = GEOSWKBWriter_create_r(self.0);
+            GEOSWKBWriter_setOutputDimension_r(self.0, writer, 2);
+            GEOSWKBWriter_setByteOrder_r(self.0, writer, !high_first as c_int);
+            let bytes = GEOSWKBWriter_write_r(self.0, writer, geometry, &mut size);
+            let copy = std::slice::from_raw_parts(bytes, size).to_vec();
+            GEOSFree_r(self.0, bytes as *mut c_void);
+            GEOSWKBWriter_destroy_r(self.0, writer);
+            copy
+        }
+    }
+}
+
+impl Drop for Shape<'_> {
+    fn drop(&mut self) {
+        unsafe { GEOSGeom_destroy_r(self.geos.0, self.geometry) }
     }
 }

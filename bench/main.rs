@@ -3,6 +3,7 @@
 //!
 //! bench/run builds this once, runs it with each version of GEOS, and writes docs/BENCH.md and docs/bench.svg.
 
+mod binary;
 mod clock;
 mod compare;
 mod faults;
@@ -60,6 +61,12 @@ mod scene;
 #[allow(dead_code)]
 #[path = "../tests/reference/summary.rs"]
 mod summary;
+#[allow(dead_code)]
+#[path = "../tests/reference/wkb.rs"]
+mod wkb;
+#[allow(dead_code)]
+#[path = "../tests/reference/wkb_maker.rs"]
+mod wkb_maker;
 
 use cells::Matrix;
 use compare::boundary_outside;
@@ -82,6 +89,7 @@ const USAGE: &str = "usage: bench compare           GEOS's cells against ours; f
        bench turns              times of many different scenes asked one after another, ours and GEOS's
        bench summaries          times of summaries and of what two of them tell, beside the full answer and GEOS's relate
        bench areas              GEOS's areas of two regions against ours within its rounding, and times of both
+       bench wkb                shapes through GEOS's well-known binary and ours, and times of reading, ours and GEOS's
        bench slowest            our times for scenes with a fault, and the slowest of many random scenes
        bench make DIR           writes the scenes of full size, a file each
        bench count ours FILE..  asks for the cells of each scene once, for callgrind
@@ -115,6 +123,10 @@ fn main() {
         ["areas"] => {
             println!("version {}", Geos::version());
             ground::run(&Geos::new())
+        }
+        ["wkb"] => {
+            println!("version {}", Geos::version());
+            binary::run(&Geos::new())
         }
         ["slowest"] => slowest(),
         ["make", directory] => make(directory),

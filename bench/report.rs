@@ -1,8 +1,9 @@
 //! The measured part of docs/BENCH.md, everything after its marker, written from the runs' outputs.
 
 use crate::picture;
-use crate::results::{read, Compared, Ground, GroundCompared, Other, Results, Summaries, Times, Turns};
+use crate::results::{read, Binary, BinaryCompared, Compared, Ground, GroundCompared, Other, Results, Summaries, Times, Turns};
 use crate::rows::{kind_name, name, EITHER_ORDER, FULL, RANDOM, SIZES};
+use crate::scene::{LINE, POINTS, REGION};
 use crate::shapes::{Family, FAMILIES};
 use std::fmt::Write as _;
 use std::io;
@@ -46,6 +47,7 @@ fn measured(results: &Results) -> String {
         in_turn(results),
         summaries(results),
         ground(results),
+        binary(results),
         faults(results),
         comparison(results),
     ]
@@ -161,6 +163,35 @@ fn ground(results: &Results) -> String {
         text,
         "\nBy the overlays of GEOS {new} the three areas of {agree} random pairs are ours within a billionth of the two regions' areas, the largest difference {most:.1e} of them; \
          {none} pairs raised an exception, {off} differ.\n"
+    );
+    text
+}
+
+fn binary(results: &Results) -> String {
+    let new = &results.versions[0];
+    let mut text = format!(
+        "### Well-known binary\n\nAn object of full size read with all checks, over GEOS {new}: its reader and its validity test, which asks next to nothing of points and lines. At most 0.2 \
+         was wanted.\n\n| type | rows | ours | GEOS {new} | median ratio | least | most |\n|---|---|---|---|---|---|---|\n"
+    );
+    for kind in [POINTS, LINE, REGION].map(kind_name) {
+        let rows: Vec<&Binary> = results.binary.iter().filter(|row| row.kind == kind).collect();
+        let all: Vec<(String, f64)> = rows.iter().map(|row| (row.family.clone(), row.ours / row.its)).collect();
+        let ratios: Vec<f64> = all.iter().map(|(_, ratio)| *ratio).collect();
+        let [ours, its] = [|row: &&Binary| row.ours, |row: &&Binary| row.its].map(|time| short(median(&rows.iter().map(time).collect::<Vec<_>>())));
+        let (least_name, least) = all.iter().min_by(|a, b| a.1.total_cmp(&b.1)).expect("there are rows");
+        let (most_name, most) = worst(&all);
+        let _ = writeln!(
+            text,
+            "| {kind} | {} | {ours} | {its} | {:.3} | {least:.3}, {least_name} | {most:.3}, {most_name} |",
+            all.len(),
+            median(&ratios)
+        );
+    }
+    let BinaryCompared { shapes, read, back, wrong } = results.binary_compared;
+    let _ = write!(
+        text,
+        "\nOf {shapes} random shapes GEOS wrote {read} strings, in either byte order and in orders mixed, that we read as the object that the shape was made of, and {back} that we wrote are equal in \
+         GEOS; {wrong} differ.\n"
     );
     text
 }

@@ -1,4 +1,4 @@
-//! What the runs wrote, read back: times by row and version, counts of instructions, the comparison, scenes in turn, the faults, the areas.
+//! What the runs wrote, read back: times by row and version, counts of instructions, the comparison, scenes in turn, the faults, the areas, well-known binary.
 
 use std::collections::HashMap;
 use std::path::Path;
@@ -89,6 +89,22 @@ pub struct GroundCompared {
     pub most: f64,
 }
 
+/// An object of full size read from well-known binary: ours, and GEOS's reader with its validity test.
+pub struct Binary {
+    pub family: String,
+    pub kind: String,
+    pub ours: f64,
+    pub its: f64,
+}
+
+/// Shapes; the strings that GEOS wrote of them and we read as the same object; those that we wrote and are equal in GEOS; others.
+pub struct BinaryCompared {
+    pub shapes: usize,
+    pub read: usize,
+    pub back: usize,
+    pub wrong: usize,
+}
+
 pub struct Results {
     pub processor: String,
     pub versions: [String; 2],
@@ -101,6 +117,8 @@ pub struct Results {
     pub random: Vec<Other>,
     pub ground: Vec<Ground>,
     pub ground_compared: GroundCompared,
+    pub binary: Vec<Binary>,
+    pub binary_compared: BinaryCompared,
 }
 
 /// The lines of a file that begin with a word, as the words after it.
@@ -180,6 +198,16 @@ fn ground_compared(directory: &Path) -> GroundCompared {
     GroundCompared { agree: number(&words[0]), none: number(&words[1]), off: number(&words[2]), most: number(&words[3]) }
 }
 
+fn binary(directory: &Path) -> Vec<Binary> {
+    let one = |words: &Vec<String>| Binary { family: words[0].clone(), kind: words[1].clone(), ours: number(&words[2]), its: number(&words[3]) };
+    lines(directory, "wkb", "wkb").iter().map(one).collect()
+}
+
+fn binary_compared(directory: &Path) -> BinaryCompared {
+    let words = &lines(directory, "wkb", "wkb-compared")[0];
+    BinaryCompared { shapes: number(&words[0]), read: number(&words[1]), back: number(&words[2]), wrong: number(&words[3]) }
+}
+
 pub fn read(directory: &Path) -> Results {
     let version = |file: &str| lines(directory, file, "version")[0][0].split('-').next().unwrap_or_default().to_string();
     Results {
@@ -194,5 +222,7 @@ pub fn read(directory: &Path) -> Results {
         random: others(directory, "any"),
         ground: ground(directory),
         ground_compared: ground_compared(directory),
+        binary: binary(directory),
+        binary_compared: binary_compared(directory),
     }
 }

@@ -4,10 +4,11 @@
  * a region, and either type may come first. The functions below read a scene and
  * answer a question about it, in the scene's order: what is said of F is said of
  * the object that the bytes have first. Two more make the summary of an object, and
- * say what two of these tell. All are total: any bytes of any length may be passed,
- * nothing need be tested beforehand. They keep no state, allocate nothing, and may be
- * called from several threads at once. The bytes passed are only read, but for the
- * buffer of karvoiss_overlap.
+ * say what two of these tell; and two read an object from well-known binary, and
+ * write it so. All are total: any bytes of any length may be passed, nothing need be
+ * tested beforehand. They keep no state, allocate nothing, and may be called from
+ * several threads at once. The bytes passed are only read, but for the buffers of
+ * karvoiss_overlap, karvoiss_read_wkb and karvoiss_write_wkb.
  *
  * `scene` points to `length` bytes; it may be null where `length` is 0.
  *
@@ -28,8 +29,9 @@
  *
  * An object is a type record, 0 to 1,024 elements of its kind, and an end
  * record. A scene is two objects and no more, of any types in either order. One
- * object's bytes alone, which karvoiss_summary takes, are those that it has in a
- * scene.
+ * object's bytes alone, which karvoiss_summary and karvoiss_write_wkb take and
+ * karvoiss_read_wkb gives, are those that it has in a scene: two objects' bytes one
+ * after the other are a scene.
  * Points are ordered by x, then y. A segment's left end comes before its right
  * end. It is stored as two halfsegments: d = 1, whose dominating point is the
  * left end, and d = 0, whose dominating point is the right end. Elements are
@@ -42,8 +44,9 @@
  * Refusals
  * --------
  * Every result has a number and a place. Number 0: the scene was taken. Any
- * other number: it was turned away, every other result is 0, but each cell 'F', and
- * `place` is a byte offset in the scene as it was passed: the record at fault, the
+ * other number: it was turned away, every other result is 0, but each cell 'F' and
+ * the number that was read beside 25, and `place` is a byte offset in the scene, the
+ * object or the well-known binary as it was passed: the record or field at fault, the
  * earliest if several. Of a pair of records it is the earlier one, but for 10 the
  * later; so for 15 it is F's, the object's that comes first. For 23 it is a
  * position in the pattern.
@@ -68,17 +71,27 @@
  *  17  the buffer is shorter than the count (place 0; karvoiss_overlap only)
  *  18  a bad summary (place is its index, from 0; karvoiss_far and
  *      karvoiss_in_window only)
+ *  20  more than 1,024 points or 512 segments (place 0; karvoiss_read_wkb only)
+ *  21  the buffer is shorter than what is written (place 0; karvoiss_read_wkb and
+ *      karvoiss_write_wkb only)
  *  22  the pattern has not nine characters (place 0; karvoiss_relate only)
  *  23  a character is none of T, F, *, 0, 1, 2: the position of the first
  *      such, from 0 (karvoiss_relate only)
+ *  24  a field of well-known binary that is cut, has no allowed value or is left
+ *      over (karvoiss_read_wkb); a region, which is not written (place 0;
+ *      karvoiss_write_wkb)
+ *  25  a coordinate that is not a whole number in range (karvoiss_read_wkb only)
+ *  26  an open ring, at its count (karvoiss_read_wkb only)
  *  27  not a window (place 0; karvoiss_in_window only)
  *  28  more than 64 summaries (place 0; karvoiss_in_window only)
  *
  * 1 to 7 are found record by record; then 9 to 23 in this order, each over the
  * whole scene. karvoiss_summary has 1 to 7 and 10 to 14 over one object's bytes, 7
  * being bytes after its end; karvoiss_far has 18 alone, and
- * karvoiss_in_window 27, 28 and 18, in this order. A number that is not in the
- * table never occurs.
+ * karvoiss_in_window 27, 28 and 18, in this order. karvoiss_read_wkb has 24, 25 and
+ * 26, the earliest byte first, then 20, 10, 12, 13 and 21, each at place 0, and
+ * karvoiss_write_wkb those of karvoiss_summary, then 24 and 21. A number that is not in
+ * the table never occurs.
  *
  * Since 0.3.0 either type may come first. Before, a scene whose first type was
  * above its second was refused with 8, and a caller had to exchange the objects
@@ -104,8 +117,9 @@ extern "C" {
 /* The stack that each call needs at most, in bytes. No call recurses, and each
  * was measured on scenes of full size, of every pair of types in either order,
  * to need about 6,000 bytes, karvoiss_summary 25,520, since it copies its object,
- * karvoiss_far 160, karvoiss_estimate 40 and karvoiss_in_window 216; the numbers
- * leave room for other compilers.
+ * karvoiss_far 160, karvoiss_estimate 40 and karvoiss_in_window 216;
+ * karvoiss_read_wkb 123,672 and karvoiss_write_wkb 46,264, since they build and
+ * check an object; the numbers leave room for other compilers.
  */
 #define KARVOISS_VECTORS_STACK 11200
 #define KARVOISS_CELLS_STACK 11200
@@ -116,6 +130,8 @@ extern "C" {
 #define KARVOISS_FAR_STACK 400
 #define KARVOISS_ESTIMATE_STACK 256
 #define KARVOISS_IN_WINDOW_STACK 512
+#define KARVOISS_READ_WKB_STACK 248000
+#define KARVOISS_WRITE_WKB_STACK 93000
 
 /* The topological feature vectors of F and G.
  *
@@ -399,6 +415,96 @@ typedef struct {
 
 karvoiss_far_t karvoiss_far(const uint8_t *first, size_t first_length,
                             const uint8_t *second, size_t second_length);
+
+/* Well-known binary (OGC WKB), as survey packages export it, into one object. Since
+ * 0.12.0.
+ *
+ * `wkb` points to `length` bytes, which are only read; it may be null where `length`
+ * is 0. `object` points to `room` bytes that the object is written to; it may be null
+ * where `room` is 0, and must not overlap `wkb`. Taken: `length` of the result is the
+ * object's, its bytes are the first ones of the buffer, and later bytes are as they
+ * were. Refused: `length` is 0 and all bytes are as they were. 19,459 bytes are enough
+ * for any object: 9,219 for points, 18,435 for a line.
+ *
+ * Read are MultiPoint, which becomes points, MultiLineString, a line, and
+ * MultiPolygon, a region:
+ *
+ *   whole    order, type (4, 5 or 6), count, and so many parts; nothing after
+ *   part     of 4: order, type (1), point
+ *            of 5: order, type (2), count, and so many points
+ *            of 6: order, type (3), count, and so many rings
+ *   ring     count, and so many points
+ *   point    x, y
+ *
+ *   order    1 byte: 0 high byte first, 1 low byte first; for its own type, counts
+ *            and points: each part has an order of its own
+ *   type     4 bytes, unsigned, and so is a count
+ *   x, y     8 bytes: a 64-bit float
+ *
+ * A coordinate is a whole number from -10,000,000 to 10,000,000; -0.0 is 0. Two
+ * neighbours in a part or ring that are not equal are a segment. Equal points and
+ * equal segments, in either direction, are taken once, in regions too: two polygons
+ * with a side in common have it once, and are refused with 13. A part of no points
+ * and a polygon of no rings add nothing. Which ring is a hole follows from how the
+ * rings lie, by the rule of odd counts, and ia is set accordingly. Segments that
+ * cross are not split.
+ *
+ *  24  at the first byte of a field (an order, a type, a count, an x or a y) that is
+ *      cut or missing (a missing one is at `length`), has no allowed value, or is left
+ *      over. So, at their type, are single geometries and collections, and any with Z,
+ *      M or SRID; and, at their count, a part of one point and a ring of fewer than
+ *      four, none included
+ *  25  at an x or a y that is not a whole number in range. `value` is the number that
+ *      was read; of a NaN only that it is one: sign and payload are not kept
+ *  26  at the count of a ring whose last point is not its first, compared as numbers:
+ *      0.0 and -0.0 are equal, a NaN is equal to none. A ring that is cut before its
+ *      last point ends is never refused with 26
+ *  20  more than 1,024 different points, or 512 different segments
+ *  10  two segments in one line have a common left end, or a common right end, as
+ *      (0,0)-(2,0) and (0,0)-(4,0)
+ *  12  two segments share a point that is not an end of both
+ *  13  a region's end belongs to an odd number of its segments
+ *  21  the buffer is shorter than the object
+ *
+ * 24, 25 and 26 by the earliest byte, 24 before 26 at one byte: so an open ring goes
+ * before whatever is wrong inside it. The others after these, in this order, each at
+ * place 0. `value` is 0 but for 25.
+ */
+typedef struct {
+    uint32_t number;
+    size_t place;
+    size_t length;
+    double value;
+} karvoiss_read_wkb_t;
+
+karvoiss_read_wkb_t karvoiss_read_wkb(const uint8_t *wkb, size_t length,
+                                      uint8_t *object, size_t room);
+
+/* One object, points or a line, as well-known binary. Since 0.12.0.
+ *
+ * `object` points to the `length` bytes of one object, which are only read; it may be
+ * null where `length` is 0. `wkb` points to `room` bytes that are written to; it may be
+ * null where `room` is 0, and must not overlap `object`. Taken: the first `length` of
+ * the result are written and later bytes are as they were. Refused: `length` is 0 and
+ * all bytes are as they were. 21,513 bytes are enough for any object: n points take
+ * 9 + 21 n, n segments 9 + 41 n.
+ *
+ * Points are written as MultiPoint, and a line as MultiLineString with a part of two
+ * points for each segment, left end first; low byte first throughout, in the order of
+ * the elements. karvoiss_read_wkb makes the same object of it, byte for byte.
+ *
+ * Refused are what karvoiss_summary refuses, with the same number and place; then a
+ * region, an empty one too, with 24, and a buffer that is too short with 21, both at
+ * place 0.
+ */
+typedef struct {
+    uint32_t number;
+    size_t place;
+    size_t length;
+} karvoiss_write_wkb_t;
+
+karvoiss_write_wkb_t karvoiss_write_wkb(const uint8_t *object, size_t length,
+                                        uint8_t *wkb, size_t room);
 
 /* The side of a point c against the segment from a to b, estimated in single
  * floats (since 0.8.0). It takes no scene and refuses nothing.

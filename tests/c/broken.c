@@ -16,23 +16,35 @@ karvoiss_summary_t __wrap_karvoiss_summary(const uint8_t *object, size_t length)
 karvoiss_far_t __real_karvoiss_far(const uint8_t *first, size_t first_length, const uint8_t *second, size_t second_length);
 karvoiss_far_t __wrap_karvoiss_far(const uint8_t *first, size_t first_length, const uint8_t *second, size_t second_length);
 
+karvoiss_read_wkb_t __real_karvoiss_read_wkb(const uint8_t *wkb, size_t length, uint8_t *object, size_t room);
+karvoiss_read_wkb_t __wrap_karvoiss_read_wkb(const uint8_t *wkb, size_t length, uint8_t *object, size_t room);
+karvoiss_write_wkb_t __real_karvoiss_write_wkb(const uint8_t *object, size_t length, uint8_t *wkb, size_t room);
+karvoiss_write_wkb_t __wrap_karvoiss_write_wkb(const uint8_t *object, size_t length, uint8_t *wkb, size_t room);
+
+/* Reads a byte. */
+static inline __attribute__((unused)) void touch(const volatile uint8_t *byte)
+{
+    (void)*byte;
+}
+
+/* Uses so much stack. */
+static inline __attribute__((unused)) void dig(size_t size)
+{
+    volatile uint8_t local[size];
+
+    for (size_t i = 0; i < size; i++)
+        local[i] = 0;
+    touch(local);
+}
+
 karvoiss_cells_t __wrap_karvoiss_cells(const uint8_t *scene, size_t length)
 {
 #if defined MISTAKE_reads_null
-    static volatile uint8_t first;
-
-    first = *(const volatile uint8_t *)scene;
-    (void)first;
+    touch(scene);
 #elif defined MISTAKE_reads_on
-    static volatile uint8_t next;
-
-    next = ((const volatile uint8_t *)scene)[length];
-    (void)next;
+    touch(scene + length);
 #elif defined MISTAKE_reads_before
-    static volatile uint8_t last;
-
-    last = ((const volatile uint8_t *)scene)[-1];
-    (void)last;
+    touch(scene - 1);
 #elif defined MISTAKE_writes_scene
     if (length > 0)
         *(volatile uint8_t *)scene = *scene;
@@ -44,10 +56,7 @@ karvoiss_cells_t __wrap_karvoiss_cells(const uint8_t *scene, size_t length)
     answer.place += kept != length;
     return answer;
 #elif defined MISTAKE_deep
-    volatile uint8_t local[KARVOISS_CELLS_STACK];
-
-    for (size_t i = 0; i < sizeof local; i++)
-        local[i] = 0;
+    dig(KARVOISS_CELLS_STACK);
 #elif defined MISTAKE_heap
     free(malloc(length));
 #endif
@@ -57,15 +66,9 @@ karvoiss_cells_t __wrap_karvoiss_cells(const uint8_t *scene, size_t length)
 karvoiss_summary_t __wrap_karvoiss_summary(const uint8_t *object, size_t length)
 {
 #if defined MISTAKE_object_reads_on
-    static volatile uint8_t next;
-
-    next = ((const volatile uint8_t *)object)[length];
-    (void)next;
+    touch(object + length);
 #elif defined MISTAKE_object_deep
-    volatile uint8_t local[KARVOISS_SUMMARY_STACK];
-
-    for (size_t i = 0; i < sizeof local; i++)
-        local[i] = 0;
+    dig(KARVOISS_SUMMARY_STACK);
 #endif
     karvoiss_summary_t answer = __real_karvoiss_summary(object, length);
 
@@ -78,22 +81,13 @@ karvoiss_summary_t __wrap_karvoiss_summary(const uint8_t *object, size_t length)
 karvoiss_far_t __wrap_karvoiss_far(const uint8_t *first, size_t first_length, const uint8_t *second, size_t second_length)
 {
 #if defined MISTAKE_far_reads_on
-    static volatile uint8_t next;
-
-    next = ((const volatile uint8_t *)second)[19];
-    (void)next;
+    touch(second + 19);
 #elif defined MISTAKE_far_reads_null
-    static volatile uint8_t kind;
-
-    kind = *(const volatile uint8_t *)first;
-    (void)kind;
+    touch(first);
 #elif defined MISTAKE_far_writes
     *(volatile uint8_t *)first = 83;
 #elif defined MISTAKE_far_deep
-    volatile uint8_t local[KARVOISS_FAR_STACK];
-
-    for (size_t i = 0; i < sizeof local; i++)
-        local[i] = 0;
+    dig(KARVOISS_FAR_STACK);
 #endif
     return __real_karvoiss_far(first, first_length, second, second_length);
 }
@@ -101,10 +95,7 @@ karvoiss_far_t __wrap_karvoiss_far(const uint8_t *first, size_t first_length, co
 karvoiss_relate_t __wrap_karvoiss_relate(const uint8_t *scene, size_t length, const uint8_t *pattern, size_t pattern_length)
 {
 #if defined MISTAKE_reads_pattern_on
-    static volatile uint8_t next;
-
-    next = ((const volatile uint8_t *)pattern)[pattern_length];
-    (void)next;
+    touch(pattern + pattern_length);
 #elif defined MISTAKE_by_columns
     uint8_t turned[9];
 
@@ -125,6 +116,54 @@ karvoiss_overlap_t __wrap_karvoiss_overlap(const uint8_t *scene, size_t length, 
     ((volatile uint8_t *)list)[answer.count] = 0;
 #elif defined MISTAKE_clears_rest
     memset(list + answer.count, 0, room - answer.count);
+#endif
+    return answer;
+}
+
+karvoiss_read_wkb_t __wrap_karvoiss_read_wkb(const uint8_t *wkb, size_t length, uint8_t *object, size_t room)
+{
+#if defined MISTAKE_wkb_reads_on
+    touch(wkb + length);
+#elif defined MISTAKE_wkb_reads_null
+    touch(wkb);
+#elif defined MISTAKE_wkb_keeps_state
+    static volatile size_t kept;
+
+    kept = length;
+#elif defined MISTAKE_wkb_deep
+    dig(KARVOISS_READ_WKB_STACK);
+#endif
+    karvoiss_read_wkb_t answer = __real_karvoiss_read_wkb(wkb, length, object, room);
+
+#if defined MISTAKE_wkb_written_early
+    if (answer.number != 0 && room > 0)
+        *(volatile uint8_t *)object = 84;
+#elif defined MISTAKE_wkb_writes_on
+    ((volatile uint8_t *)object)[answer.length] = 0;
+#elif defined MISTAKE_wkb_outer_order
+    if (answer.number == 0 && length > 9 && wkb[9] != wkb[0])
+        answer.number = 24;
+#elif defined MISTAKE_wkb_keeps_state
+    answer.place += kept != length;
+#endif
+    return answer;
+}
+
+karvoiss_write_wkb_t __wrap_karvoiss_write_wkb(const uint8_t *object, size_t length, uint8_t *wkb, size_t room)
+{
+#if defined MISTAKE_writer_reads_on
+    touch(object + length);
+#elif defined MISTAKE_writer_deep
+    dig(KARVOISS_WRITE_WKB_STACK);
+#endif
+    karvoiss_write_wkb_t answer = __real_karvoiss_write_wkb(object, length, wkb, room);
+
+#if defined MISTAKE_writer_clears_rest
+    if (room > 0)
+        memset(wkb + answer.length, 0, room - answer.length);
+#elif defined MISTAKE_writer_high_first
+    if (answer.number == 0)
+        *wkb = 0;
 #endif
     return answer;
 }

@@ -1,5 +1,6 @@
 /* For libFuzzer: an input is two masks, a room (each 16 bits, low byte first), a pattern with its length, and a scene. The archive must answer what the reference does.
- * The same bytes are asked about as one object and as two summaries, the first of them as long as the room's lowest five bits say.
+ * The same bytes are asked about as one object and as two summaries, the first of them as long as the room's lowest five bits say; as well-known binary, and as an object to be
+ * written so.
  * The scene, the pattern and the list end at pages that may not be touched, so that a byte too far is noticed though the archive has no checks of its own. */
 #define _DEFAULT_SOURCE
 #include "scenes.h"
@@ -24,6 +25,8 @@ struct reference {
 
 struct reference reference_answers(const uint8_t *scene, size_t length, size_t split, uint16_t want_f, uint16_t want_g,
                                    const uint8_t *pattern, size_t pattern_length, uint8_t *list, size_t room);
+karvoiss_read_wkb_t reference_read_wkb(const uint8_t *wkb, size_t length, uint8_t *buffer, size_t room);
+karvoiss_write_wkb_t reference_write_wkb(const uint8_t *object, size_t length, uint8_t *buffer, size_t room);
 int LLVMFuzzerTestOneInput(const uint8_t *data, size_t size);
 
 /* The end of `size` bytes, a whole number of pages, before a page that may not be touched. */
@@ -51,13 +54,41 @@ static size_t spell(const uint8_t *data, uint8_t *end)
     size_t length = data[0] < 224 ? 9 : data[0] % (LONGEST + 1);
 
     for (size_t i = 0; i < length; i++)
-        end[i - length] = data[1 + i] < 250 ? (uint8_t)"TF*012"[data[1 + i] % 6] : data[1 + i];
+        (end - length)[i] = data[1 + i] < 250 ? (uint8_t)"TF*012"[data[1 + i] % 6] : data[1 + i];
     return length;
 }
 
 static size_t number(const uint8_t *data)
 {
     return data[0] + 256u * data[1];
+}
+
+/* Into a buffer before a fence, of just the size that is needed, and of the room: what is written there and around it must be the reference's. */
+static void ask_wkb_at_fence(const uint8_t *bytes, size_t length, size_t room)
+{
+    static uint8_t *end, expected[1 << 15];
+    const size_t size = sizeof expected;
+
+    if (end == NULL)
+        end = fenced_end(size);
+    size_t rooms[2] = {reference_read_wkb(bytes, length, expected, size).length, room};
+    for (int k = 0; k < 2; k++) {
+        memset(expected, 0xEE, size);
+        memset(end - size, 0xEE, size);
+        karvoiss_read_wkb_t reference = reference_read_wkb(bytes, length, expected + size - rooms[k], rooms[k]);
+        karvoiss_read_wkb_t read = karvoiss_read_wkb(bytes, length, end - rooms[k], rooms[k]);
+        require(same_read(&reference, &read), "reading well-known binary");
+        require(memcmp(expected, end - size, size) == 0, "the object that was read, or what is around it");
+    }
+    rooms[0] = reference_write_wkb(bytes, length, expected, size).length;
+    for (int k = 0; k < 2; k++) {
+        memset(expected, 0xEE, size);
+        memset(end - size, 0xEE, size);
+        karvoiss_write_wkb_t reference = reference_write_wkb(bytes, length, expected + size - rooms[k], rooms[k]);
+        karvoiss_write_wkb_t written = karvoiss_write_wkb(bytes, length, end - rooms[k], rooms[k]);
+        require(same_written(&reference, &written), "writing well-known binary");
+        require(memcmp(expected, end - size, size) == 0, "the well-known binary that was written, or what is around it");
+    }
 }
 
 int LLVMFuzzerTestOneInput(const uint8_t *data, size_t size)
@@ -106,6 +137,7 @@ int LLVMFuzzerTestOneInput(const uint8_t *data, size_t size)
     require(same_summary(&reference.summary, &summary), "summary");
     require(same_far(&reference.far, &far), "what two summaries tell");
     require(memcmp(expected, list - GUARD, GUARD + room) == 0, "the lent buffer, its list or what is around it");
+    ask_wkb_at_fence(scene, length, room);
     require(memcmp(data + HEAD, scene, length) == 0, "the scene was changed");
     return 0;
 }

@@ -1,4 +1,4 @@
-/* Null where the length is 0: for the scene of each call, for the pattern and the list, alone and with it, and for either summary. */
+/* Null where the length is 0: for the scene of each call, for the pattern and the list, alone and with it, for either summary, and for well-known binary, in and out. */
 #include "scenes.h"
 
 static const uint8_t empty_regions[] = {84, 3, 69, 84, 3, 69};
@@ -27,6 +27,37 @@ static void summaries_of_null(const struct scene *scene)
     is_bad_at("null twice", karvoiss_far(NULL, 0, NULL, 0), 0);
     is_bad_at("null first", karvoiss_far(NULL, 0, some.record, 20), 0);
     is_bad_at("null second", karvoiss_far(some.record, 20, NULL, 0), 1);
+}
+
+static void is_read(const char *name, karvoiss_read_wkb_t answer, uint32_t number)
+{
+    karvoiss_read_wkb_t expected = {.number = number};
+
+    if (!same_read(&answer, &expected))
+        fail(name, "another answer");
+}
+
+static void is_written(const char *name, karvoiss_write_wkb_t answer, uint32_t number)
+{
+    karvoiss_write_wkb_t expected = {.number = number};
+
+    if (!same_written(&answer, &expected))
+        fail(name, "another answer");
+}
+
+static void wkb_of_null(void)
+{
+    static const uint8_t no_points[] = {84, 1, 69}, no_points_wkb[] = {1, 4, 0, 0, 0, 0, 0, 0, 0};
+    uint8_t buffer[1] = {0xEE};
+
+    is_read("null read into a buffer", karvoiss_read_wkb(NULL, 0, buffer, 1), 24);
+    is_read("null read into null", karvoiss_read_wkb(NULL, 0, NULL, 0), 24);
+    is_read("no points read into null", karvoiss_read_wkb(no_points_wkb, sizeof no_points_wkb, NULL, 0), 21);
+    is_written("null written into a buffer", karvoiss_write_wkb(NULL, 0, buffer, 1), 1);
+    is_written("null written into null", karvoiss_write_wkb(NULL, 0, NULL, 0), 1);
+    is_written("no points written into null", karvoiss_write_wkb(no_points, sizeof no_points, NULL, 0), 21);
+    if (buffer[0] != 0xEE)
+        fail("null", "a buffer was changed");
 }
 
 static void is_relate(const char *name, karvoiss_relate_t answer, uint32_t number)
@@ -70,6 +101,7 @@ int main(int argc, char **argv)
     if (list[0] != 0xEE)
         fail("overlap of null into a buffer", "the buffer was changed");
     summaries_of_null(&scene);
-    puts("null: 15 calls");
+    wkb_of_null();
+    puts("null: 21 calls");
     return 0;
 }

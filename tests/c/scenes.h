@@ -8,8 +8,8 @@
 #include <stdlib.h>
 #include <string.h>
 
-/* More bytes than any list has. */
-enum { LIST = 2048 };
+/* More bytes than any list has; as many as any object has, as any object has as well-known binary by karvoiss_write_wkb, and by wkb_of. */
+enum { LIST = 2048, OBJECT = 19459, WRITTEN = 21513, WKB = 39433 };
 
 struct scene {
     const char *name;
@@ -23,7 +23,8 @@ struct masks {
 };
 
 /* `nothing` is asked for under two zero masks; `first` and `second` are the summaries of the two objects, and `far` is what they tell; `estimate` is asked for the numbers in the
- * first 24 bytes, `in_window` for the bytes as summaries. */
+ * first 24 bytes, `in_window` for the bytes as summaries; `read` for the first object as well-known binary, `written` for the first object, `unread` for the bytes as well-known
+ * binary. */
 struct answers {
     karvoiss_vectors_t vectors;
     karvoiss_vectors_t nothing;
@@ -35,6 +36,8 @@ struct answers {
     karvoiss_far_t far;
     karvoiss_estimate_t estimate;
     karvoiss_in_window_t in_window;
+    karvoiss_read_wkb_t read, unread;
+    karvoiss_write_wkb_t written;
     uint8_t list[LIST];
 };
 
@@ -117,6 +120,91 @@ static inline void ask_summaries(const uint8_t *bytes, size_t length, struct ans
         fail("far", "vectors beside a refusal or a look");
 }
 
+/* A number of `size` bytes, high byte first or low byte first. */
+static inline uint8_t *put_number(uint8_t *to, uint64_t value, size_t size, bool high_first)
+{
+    for (size_t i = 0; i < size; i++)
+        to[high_first ? size - 1 - i : i] = (uint8_t)(value >> 8 * i);
+    return to + size;
+}
+
+static inline uint8_t *put_header(uint8_t *to, bool high_first, uint32_t type)
+{
+    *to = !high_first;
+    return put_number(to + 1, type, 4, high_first);
+}
+
+/* The point whose coordinates stand at `from`, as two floats. */
+static inline uint8_t *put_point(uint8_t *to, const uint8_t *from, bool high_first)
+{
+    for (int i = 0; i < 2; i++) {
+        int32_t coordinate;
+        double value;
+        uint64_t bits;
+
+        memcpy(&coordinate, from + 4 * i, 4);
+        value = coordinate;
+        memcpy(&bits, &value, 8);
+        to = put_number(to, bits, 8, high_first);
+    }
+    return to;
+}
+
+/* An object of which nothing is tested as well-known binary, into WKB bytes; gives their number. Each left halfsegment of a line is a part, and each of a region a ring that goes
+ * there and back: taken once, they are the region. The byte order changes from header to header. */
+static inline size_t wkb_of(const uint8_t *object, size_t length, uint8_t *wkb)
+{
+    const uint8_t type = object[1];
+    const size_t size = type == 1 ? 9 : type == 2 ? 18 : 19;
+    uint32_t count = 0;
+    uint8_t *to = wkb + 9;
+
+    for (size_t at = 2; at + size < length; at += size) {
+        const uint8_t *left = object + at + 1, *right = left + 8;
+        const uint8_t *const ring[4] = {left, right, right, left};
+        const bool high_first = count % 2 == 1;
+
+        if (type != 1 && object[at + 17] == 0)
+            continue;
+        count++;
+        to = put_header(to, high_first, type);
+        if (type > 1)
+            to = put_number(to, type == 2 ? 2 : 1, 4, high_first);
+        if (type > 2)
+            to = put_number(to, 4, 4, high_first);
+        for (int i = 0; i < (type == 1 ? 1 : type == 2 ? 2 : 4); i++)
+            to = put_point(to, ring[i], high_first);
+    }
+    put_number(put_header(wkb, true, type + 3u), count, 4, true);
+    return (size_t)(to - wkb);
+}
+
+/* The first object, if it is taken, through well-known binary and back: by wkb_of, and by the library if it is no region. Both must give the object, byte for byte. */
+static inline void ask_wkb(const uint8_t *bytes, size_t length, struct answers *answers)
+{
+    uint8_t wkb[WKB], object[OBJECT];
+    size_t first = second_object(bytes, length);
+    bool taken = answers->first.number == 0;
+
+    answers->unread = karvoiss_read_wkb(bytes, length, object, sizeof object);
+    answers->read = karvoiss_read_wkb(wkb, taken ? wkb_of(bytes, first, wkb) : 0, object, sizeof object);
+    if (taken && (answers->read.number != 0 || answers->read.length != first || memcmp(object, bytes, first) != 0))
+        fail("read_wkb", "another object than the one that was written");
+    memset(wkb, 0xEE, sizeof wkb);
+    answers->written = karvoiss_write_wkb(bytes, first, wkb, sizeof wkb);
+    if (answers->written.number != (taken && bytes[1] == 3 ? 24 : answers->first.number))
+        fail("write_wkb", "another refusal than the summary has");
+    for (size_t i = answers->written.length; i < sizeof wkb; i++)
+        if (wkb[i] != 0xEE)
+            fail("write_wkb", "a later byte was changed");
+    if (answers->written.number == 0) {
+        karvoiss_read_wkb_t back = karvoiss_read_wkb(wkb, answers->written.length, object, sizeof object);
+
+        if (back.number != 0 || back.length != first || memcmp(object, bytes, first) != 0)
+            fail("write_wkb", "not read back as the same object");
+    }
+}
+
 /* The pattern of what was answered, nine characters: each cell as it is, but for IE, of which it is asked whether it is empty, and EI, which is left open. */
 static inline void own_pattern(const karvoiss_cells_t *cells, uint8_t *pattern)
 {
@@ -167,6 +255,7 @@ static inline void ask(const uint8_t *bytes, size_t length, uint8_t *list, size_
     ask_summaries(bytes, length, answers);
     answers->estimate = ask_numbers(bytes, length);
     answers->in_window = karvoiss_in_window((karvoiss_window_t){-1.0F, -1.0F, 1.0F, 1.0F}, bytes, length);
+    ask_wkb(bytes, length, answers);
 }
 
 static inline bool same_vectors(const karvoiss_vectors_t *a, const karvoiss_vectors_t *b)
@@ -214,12 +303,23 @@ static inline bool same_in_window(const karvoiss_in_window_t *a, const karvoiss_
     return a->number == b->number && a->place == b->place && a->word == b->word && a->hits == b->hits;
 }
 
+static inline bool same_read(const karvoiss_read_wkb_t *a, const karvoiss_read_wkb_t *b)
+{
+    return a->number == b->number && a->place == b->place && a->length == b->length && (a->value == b->value || (a->value != a->value && b->value != b->value));
+}
+
+static inline bool same_written(const karvoiss_write_wkb_t *a, const karvoiss_write_wkb_t *b)
+{
+    return a->number == b->number && a->place == b->place && a->length == b->length;
+}
+
 static inline bool same_answers(const struct answers *a, const struct answers *b)
 {
     return same_vectors(&a->vectors, &b->vectors) && same_vectors(&a->nothing, &b->nothing) && same_cells(&a->cells, &b->cells)
         && same_relate(&a->relate, &b->relate) && same_overlap(&a->overlap, &b->overlap) && same_summary(&a->first, &b->first)
         && same_summary(&a->second, &b->second) && same_far(&a->far, &b->far) && same_estimate(&a->estimate, &b->estimate)
-        && same_in_window(&a->in_window, &b->in_window) && same_areas(&a->areas, &b->areas);
+        && same_in_window(&a->in_window, &b->in_window) && same_areas(&a->areas, &b->areas)
+        && same_read(&a->read, &b->read) && same_read(&a->unread, &b->unread) && same_written(&a->written, &b->written);
 }
 
 #endif

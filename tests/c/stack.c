@@ -5,14 +5,15 @@
 
 #include <ucontext.h>
 
-enum { STACK = 1 << 18, PAINT = 0xC5 };
+enum { STACK = 1 << 20, PAINT = 0xC5 };
 
 static _Alignas(64) uint8_t stack[STACK];
 static ucontext_t here, there;
 static struct scene scene;
 static struct masks all;
 static size_t second;
-static uint8_t list[LIST];
+static uint8_t list[LIST], wkb[2][WKB], object[WKB];
+static size_t wkb_length[2];
 static struct answers answers;
 
 static void ask_vectors(void)
@@ -53,6 +54,26 @@ static void ask_other_summary(void)
 static void ask_far(void)
 {
     answers.far = karvoiss_far(answers.first.record, 20, answers.second.record, 20);
+}
+
+static void ask_read(void)
+{
+    answers.read = karvoiss_read_wkb(wkb[0], wkb_length[0], object, sizeof object);
+}
+
+static void ask_other_read(void)
+{
+    answers.read = karvoiss_read_wkb(wkb[1], wkb_length[1], object, sizeof object);
+}
+
+static void ask_written(void)
+{
+    answers.written = karvoiss_write_wkb(scene.bytes, second, object, sizeof object);
+}
+
+static void ask_other_written(void)
+{
+    answers.written = karvoiss_write_wkb(scene.bytes + second, scene.length - second, object, sizeof object);
 }
 
 static void ask_estimate(void)
@@ -107,6 +128,10 @@ int main(int argc, char **argv)
         {"karvoiss_summary, the first object", ask_summary, KARVOISS_SUMMARY_STACK, 0},
         {"karvoiss_summary, the second object", ask_other_summary, KARVOISS_SUMMARY_STACK, 0},
         {"karvoiss_far", ask_far, KARVOISS_FAR_STACK, 0},
+        {"karvoiss_read_wkb, the first object", ask_read, KARVOISS_READ_WKB_STACK, 0},
+        {"karvoiss_read_wkb, the second object", ask_other_read, KARVOISS_READ_WKB_STACK, 0},
+        {"karvoiss_write_wkb, the first object", ask_written, KARVOISS_WRITE_WKB_STACK, 0},
+        {"karvoiss_write_wkb, the second object", ask_other_written, KARVOISS_WRITE_WKB_STACK, 0},
         {"karvoiss_estimate", ask_estimate, KARVOISS_ESTIMATE_STACK, 0},
         {"karvoiss_in_window", ask_window, KARVOISS_IN_WINDOW_STACK, 0},
     };
@@ -117,6 +142,8 @@ int main(int argc, char **argv)
         scene = read_scene(argv[i]);
         all = all_flags(scene.bytes, scene.length);
         second = second_object(scene.bytes, scene.length);
+        wkb_length[0] = wkb_of(scene.bytes, second, wkb[0]);
+        wkb_length[1] = wkb_of(scene.bytes + second, scene.length - second, wkb[1]);
         for (int k = 0; k < count; k++) {
             size_t used = used_by(calls[k].asks);
 

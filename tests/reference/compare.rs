@@ -6,6 +6,7 @@ use crate::byhand;
 use crate::damage::{damaged, noise, spoilt_summary};
 use crate::drawing::scene_text;
 use crate::exchange::{self, Answers};
+use crate::fences;
 use crate::judge::{judge, AreasAnswer, Judgement};
 use crate::library;
 use crate::maker::{full, side_by_side, small, some_pair, with_hub};
@@ -16,6 +17,9 @@ use crate::scaled;
 use crate::scene::{object_bytes, read_scene, scene_bytes, MOST, REGION};
 use crate::summary::{are_far, far, summary, FarAnswer, Summary};
 use crate::tally::Tally;
+use crate::wkb::{Reading, Writing};
+use crate::wkb_byhand::{self, hexadecimal};
+use crate::wkb_maker;
 use std::fmt::Debug;
 
 /// Guard bytes before and after what is lent.
@@ -79,6 +83,12 @@ impl Case {
         Case { from: format!("seed {seed}, of two regions"), bytes: scene_bytes(&f, &g), must_be_taken: true, seed, every_pattern: false }
     }
 
+    /// The well-known binary that a seed names, most of it not as it should be.
+    pub fn wkb_of_seed(seed: u64) -> Case {
+        let bytes = wkb_maker::some(&mut Random::new(seed));
+        Case { from: format!("seed {seed}, well-known binary"), bytes, must_be_taken: false, seed, every_pattern: false }
+    }
+
     fn by_hand(name: &str, bytes: Vec<u8>) -> Case {
         Case { from: format!("the scene made by hand: {name}"), bytes, must_be_taken: false, seed: 0, every_pattern: true }
     }
@@ -138,6 +148,105 @@ pub fn ask_areas(case: &Case, _: &Rules, tally: &mut Tally) -> Result<(), String
     }
     tally.both_ways += 1;
     Ok(())
+}
+
+/// Asks what well-known binary is read as, and what is written of that, which must be read as the same again; now and then what is written of other objects, most of them
+/// at fault.
+pub fn ask_wkb(case: &Case, rules: &Rules, tally: &mut Tally) -> Result<(), String> {
+    let told = |what: String| format!("DISAGREEMENT on {}\n{what}\nhexadecimal: {}", case.from, hexadecimal(&case.bytes));
+    let mut random = Random::new(!case.seed);
+    tally.scenes += 1;
+    if let Some(object) = ask_reading(&case.bytes, rules, &mut random, tally).map_err(told)? {
+        if let Some(wkb) = ask_writing(&object, rules, &mut random, tally).map_err(told)? {
+            let again = ask_reading(&wkb, rules, &mut random, tally).map_err(told)?;
+            if again.is_none_or(|again| again != object) {
+                return Err(told("what was written is not read as the same object".to_string()));
+            }
+            tally.wkb.back += 1;
+        }
+    }
+    if random.once_in(4) {
+        let kinds = some_pair(&mut random);
+        let (f, g) = small(&mut random, kinds);
+        let scene = damaged(&mut random, &f, &g);
+        let second = read_scene(&scene).map_or(0, |(_, g)| g.start);
+        let (first, second) = scene.split_at(second);
+        for object in [first, second] {
+            ask_writing(object, rules, &mut random, tally).map_err(|what| told(format!("{what}\nobject: {}", hexadecimal(object))))?;
+        }
+    }
+    Ok(())
+}
+
+/// Asks about the well-known binary made by hand, and about the objects.
+pub fn ask_wkb_by_hand(rules: &Rules, tally: &mut Tally) -> Result<(), String> {
+    let mut random = Random::new(0);
+    for known in wkb_byhand::read() {
+        ask_reading(&known.bytes, rules, &mut random, tally).map_err(|what| format!("{}: {what}", known.name))?;
+    }
+    for known in wkb_byhand::written() {
+        ask_writing(&known.bytes, rules, &mut random, tally).map_err(|what| format!("{}: {what}", known.name))?;
+    }
+    Ok(())
+}
+
+/// Into a buffer of some size, all of whose bytes must be as the reference leaves them, and once more beside pages that may not be touched; gives the answer and the buffer.
+fn ask_into<A: PartialEq + Debug>(
+    what: &str,
+    bytes: &[u8],
+    room: usize,
+    random: &mut Random,
+    engine: impl Fn(&[u8], &mut [u8]) -> A,
+    reference: impl Fn(&mut [u8]) -> A,
+) -> Result<(A, Vec<u8>), String> {
+    let contents: Vec<u8> = (0..room).map(|_| random.byte()).collect();
+    let (input, mut buffer) = (Lent::new(random, bytes), Lent::new(random, &contents));
+    let answer = engine(input.inside(), buffer.inside_mut());
+    agree(&format!("{what}, room {room}"), &reference(buffer.expected_mut()), &answer)?;
+    buffer.is_unchanged(&format!("{what}, the lent buffer of {room}"))?;
+    input.is_unchanged(&format!("{what}, the input"))?;
+    let (again, found) = fences::between(bytes, &contents, engine);
+    agree(&format!("{what}, room {room}, beside a fence"), &answer, &again)?;
+    if found != buffer.inside() {
+        return Err(format!("{what}, room {room}: another buffer beside a fence"));
+    }
+    Ok((answer, found))
+}
+
+/// Just enough first, then less, more or nothing.
+fn buffers(length: usize, random: &mut Random) -> [usize; 2] {
+    let more = random.below(300);
+    [length, random.pick(&[length.saturating_sub(1), length / 2, length + 1, length + more, 0])]
+}
+
+/// Gives the object that the engine reads.
+fn ask_reading(bytes: &[u8], rules: &Rules, random: &mut Random, tally: &mut Tally) -> Result<Option<Vec<u8>>, String> {
+    let reading = Reading::of(bytes, rules);
+    let mut object = None;
+    for room in buffers(reading.bytes.len(), random) {
+        let (answer, found) = ask_into("reading", bytes, room, random, library::read_wkb, |lent| reading.answer(lent))?;
+        tally.questions += 1;
+        tally.wkb.read(answer.number);
+        if answer.number == 0 {
+            object = Some(found[..answer.length].to_vec());
+        }
+    }
+    Ok(object)
+}
+
+/// Gives the well-known binary that the engine writes.
+fn ask_writing(bytes: &[u8], rules: &Rules, random: &mut Random, tally: &mut Tally) -> Result<Option<Vec<u8>>, String> {
+    let writing = Writing::of(bytes, rules);
+    let mut wkb = None;
+    for room in buffers(writing.0.as_ref().map_or(0, Vec::len), random) {
+        let (answer, found) = ask_into("writing", bytes, room, random, library::write_wkb, |lent| writing.answer(lent))?;
+        tally.questions += 1;
+        tally.wkb.written(answer.number);
+        if answer.number == 0 {
+            wkb = Some(found[..answer.length].to_vec());
+        }
+    }
+    Ok(wkb)
 }
 
 /// The engine's answers to two byte strings, one of them the other scaled, places and lists too.

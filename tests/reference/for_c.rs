@@ -14,11 +14,13 @@ mod pieces;
 mod plane;
 mod scene;
 mod summary;
+mod wkb;
 
 use judge::{judge, VectorsAnswer};
 use mistakes::RIGHT;
 use pieces::Extent;
 use summary::LENGTH;
+use wkb::{Reading, Writing};
 
 #[repr(C)]
 pub struct Vectors {
@@ -70,6 +72,21 @@ pub struct Far {
     look: bool,
     f: u16,
     g: u16,
+}
+
+#[repr(C)]
+pub struct ReadWkb {
+    number: u32,
+    place: usize,
+    length: usize,
+    value: f64,
+}
+
+#[repr(C)]
+pub struct WriteWkb {
+    number: u32,
+    place: usize,
+    length: usize,
 }
 
 #[repr(C)]
@@ -129,4 +146,26 @@ pub unsafe extern "C" fn reference_answers(
         summary: Summary { number: summary.number, place: summary.place, record: summary.record },
         far: Far { number: far.number, place: far.place, look: far.look, f: far.f, g: far.g },
     }
+}
+
+/// The object that the bytes are read as, if they are well-known binary, into `buffer`.
+///
+/// # Safety
+/// `wkb` has `length` bytes and `buffer` has `room`, neither is null.
+#[no_mangle]
+pub unsafe extern "C" fn reference_read_wkb(wkb: *const u8, length: usize, buffer: *mut u8, room: usize) -> ReadWkb {
+    let (wkb, buffer) = unsafe { (std::slice::from_raw_parts(wkb, length), std::slice::from_raw_parts_mut(buffer, room)) };
+    let answer = Reading::of(wkb, &RIGHT).answer(buffer);
+    ReadWkb { number: answer.number, place: answer.place, length: answer.length, value: answer.value.0 }
+}
+
+/// The well-known binary of the bytes, if they are points or a line, into `buffer`.
+///
+/// # Safety
+/// `object` has `length` bytes and `buffer` has `room`, neither is null.
+#[no_mangle]
+pub unsafe extern "C" fn reference_write_wkb(object: *const u8, length: usize, buffer: *mut u8, room: usize) -> WriteWkb {
+    let (object, buffer) = unsafe { (std::slice::from_raw_parts(object, length), std::slice::from_raw_parts_mut(buffer, room)) };
+    let answer = Writing::of(object, &RIGHT).answer(buffer);
+    WriteWkb { number: answer.number, place: answer.place, length: answer.length }
 }

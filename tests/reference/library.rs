@@ -11,6 +11,7 @@ mod linked {
     use crate::cells::of_signs;
     use crate::judge::{AreasAnswer, CellsAnswer, OverlapAnswer, RelateAnswer, VectorsAnswer};
     use crate::summary::{FarAnswer, SummaryAnswer, LENGTH};
+    use crate::wkb::{ReadAnswer, Value, WriteAnswer};
 
     pub const NAME: &str = "the linked archive";
 
@@ -70,6 +71,21 @@ mod linked {
         g: u16,
     }
 
+    #[repr(C)]
+    struct ReadWkb {
+        number: u32,
+        place: usize,
+        length: usize,
+        value: f64,
+    }
+
+    #[repr(C)]
+    struct WriteWkb {
+        number: u32,
+        place: usize,
+        length: usize,
+    }
+
     extern "C" {
         fn karvoiss_vectors(scene: *const u8, length: usize, want_f: u16, want_g: u16) -> Vectors;
         fn karvoiss_cells(scene: *const u8, length: usize) -> Cells;
@@ -78,6 +94,8 @@ mod linked {
         fn karvoiss_areas(scene: *const u8, length: usize) -> Areas;
         fn karvoiss_summary(object: *const u8, length: usize) -> Summary;
         fn karvoiss_far(first: *const u8, first_length: usize, second: *const u8, second_length: usize) -> Far;
+        fn karvoiss_read_wkb(wkb: *const u8, length: usize, object: *mut u8, room: usize) -> ReadWkb;
+        fn karvoiss_write_wkb(object: *const u8, length: usize, wkb: *mut u8, room: usize) -> WriteWkb;
     }
 
     /// Null where the length is 0, which the header allows.
@@ -134,6 +152,16 @@ mod linked {
         let answer = unsafe { karvoiss_areas(start(scene), scene.len()) };
         AreasAnswer { number: answer.number, place: answer.place, areas: [answer.both, answer.f_only, answer.g_only] }
     }
+
+    pub fn read_wkb(wkb: &[u8], object: &mut [u8]) -> ReadAnswer {
+        let answer = unsafe { karvoiss_read_wkb(start(wkb), wkb.len(), object.as_mut_ptr(), object.len()) };
+        ReadAnswer { number: answer.number, place: answer.place, length: answer.length, value: Value(answer.value) }
+    }
+
+    pub fn write_wkb(object: &[u8], wkb: &mut [u8]) -> WriteAnswer {
+        let answer = unsafe { karvoiss_write_wkb(start(object), object.len(), wkb.as_mut_ptr(), wkb.len()) };
+        WriteAnswer { number: answer.number, place: answer.place, length: answer.length }
+    }
 }
 
 #[cfg(not(library))]
@@ -141,6 +169,7 @@ mod stand_in {
     use crate::judge::{judge, AreasAnswer, CellsAnswer, OverlapAnswer, RelateAnswer, VectorsAnswer};
     use crate::mistakes::RIGHT;
     use crate::summary::{self, FarAnswer, SummaryAnswer};
+    use crate::wkb::{ReadAnswer, Reading, WriteAnswer, Writing};
 
     pub const NAME: &str = "no archive: the reference against itself";
 
@@ -170,5 +199,13 @@ mod stand_in {
 
     pub fn far(first: &[u8], second: &[u8]) -> Result<FarAnswer, String> {
         Ok(summary::far(first, second, &RIGHT))
+    }
+
+    pub fn read_wkb(wkb: &[u8], object: &mut [u8]) -> ReadAnswer {
+        Reading::of(wkb, &RIGHT).answer(object)
+    }
+
+    pub fn write_wkb(object: &[u8], wkb: &mut [u8]) -> WriteAnswer {
+        Writing::of(object, &RIGHT).answer(wkb)
     }
 }

@@ -12,6 +12,7 @@ mod compare;
 mod damage;
 mod drawing;
 mod exchange;
+mod fences;
 mod flags;
 mod judge;
 mod library;
@@ -27,8 +28,11 @@ mod scaled;
 mod scene;
 mod summary;
 mod tally;
+mod wkb;
+mod wkb_byhand;
+mod wkb_maker;
 
-use compare::{ask, ask_areas, ask_by_hand, Case};
+use compare::{ask, ask_areas, ask_by_hand, ask_wkb, ask_wkb_by_hand, Case};
 use judge::{judge, VectorsAnswer};
 use mistakes::{Rules, MISTAKES, RIGHT};
 use plane::Point;
@@ -38,21 +42,27 @@ use std::process::exit;
 use std::time::{Duration, Instant};
 use summary::{far, FarAnswer, Summary};
 use tally::{Reach, Tally};
+use wkb::{Reading, Slip, Writing};
+use wkb_byhand::hexadecimal;
 
 const USAGE: &str = "usage: reference answer < scene    the line that explore writes
        reference list < scene      the overlap list, or its refusal
        reference areas < scene     the areas, or their refusal
        reference summary < object  the 20 bytes of its summary, or its refusal
+       reference read < wkb        the object that well-known binary is read as in hexadecimal, or the refusal
+       reference write < object    the well-known binary of an object in hexadecimal, or the refusal
        reference vectors < text    the lines that the program test_vectors writes
        reference draw < scene      the scene as bytes, words and a drawing
        reference scene SEED        writes the scene that a seed names
        reference object SEED       writes an object that a seed names
+       reference wkb SEED          writes the well-known binary that a seed names
        reference self              the scenes made by hand against their known answers
        reference compare             the fixed run: all must agree, and it must reach enough
            --scenes N, --seed N      another number of scenes, another seed
            --hubs                    scenes alone in which a line has a hub, of three to seven segments
            --regions                 scenes of two regions, and of these the areas alone
            --beside                  objects side by side alone, for what their summaries tell
+           --wkb                     well-known binary alone, read, written and read back
            --seconds N               fresh seeds for so long instead
            --mistake NAME            with a mistake in the reference: must disagree
            --trace                   names each scene before it is asked about
@@ -83,12 +93,21 @@ fn main() {
             println!("{}", summary_line(&input()));
             true
         }
+        ["read"] => {
+            println!("{}", read_line(&input()));
+            true
+        }
+        ["write"] => {
+            println!("{}", write_line(&input()));
+            true
+        }
         ["vectors"] => answer_cases(&String::from_utf8_lossy(&input())),
         ["draw"] => {
             print!("{}", drawing::scene_text(&input()));
             true
         }
         ["object", seed] => std::io::stdout().write_all(&Case::object_of_seed(number(seed))).is_ok(),
+        ["wkb", seed] => std::io::stdout().write_all(&Case::wkb_of_seed(number(seed)).bytes).is_ok(),
         ["scene", seed] => std::io::stdout().write_all(&Case::of_seed(number(seed)).bytes).is_ok(),
         ["self"] => self_test(),
         ["compare", "--mistakes"] => all_mistakes(),
@@ -138,6 +157,26 @@ fn summary_line(bytes: &[u8]) -> String {
     match answer.number {
         0 => answer.record.map(|byte| format!("{byte:02x}")).join(" "),
         number => format!("no {number} {}", answer.place),
+    }
+}
+
+/// The object's bytes in hexadecimal, or `no`, number, place and, beside 25, the number that was read.
+fn read_line(bytes: &[u8]) -> String {
+    let reading = Reading::of(bytes, &RIGHT);
+    let mut object = vec![0; reading.bytes.len()];
+    let answer = reading.answer(&mut object);
+    match answer.number {
+        0 => hexadecimal(&object),
+        25 => format!("no 25 {} {:?}", answer.place, answer.value.0),
+        number => format!("no {number} {}", answer.place),
+    }
+}
+
+/// The well-known binary in hexadecimal, or `no`, number and place.
+fn write_line(bytes: &[u8]) -> String {
+    match Writing::of(bytes, &RIGHT).0 {
+        Ok(wkb) => hexadecimal(&wkb),
+        Err(refusal) => format!("no {} {}", refusal.number, refusal.place),
     }
 }
 
@@ -216,6 +255,12 @@ fn self_test() -> bool {
             summary.some_object(&RIGHT).map_or("not made", |_| "made").to_string(),
         );
     }
+    for known in wkb_byhand::read() {
+        check(known.name, &known.line, read_line(&known.bytes));
+    }
+    for known in wkb_byhand::written() {
+        check(known.name, &known.line, write_line(&known.bytes));
+    }
     println!("self-test: {passed} passed, {failed} failed");
     failed == 0
 }
@@ -234,10 +279,11 @@ fn small_summaries() -> Vec<Summary> {
     all
 }
 
-/// A comparison: the scenes made by hand, then those of a seed, a number of them or as many as there is time for.
+/// A comparison: what was made by hand, scenes or with `wkb` well-known binary alone, then those of a seed, a number of them or as many as there is time for.
 struct Run {
     rules: Rules,
     by_hand: bool,
+    wkb: bool,
     made: fn(u64) -> Case,
     asks: fn(&Case, &Rules, &mut Tally) -> Result<(), String>,
     seed: u64,
@@ -248,10 +294,13 @@ struct Run {
 
 impl Run {
     fn go(&self, tally: &mut Tally) -> Result<(), String> {
-        let by_hand = if self.by_hand { Case::all_by_hand() } else { Vec::new() };
+        let by_hand = if self.by_hand && !self.wkb { Case::all_by_hand() } else { Vec::new() };
         let mut seeds = Random::new(self.seed);
         let of_seed = (0..self.scenes).map(|_| (self.made)(seeds.next()));
         if self.by_hand {
+            ask_wkb_by_hand(&self.rules, tally)?;
+        }
+        if self.by_hand && !self.wkb {
             ask_by_hand(&self.rules, tally)?;
         }
         for case in by_hand.into_iter().chain(of_seed) {
@@ -269,7 +318,8 @@ impl Run {
 
 fn compare(arguments: &[&str]) -> bool {
     let start = Instant::now();
-    let mut run = Run { rules: RIGHT, by_hand: true, made: Case::of_seed, asks: ask, seed: SEED, scenes: SCENES, until: None, trace: false };
+    let mut run =
+        Run { rules: RIGHT, by_hand: true, wkb: false, made: Case::of_seed, asks: ask, seed: SEED, scenes: SCENES, until: None, trace: false };
     let mut reach = Reach::Everything;
     let mut seed = None;
     let mut arguments = arguments.iter();
@@ -286,6 +336,9 @@ fn compare(arguments: &[&str]) -> bool {
             }
             "--beside" => {
                 (run.by_hand, run.made, reach) = (false, Case::side_by_side_of_seed, Reach::Summaries);
+            }
+            "--wkb" => {
+                (run.wkb, run.made, run.asks) = (true, Case::wkb_of_seed, ask_wkb);
             }
             "--seconds" => {
                 run.until = Some(start + Duration::from_secs(number(value())));
@@ -307,7 +360,8 @@ fn compare(arguments: &[&str]) -> bool {
     let mut tally = Tally::default();
     let outcome = run.go(&mut tally);
     // a run that was cut short, by a disagreement or by the clock, need not have reached everything
-    let wrong = tally.report(if outcome.is_ok() && run.until.is_none() { reach } else { Reach::Nothing });
+    let complete = outcome.is_ok() && run.until.is_none();
+    let wrong = if run.wkb { tally.report_wkb(complete) } else { tally.report(if complete { reach } else { Reach::Nothing }) };
     wrong.iter().for_each(|what| println!("WRONG: {what}"));
     if let Err(what) = &outcome {
         println!("{what}");
@@ -322,11 +376,13 @@ fn all_mistakes() -> bool {
     let mut caught_all = true;
     for mistake in &MISTAKES {
         let mut tally = Tally::default();
+        let of_wkb = mistake.rules.wkb != Slip::None;
         let run = Run {
             rules: mistake.rules,
             by_hand: false,
-            made: Case::of_seed,
-            asks: ask,
+            wkb: of_wkb,
+            made: if of_wkb { Case::wkb_of_seed } else { Case::of_seed },
+            asks: if of_wkb { ask_wkb } else { ask },
             seed: SEED,
             scenes: SCENES_PER_MISTAKE,
             until: None,

@@ -8,6 +8,7 @@ use crate::pieces::Extent;
 use crate::plane::{inside, interior_above, Point, Segment};
 use crate::scene::{Half, Object, Refusal, LINE, POINTS, REGION};
 use crate::summary::{are_far, corners, has_boundary, FarAnswer, Summary};
+use crate::wkb::Slip;
 
 /// The order in which the two objects of a scene are taken up: the one given first, or the one of the lower type.
 #[derive(Clone, Copy, PartialEq, Eq, Default)]
@@ -28,7 +29,7 @@ impl Order {
 }
 
 /// What a mistake may exchange. `faults`: whose fault goes first where a number is found in both; `crossings`: whose record 15 names first; from `corners` on, what
-/// summaries are made of and tell.
+/// summaries are made of and tell; `wkb`: the way in which well-known binary is got wrong.
 #[derive(Clone, Copy)]
 pub struct Rules {
     pub line_boundary: fn(&Object) -> Vec<Point>,
@@ -43,6 +44,7 @@ pub struct Rules {
     pub is_good: fn(&Summary) -> bool,
     pub are_far: fn(&Summary, &Summary) -> bool,
     pub spoil_far: fn(&mut FarAnswer, &Summary, &Summary),
+    pub wkb: Slip,
 }
 
 impl Rules {
@@ -70,6 +72,7 @@ pub const RIGHT: Rules = Rules {
     is_good: Summary::is_good,
     are_far,
     spoil_far: |_, _, _| (),
+    wkb: Slip::None,
 };
 
 pub struct Mistake {
@@ -78,9 +81,13 @@ pub struct Mistake {
     pub rules: Rules,
 }
 
+const fn wkb_mistake(name: &'static str, says: &'static str, wkb: Slip) -> Mistake {
+    Mistake { name, says, rules: Rules { wkb, ..RIGHT } }
+}
+
 /// Every mistake, by the name that `--mistake` takes: the four, from "refuse-all" on the imitations, then those about two zero masks, those about scenes whose
-/// first type is above the second, those about hubs, those about what a cell extends to, those about patterns, those about summaries, those about areas, and one about the range.
-pub const MISTAKES: [Mistake; 57] = [
+/// first type is above the second, those about hubs, those about what a cell extends to, those about patterns, those about summaries, those about areas, one about the range, and those about well-known binary.
+pub const MISTAKES: [Mistake; 82] = [
     Mistake {
         name: "next-halfsegment",
         says: "a line's end is a boundary point if the next halfsegment starts elsewhere",
@@ -295,6 +302,31 @@ pub const MISTAKES: [Mistake; 57] = [
     },
     Mistake { name: "areas-exchanged", says: "in F only and in G only are exchanged", rules: Rules { spoil: |j| j.areas.swap(1, 2), ..RIGHT } },
     Mistake { name: "narrow-ground", says: "4 beyond 1,000,000, as document 01 has it", rules: Rules { spoil: narrow_ground, ..RIGHT } },
+    wkb_mistake("outer-order", "the outer byte order is used below", Slip::OuterOrder),
+    wkb_mistake("closed-by-bits", "a ring is closed if its first and last point have the same bits", Slip::ClosedByBits),
+    wkb_mistake("closed-by-nan", "a ring whose first and last point are NaN is closed", Slip::ClosedByNan),
+    wkb_mistake("cut-y-at-x", "a cut y is placed at its x", Slip::CutAtX),
+    wkb_mistake("cut-at-the-end", "a cut field is placed where the bytes end", Slip::CutAtEnd),
+    wkb_mistake("left-over", "what is left over is passed over", Slip::LeftOver),
+    wkb_mistake("masked-type", "the type is masked: Z and SRID are passed over", Slip::MaskedType),
+    wkb_mistake("open-after-points", "26 is found after the ring's coordinates", Slip::OpenAfterPoints),
+    wkb_mistake("open-where-cut", "a ring that is cut may be open", Slip::OpenWhereCut),
+    wkb_mistake("26-before-24", "26 before 24 at one count", Slip::OpenBeforeShort),
+    wkb_mistake("ring-of-none", "a ring of none adds nothing", Slip::EmptyRing),
+    wkb_mistake("part-of-one", "a part of one point adds nothing", Slip::OnePoint),
+    wkb_mistake("minus-zero", "-0.0 is no whole number", Slip::MinusZero),
+    wkb_mistake("25-without-number", "no number goes back with 25", Slip::NoValue),
+    wkb_mistake("narrow-wkb", "25 beyond 1,000,000, as document 01 has the range", Slip::Narrow),
+    wkb_mistake("20-with-equal", "20 is found before equal ones are dropped", Slip::CountedWithEqual),
+    wkb_mistake("directed", "a segment and the same the other way round are two", Slip::Directed),
+    wkb_mistake("cancelled", "a region's segment that comes twice is cancelled", Slip::Cancelled),
+    wkb_mistake("12-for-10", "segments in one line from a common end are refused with 12", Slip::TwelveForTen),
+    wkb_mistake("place-of-record", "10, 12 and 13 are placed in the object that was not handed out", Slip::PlaceOfRecord),
+    wkb_mistake("written-early", "the buffer is written before the last check", Slip::WrittenEarly),
+    wkb_mistake("21-first", "21 before the object's checks", Slip::ShortFirst),
+    wkb_mistake("right-end-first", "a segment is written with its right end first", Slip::RightFirst),
+    wkb_mistake("24-first", "a region is refused with 24 before its own refusals", Slip::RegionFirst),
+    wkb_mistake("empty-region", "an empty region is written", Slip::EmptyRegion),
 ];
 
 /// A segment of two regions, with its terms in the three shoelace sums.

@@ -14,6 +14,10 @@ use std::collections::{BTreeMap, BTreeSet};
 /// The refusals that can occur.
 const NUMBERS: [u32; 18] = [1, 2, 3, 4, 5, 6, 7, 9, 10, 11, 12, 13, 14, 15, 16, 17, 22, 23];
 
+/// The numbers that reading and writing well-known binary can have, 0 for taken.
+const READ: [u32; 9] = [0, 10, 12, 13, 20, 21, 24, 25, 26];
+const WRITTEN: [u32; 15] = [0, 1, 2, 3, 4, 5, 6, 7, 10, 11, 12, 13, 14, 21, 24];
+
 /// How often each refusal must have been met, and scenes of full size, and scenes at the limits of the range.
 const LEAST: usize = 50;
 
@@ -62,6 +66,40 @@ pub struct Tally {
     rows: BTreeSet<[(u8, u8, u8); 2]>,
     /// Bad summaries, by the place that 18 names.
     bad_summaries: [usize; 2],
+    pub wkb: Wkb,
+}
+
+/// Well-known binary: how often reading and writing had each number, and what was written and read as the same object again.
+#[derive(Default)]
+pub struct Wkb {
+    read: BTreeMap<u32, usize>,
+    written: BTreeMap<u32, usize>,
+    pub back: usize,
+}
+
+impl Wkb {
+    pub fn read(&mut self, number: u32) {
+        *self.read.entry(number).or_default() += 1;
+    }
+
+    pub fn written(&mut self, number: u32) {
+        *self.written.entry(number).or_default() += 1;
+    }
+
+    fn report(&self, complete: bool) -> Vec<String> {
+        let mut wrong = Vec::new();
+        for (what, times, numbers) in [("read", &self.read, &READ[..]), ("written", &self.written, &WRITTEN)] {
+            let times = |number: &u32| *times.get(number).unwrap_or(&0);
+            println!(
+                "well-known binary {what}: {}",
+                numbers.iter().map(|number| format!("{number}: {}", times(number))).collect::<Vec<_>>().join("  ")
+            );
+            let rare = numbers.iter().filter(|number| complete && times(number) < LEAST);
+            wrong.extend(rare.map(|number| format!("well-known binary {what}: {number} came fewer than {LEAST} times")));
+        }
+        println!("well-known binary written and read back: {}", self.back);
+        wrong
+    }
 }
 
 /// What a run must have reached to be right.
@@ -137,6 +175,12 @@ impl Tally {
     /// Counts a refusal.
     pub fn refusal(&mut self, number: u32) {
         *self.refusals.entry(number).or_default() += 1;
+    }
+
+    /// Prints the counts of well-known binary alone; gives what is wrong with them.
+    pub fn report_wkb(&self, complete: bool) -> Vec<String> {
+        println!("{} strings of well-known binary, {} questions", self.scenes, self.questions);
+        self.wkb.report(complete)
     }
 
     /// Prints the counts; gives what is wrong with them.

@@ -1,7 +1,8 @@
 //! The command line of the tool: options, input, output. Exit code 1 for what is wrong with the input, 2 for a wrong command line.
 
+use scene::listing::NAMES;
 use scene::text::Fault;
-use scene::{answer, draw, explain, make, show};
+use scene::{answer, draw, explain, make, show, wkb};
 use std::io::{IsTerminal, Read, Write};
 use std::path::PathBuf;
 use std::process::ExitCode;
@@ -38,13 +39,15 @@ fn wrong_command(message: String) -> Failure {
 
 #[derive(Default)]
 struct Options {
-    file: Option<String>,
+    files: Vec<String>,
     out: Option<String>,
     beyond: bool,
     at: Option<usize>,
     text: bool,
     explore: Option<PathBuf>,
     is: Option<String>,
+    of: usize,
+    hex: bool,
 }
 
 /// Each command takes some of the options.
@@ -63,9 +66,15 @@ fn options(words: &[String]) -> Result<Options, Failure> {
             ("show", "--text") => options.text = true,
             ("draw" | "explain", "--explore") => options.explore = Some(value()?.into()),
             ("explain", "--is") => options.is = Some(value()?),
+            ("wkb", "--of") => {
+                let name = value()?;
+                options.of = wkb::object_named(&name).ok_or(wrong_command(format!("--of {name} is neither F nor G")))?;
+            }
+            ("wkb", "--hex") => options.hex = true,
             (_, option) if option.starts_with('-') && option != "-" => return Err(wrong_command(format!("{option} is no option here"))),
-            (_, file) if options.file.is_none() => options.file = Some(file.to_string()),
-            (_, file) => return Err(wrong_command(format!("a second file, {file}"))),
+            (_, file) if options.files.is_empty() => options.files.push(file.to_string()),
+            ("make", file) if options.files.len() == 1 => options.files.push(file.to_string()),
+            (_, file) => return Err(wrong_command(format!("{}, {file}", ["a second file", "a third file"][options.files.len() - 1]))),
         }
     }
     Ok(options)
@@ -73,11 +82,11 @@ fn options(words: &[String]) -> Result<Options, Failure> {
 
 fn run(words: &[String]) -> Result<(), Failure> {
     let command = words[0].as_str();
-    if !["make", "show", "draw", "explain"].contains(&command) {
+    if !["make", "show", "draw", "explain", "wkb"].contains(&command) {
         return Err(wrong_command("no such command".to_string()));
     }
     let options = options(words)?;
-    let input = input(&options)?;
+    let input = input(options.files.first())?;
     if command != "make" && looks_like_text(&input) {
         return Err(wrong_input("this is text, not scene bytes: make them with `scene make`".to_string()));
     }
@@ -86,6 +95,7 @@ fn run(words: &[String]) -> Result<(), Failure> {
         "make" => made(&input, &options)?,
         "show" => shown(&input, &options)?.into_bytes(),
         "draw" => draw::picture(&input, &ask()).into_bytes(),
+        "wkb" => written(&input, &options)?,
         _ => {
             let answer = ask().map_err(|why| wrong_input(why + "; say where it is with --explore PATH"))?;
             explain::words(&input, &answer, options.is.as_deref()).map_err(|why| wrong_command(format!("--is {why}")))?.into_bytes()
@@ -94,9 +104,9 @@ fn run(words: &[String]) -> Result<(), Failure> {
     output(&options, &result)
 }
 
-fn input(options: &Options) -> Result<Vec<u8>, Failure> {
+fn input(file: Option<&String>) -> Result<Vec<u8>, Failure> {
     let mut bytes = Vec::new();
-    match options.file.as_deref() {
+    match file.map(String::as_str) {
         None | Some("-") => std::io::stdin().read_to_end(&mut bytes).map_err(|error| wrong_input(format!("standard input: {error}")))?,
         Some(file) => {
             let open = std::fs::File::open(file);
@@ -128,13 +138,49 @@ fn explore(options: &Options) -> PathBuf {
     options.explore.clone().or_else(named).unwrap_or_else(|| PathBuf::from("target/bin/explore"))
 }
 
-fn made(input: &[u8], options: &Options) -> Result<Vec<u8>, Failure> {
+fn not_for_reading(options: &Options, what: &str) -> Result<(), Failure> {
     if options.out.is_none() && std::io::stdout().is_terminal() {
-        return Err(wrong_command("scene bytes are not for reading: name a file with -o, or send them on".to_string()));
+        return Err(wrong_command(format!("{what} not for reading: name a file with -o, or send them on")));
     }
+    Ok(())
+}
+
+/// From one file or from standard input two objects, from two files one each.
+fn made(input: &[u8], options: &Options) -> Result<Vec<u8>, Failure> {
+    not_for_reading(options, "scene bytes are")?;
+    match &options.files[..] {
+        [first, second] => {
+            let other = self::input(Some(second))?;
+            Ok([one_of_two(input, first, options)?, one_of_two(&other, second, options)?].concat())
+        }
+        [only] if is_wkb(only) => Err(wrong_command(format!("{only} is one object: name the other's file too"))),
+        files => from_text(input, files.first(), |text| make::scene(text, options.beyond)),
+    }
+}
+
+fn is_wkb(file: &str) -> bool {
+    file.to_ascii_lowercase().ends_with(".wkb")
+}
+
+fn one_of_two(input: &[u8], file: &String, options: &Options) -> Result<Vec<u8>, Failure> {
+    if is_wkb(file) {
+        return wkb::read(input).map_err(|why| wrong_input(format!("{file}{why}")));
+    }
+    from_text(input, Some(file), |text| make::object(text, options.beyond))
+}
+
+fn written(input: &[u8], options: &Options) -> Result<Vec<u8>, Failure> {
+    if !options.hex {
+        not_for_reading(options, "these bytes are")?;
+    }
+    let object = wkb::write(input, options.of).map_err(|why| wrong_input(format!("{}{why}", NAMES[options.of])))?;
+    Ok(if options.hex { wkb::spelt(&object) } else { object })
+}
+
+fn from_text(input: &[u8], file: Option<&String>, makes: impl Fn(&str) -> Result<Vec<u8>, Fault>) -> Result<Vec<u8>, Failure> {
     let text = String::from_utf8_lossy(input);
-    make::scene(&text, options.beyond).map_err(|fault| {
-        let file = options.file.as_deref().filter(|file| *file != "-").map(|file| format!("{file}, ")).unwrap_or_default();
+    makes(&text).map_err(|fault| {
+        let file = file.filter(|file| *file != "-").map(|file| format!("{file}, ")).unwrap_or_default();
         let Fault { line, column, message } = &fault;
         wrong_input(format!("{file}line {line}, column {column}: {message}{}", excerpt(&text, &fault)))
     })

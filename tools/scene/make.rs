@@ -8,11 +8,20 @@ use std::collections::HashSet;
 
 /// `beyond` takes every 32-bit coordinate and any number of elements, to make what `explore` refuses.
 pub fn scene(text: &str, beyond: bool) -> Result<Vec<u8>, Fault> {
+    written(&text::read::<2>(text, beyond)?, beyond)
+}
+
+/// One object of a scene.
+pub fn object(text: &str, beyond: bool) -> Result<Vec<u8>, Fault> {
+    written(&text::read::<1>(text, beyond)?, beyond)
+}
+
+fn written(objects: &[Described], beyond: bool) -> Result<Vec<u8>, Fault> {
     let mut out = Vec::new();
-    for object in text::read(text, beyond)? {
+    for object in objects {
         let most = if beyond { usize::MAX } else { MOST };
         bytes::write(&Record::Type(object.kind.byte()), &mut out);
-        elements(&object, most)?.iter().for_each(|record| bytes::write(record, &mut out));
+        elements(object, most)?.iter().for_each(|record| bytes::write(record, &mut out));
         bytes::write(&Record::End, &mut out);
     }
     Ok(out)

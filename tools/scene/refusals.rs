@@ -1,4 +1,4 @@
-//! The refusals that `explore` can give, in words, with what to do about each.
+//! The refusals that `explore` can give, and those of well-known binary, in words, with what to do about each.
 
 pub struct Refusal {
     pub says: &'static str,
@@ -26,6 +26,13 @@ pub fn of(number: usize) -> Refusal {
         ),
         14 => ("ia is wrong: the interior is on the other side of the segment", BYTES),
         15 => ("unequal segments of F and G share a point that is not an end of both", "Split both segments at the points they share."),
+        20 => ("there are more than 1,024 different points or 512 different segments", ""),
+        24 => (
+            "cut, left over, or nothing that is allowed here",
+            "MultiPoint, MultiLineString and MultiPolygon are read, without Z, M and SRID; a part has two points or more, a ring four or more.",
+        ),
+        25 => ("a coordinate is not a whole number in range", ""),
+        26 => ("the last point of this ring is not its first", ""),
         _ => ("an unknown refusal", ""),
     };
     Refusal { says, advice }

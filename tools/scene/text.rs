@@ -1,4 +1,4 @@
-//! Well-known text to two objects, each as paths of points with their columns. One object to a line, F first; empty lines and lines that
+//! Well-known text to two objects, or to one, each as paths of points with their columns. One object to a line, F first; empty lines and lines that
 //! begin with # are passed over. Whatever is wrong is a fault with its line and column, the first in reading order.
 
 use crate::bytes::Kind;
@@ -33,7 +33,11 @@ impl Described {
 }
 
 /// `beyond` takes every 32-bit coordinate.
-pub fn read(text: &str, beyond: bool) -> Result<[Described; 2], Fault> {
+pub fn read<const COUNT: usize>(text: &str, beyond: bool) -> Result<[Described; COUNT], Fault> {
+    let (more, all, rule) = match COUNT {
+        1 => ("a second", "one object", "beside another file, a file holds one"),
+        _ => ("a third", "two objects", "a scene is two objects, F then G, one to a line"),
+    };
     let mut objects = Vec::new();
     let mut last = 0;
     for (number, line) in text.trim_start_matches('\u{feff}').lines().enumerate() {
@@ -42,17 +46,13 @@ pub fn read(text: &str, beyond: bool) -> Result<[Described; 2], Fault> {
             continue;
         }
         let mut reader = Reader { signs: words::split(line), at: 0, line: last, beyond };
-        if objects.len() == 2 {
-            return Err(reader.fault("a third object: a scene is two objects, F then G, one to a line".to_string()));
+        if objects.len() == COUNT {
+            return Err(reader.fault(format!("{more} object: {rule}")));
         }
         objects.push(reader.object()?);
     }
     let found = objects.len();
-    objects.try_into().map_err(|_| Fault {
-        line: last + 1,
-        column: 1,
-        message: format!("the text ends after {found} of two objects: a scene is two objects, F then G, one to a line"),
-    })
+    objects.try_into().map_err(|_| Fault { line: last + 1, column: 1, message: format!("the text ends after {found} of {all}: {rule}") })
 }
 
 struct Reader {

@@ -13,7 +13,7 @@ use Rattle.plane.specs.declared.Point.{Point}
 use Rattle.plane.specs.declared.Segment.{Segment}
 use Rattle.plane.specs.Plane.{limit, segment_in_range, side}
 use Rattle.plane.proofs.Machine.{nat_abs_sum, nat_abs_difference, small_fits, left_in_range, right_in_range}
-use Rattle.areas.specs.Parts.{shoelace, weighed}
+use Rattle.plane.specs.Shoelace.{shoelace, weighed}
 use Rattle.areas.proofs.Weighed.{weighed_same}
 use Rattle.areas.proofs.Bounds.{most_term, shoelace_most, weighed_most}
 

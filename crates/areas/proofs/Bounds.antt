@@ -9,7 +9,7 @@ use Rattle.whole.specs.Count.{bit}
 use Rattle.plane.specs.declared.Segment.{Segment}
 use Rattle.plane.specs.Plane.{within}
 use Rattle.plane.proofs.Machine.{nat_abs_difference, nat_abs_product, within_x, within_y}
-use Rattle.areas.specs.Parts.{shoelace, weighed}
+use Rattle.plane.specs.Shoelace.{shoelace, weighed}
 
 -- the widest range, and what a product of two coordinates in it, or a segment's value, is at most
 abbrev pub widest : ℕ

@@ -10,7 +10,8 @@ use Rattle.scene.specs.Conditions.{segments, is_in_order, out_of_order, partner,
 use Rattle.flags.specs.Elements.{edges}
 use Rattle.overlap.specs.Bytes.{adjoins}
 use Rattle.overlap.specs.Rules.{check_regions}
-use Rattle.areas.specs.Parts.{shoelace, weighed, part_area}
+use Rattle.plane.specs.Shoelace.{shoelace, weighed}
+use Rattle.areas.specs.Parts.{part_area}
 use Rattle.std.specs.Prelude.{Ok, Err}
 use Rattle.areas.specs.Areas.{AreasAnswer, areas_of}
 

@@ -11,8 +11,10 @@ use Rattle.plane.proofs.Order.{LeftBefore}
 use Rattle.flags.specs.Flags.{Edge, outline}
 use Rattle.overlap.specs.Bytes.{merge, adjoins}
 use Rattle.overlap.proofs.Members.{merge_in, in_merge_f, in_merge_g}
-use Rattle.areas.specs.Parts.{total, shoelace, weighed, Part, in_both, in_f_only, in_g_only, belongs, share, part_area}
-use Rattle.areas.proofs.Totals.{total_same}
+use Rattle.whole.specs.Count.{total}
+use Rattle.plane.specs.Shoelace.{shoelace, weighed}
+use Rattle.areas.specs.Parts.{Part, in_both, in_f_only, in_g_only, belongs, share, part_area}
+use Rattle.whole.proofs.Totals.{total_same}
 use Rattle.areas.proofs.Own.{one_way}
 
 abbrev pub exchanged : Part → Part

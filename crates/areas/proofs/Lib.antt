@@ -1,6 +1,5 @@
 -- The laws of the areas.
--- the sums over lists, what a segment is worth by its sides, a region by itself, the two the other way round, and the parts that make up a region
-pub mod Totals
+-- what a segment is worth by its sides, a region by itself, the two the other way round, and the parts that make up a region
 pub mod Weighed
 pub mod Own
 pub mod Exchanged

@@ -14,8 +14,10 @@ use Rattle.flags.specs.Flags.{Edge, outline, has_segment}
 use Rattle.overlap.specs.Bytes.{adjoins}
 use Rattle.overlap.proofs.Adjoins.{adjoins_other, Marked, adjoins_edge}
 use Rattle.whole.proofs.Sorted.{Among, OneWay, sorted_unique, kept, kept_in, in_kept, sorted_kept}
-use Rattle.areas.specs.Parts.{total, shoelace, weighed, own_area}
-use Rattle.areas.proofs.Totals.{total_same, total_kept, total_map}
+use Rattle.whole.specs.Count.{total}
+use Rattle.plane.specs.Shoelace.{shoelace, weighed}
+use Rattle.areas.specs.Parts.{own_area}
+use Rattle.whole.proofs.Totals.{total_same, total_kept, total_map}
 use Rattle.areas.proofs.Weighed.{weighed_same}
 
 -- of two segments one at most comes before the other

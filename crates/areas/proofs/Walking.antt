@@ -16,7 +16,9 @@ use Rattle.overlap.specs.declared.adjoining.Sides.{Sides}
 use Rattle.overlap.specs.Bytes.{merge}
 use Rattle.overlap.specs.Walked.{merged_from, NextSides}
 use Rattle.overlap.proofs.Merging.{from_start}
-use Rattle.areas.specs.Parts.{total, shoelace, weighed, Part, in_both, in_f_only, in_g_only, belongs, share, part_area}
+use Rattle.whole.specs.Count.{total}
+use Rattle.plane.specs.Shoelace.{shoelace, weighed}
+use Rattle.areas.specs.Parts.{Part, in_both, in_f_only, in_g_only, belongs, share, part_area}
 use Rattle.areas.proofs.Bounds.{most_term, weighed_most}
 use Rattle.areas.specs.declared.sums.Sums.{Sums}
 use Rattle.areas.specs.Areas.{area_in, sum_of, Added}
@@ -29,9 +31,6 @@ none_is : (p : Part) → sum_of none p ≡ pos 0
 none_is in_both = refl
 none_is in_f_only = refl
 none_is in_g_only = refl
-
-pub few : (s : List ℕ) (l : Layout) → IsObject s l → l.count ≤ 1024
-few s l is = (taken_object s l.start l is).few
 
 abbrev pub Most : Sums → ℕ → Type 0
 Most x n = (p : Part) → nat_abs (sum_of x p) ≤ n * most_term

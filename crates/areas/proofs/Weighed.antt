@@ -4,7 +4,7 @@ use mathlib.Core.Bool.{Bool, true, false, not, ◌&&◌}
 use lib.IntN.{ℤ, pos, ◌+ℤ◌, ◌-ℤ◌, ◌*ℤ◌, zero-*ℤ, +ℤ_invr}
 use Rattle.whole.specs.Count.{bit}
 use Rattle.whole.proofs.Ring.{distrib_right}
-use Rattle.areas.specs.Parts.{weighed}
+use Rattle.plane.specs.Shoelace.{weighed}
 
 pub weighed_same : (b : Bool) (v : ℤ) → weighed b b v ≡ pos 0
 unfolding weighed

@@ -21,8 +21,9 @@ use Rattle.flags.proofs.Elements.{outline_edges}
 use Rattle.overlap.proofs.Sorted.{segments_merged_sorted, segments_turned_sorted}
 use Rattle.overlap.specs.Walked.{TwoRegions}
 use Rattle.overlap.proofs.Classes.{marked}
-use Rattle.areas.specs.Parts.{shoelace, Part, own_area, in_both, in_f_only, in_g_only, share, part_area}
-use Rattle.areas.proofs.Totals.{total_add, total_same}
+use Rattle.plane.specs.Shoelace.{shoelace}
+use Rattle.areas.specs.Parts.{Part, own_area, in_both, in_f_only, in_g_only, share, part_area}
+use Rattle.whole.proofs.Totals.{total_add, total_same}
 use Rattle.areas.proofs.Weighed.{weighed_parts}
 use Rattle.areas.proofs.Own.{region_share, own_total}
 use Rattle.areas.proofs.Exchanged.{share_exchanged, area_exchanged, exchanged}

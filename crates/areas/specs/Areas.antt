@@ -9,7 +9,8 @@ use Rattle.scene.specs.Read.{number_of, CheckedScene, given_first, given_second}
 use Rattle.flags.specs.Elements.{edges}
 use Rattle.overlap.specs.declared.adjoining.Sides.{Sides}
 use Rattle.overlap.specs.Rules.{check_regions}
-use Rattle.areas.specs.Parts.{shoelace, weighed, Part, in_both, in_f_only, in_g_only, belongs, part_area, own_area}
+use Rattle.plane.specs.Shoelace.{shoelace, weighed}
+use Rattle.areas.specs.Parts.{Part, in_both, in_f_only, in_g_only, belongs, part_area, own_area}
 use Rattle.areas.specs.declared.sums.Sums.{Sums}
 
 -- ---- the answer

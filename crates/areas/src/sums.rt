@@ -1,7 +1,7 @@
 // The three sums over the different segments of two regions: what each segment adds to a part, by the sides where the regions adjoin it, and the walk.
 ghost use Rattle.std.specs.Prelude.{◌≡◌, ◌≤◌, ◌^◌, T, nat_abs, ◌+ℤ◌};
 ghost use Rattle.plane.specs.Plane.{segment_in_range};
-ghost use Rattle.areas.specs.Parts.{shoelace, weighed};
+ghost use Rattle.plane.specs.Shoelace.{shoelace, weighed};
 ghost use Rattle.areas.specs.Areas.{Small, Added, Summed};
 
 use overlap::adjoining::Sides;

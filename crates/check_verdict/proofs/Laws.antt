@@ -10,9 +10,9 @@ use Rattle.plane.proofs.Accepted.{Across, across_from_touch}
 use Rattle.scene.specs.declared.Layout.{Layout}
 use Rattle.scene.specs.declared.Scene.{Scene}
 use Rattle.scene.specs.Read.{shape_number, given_first, given_second, IsObject}
-use Rattle.scene.specs.Conditions.{segments, Rule, rule, object_rules, over_both, touching_across, scene_rules, check_scene_by}
+use Rattle.scene.specs.Conditions.{segments, Rule, rule, object_rules, over_both, touching_across, scene_rules, check_scene_by, check_object}
 use Rattle.scene.proofs.Taken.{TakenScene, both_of_given}
-use Rattle.scene.proofs.Given.{NoFault, in_neither, checked_scene_lem}
+use Rattle.scene.proofs.Given.{NoFault, in_neither, checked_scene_lem, checked_object_lem}
 use Rattle.sweep_laws.proofs.SoundObject.{no_touch_across}
 pub use Rattle.sweep_laws.proofs.SoundObject.{SoundObject, in_strict_order, no_half_twice, no_point_twice, left_in, in_left, segments_in_range, all_ordered, segments_sorted, no_touch, split, partner_of, segment_in, half_of_lem, regular, ia_is, point_in_range, points_sorted}
 
@@ -33,6 +33,12 @@ pub across : {s : List ℕ} {sc : Scene} → SoundScene s sc → Across (segment
 across {s} {sc} o =
     across_from_touch (segments s sc.f) (segments s sc.g) (all_ordered o.f_sound) (all_ordered o.g_sound)
     (λ t u m k. (no_touch_across o.f_sound o.g_sound o.apart t u m k).0)
+
+-- an object that 10 to 14 do not refuse
+pub sound_object : (s : List ℕ) (l : Layout) → check_object s ≡ Ok l → SoundObject s l
+sound_object s l e =
+    let c = checked_object_lem s l e in
+    record { read = c.0.read; order = c.1.0; paired = c.1.1.0; apart = c.1.1.1.0; even = c.1.1.1.1.0; right_ia = c.1.1.1.1.1.0 }
 
 no_fault_after : {A : Type 0} (s : List ℕ) (a : A) (rules more : List (Rule A)) → NoFault s a (rules ++ more) → NoFault s a more
 no_fault_after s a [] more n = n

@@ -36,7 +36,7 @@ Finds Answers found = (f : Flaw) (o : Fault) → Answers f o → o ≡ found f
 abbrev pub flawed : (Flaw → Fault) → List Flaw → List Condition
 flawed found flaws = map (λ (f : Flaw). condition (Flawed f) (found f)) flaws
 
--- in the order of the conditions: those of one object, and those of a scene
+-- in the order of the conditions: those that each object can have by itself, and those of a scene
 abbrev pub object_flaws : List Flaw
 object_flaws = Misplaced ∷ Unpaired ∷ Touching ∷ OddEnd ∷ WrongIa ∷ []
 
@@ -50,6 +50,10 @@ verdict = judge Err (Ok tt)
 -- 10 to 14 over one object
 unfoldable pub object_verdict : List ℕ → Layout → Verdict
 object_verdict s l = verdict (conditions object_rules s l)
+
+-- 10 to 14 over the two objects of a scene
+unfoldable pub objects_verdict : List ℕ → Scene → Verdict
+objects_verdict s sc = verdict (conditions (map over_both object_rules) s sc)
 
 -- 10 to 15 over a scene
 abbrev pub geometry_rules : List (Rule Scene)

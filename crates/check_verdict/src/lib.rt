@@ -1,4 +1,4 @@
-// The conditions 10 to 15 of document 01 over the bytes of a scene or of one object, and the whole check of either.
+// The conditions 10 to 15 of document 01 over the bytes of a scene, and its whole check.
 // A question with conditions of its own calls them in their order: its 9, `geometry_verdict` or `noted_verdict`, then its 16 and 17.
 #![tactic(auto)]
 
@@ -6,21 +6,21 @@ ghost use Rattle.std.specs.Prelude.{◌≡◌, T, Ok};
 ghost use Rattle.scene.specs.declared.Flaw.{Flaw};
 ghost use Rattle.whole.specs.Decides.{Decides};
 ghost use Rattle.scene.specs.Read.{Fault};
-ghost use Rattle.scene.specs.Conditions.{or_else, check_scene, check_object};
+ghost use Rattle.scene.specs.Conditions.{or_else, check_scene};
 ghost use Rattle.check_conditions.specs.Faults.{fault_under};
 ghost use Rattle.sweep_laws.specs.Swept.{InOrder};
 ghost use Rattle.sweep_laws.specs.Noted.{Noted};
-ghost use Rattle.check_verdict.specs.Refusals.{scene_fault_under, flawed, verdict, Finds, object_verdict, geometry_verdict};
-ghost use Rattle.check_verdict.specs.SharedPoints.{CheckedMeans, CheckedObjectMeans};
+ghost use Rattle.check_verdict.specs.Refusals.{scene_fault_under, flawed, verdict, Finds, objects_verdict, geometry_verdict};
+ghost use Rattle.check_verdict.specs.SharedPoints.{CheckedMeans};
 
-use scene::{Flaw, Layout, Reason, Refusal, Scene};
-use scene_segments::{Object, Pair, ReadScene};
+use scene::{Flaw, Reason, Refusal, Scene};
+use scene_segments::{Pair, ReadScene};
 use sweep::OrderedScene;
 use sweep_notes::Notes;
 
 pub mod taken;
 
-// The flaws of a scene, in the order of their conditions. One object can have all but the last.
+// The flaws of a scene, in the order of their conditions. Its objects can have all but the last, each by itself.
 const SCENE_FLAWS: [Flaw; 6] = [
     Flaw::Misplaced,
     Flaw::Unpaired,
@@ -64,15 +64,12 @@ fn first_refusal<F: Fn(Flaw) -> Option<usize>>(flaws: &[Flaw], fault: F) -> Resu
     Ok(())
 }
 
-// The first refusal under 10 to 14 of one object.
-pub fn object_verdict(o: Object<'_>) -> Result<(), Refusal>
-    ensures { result ≡ object_verdict o.entry.bytes.now o.entry.layout }
+// The first refusal under 10 to 14 of the two objects of a scene, each by itself: whether they cross is not asked.
+pub fn objects_verdict(read: ReadScene<'_>) -> Result<(), Refusal>
+    ensures { result ≡ objects_verdict read.entry.bytes.now read.entry.scene }
 {
-    let pair = o.with_itself();
-    first_refusal(
-        &SCENE_FLAWS[..5],
-        |flaw| check_conditions::fault_under(pair, flaw),
-    )
+    let pair = read.as_given();
+    first_refusal(&SCENE_FLAWS[..5], |flaw| fault_in_either(pair, flaw))
 }
 
 // The first refusal under 10 to 15 of a scene, condition by condition.
@@ -121,14 +118,4 @@ pub fn check_scene(s: &[u8]) -> Result<Scene, Refusal>
     let scene = scene_reading::read_scene(s)?;
     geometry_verdict(ReadScene { bytes: s, scene })?;
     Ok(scene)
-}
-
-// One object's bytes alone, and what the verdict says of the points that its segments share.
-// Kept beside `check_scene`: reading, verdict and meaning are each another, and only the two `?` are alike.
-pub fn check_object(s: &[u8]) -> Result<Layout, Refusal>
-    ensures { (result ≡ check_object s.now) × CheckedObjectMeans s.now result }
-{
-    let layout = scene_reading::read_alone(s)?;
-    object_verdict(Object { bytes: s, layout })?;
-    Ok(layout)
 }

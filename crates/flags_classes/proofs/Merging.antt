@@ -1,5 +1,5 @@
--- Which objects have left halfsegments, and that none is passed at the start.
-use Prim.Native.Nat.{ℕ}
+-- How many elements an object has at most; which objects have left halfsegments, and that none is passed at the start.
+use Prim.Native.Nat.{ℕ, ◌≤◌}
 use native.Mathlib.Omega.{arith}
 use mathlib.Core.Path.{◌≡◌}
 use mathlib.Core.Bool.{true}
@@ -7,8 +7,14 @@ use mathlib.Core.List.{List}
 use lib.Dec.{T}
 use Rattle.whole.proofs.Logic.{and_left, is_true}
 use Rattle.scene.specs.declared.Layout.{Layout}
+use Rattle.scene.specs.Read.{IsObject}
 use Rattle.scene.specs.Conditions.{has_segments, half, left_test}
+use Rattle.scene.proofs.Taken.{taken_object}
 use Rattle.flags_classes.specs.Walked.{NoneLeft}
+
+-- so that there is room for a note of each
+pub few : (s : List ℕ) (l : Layout) → IsObject s l → l.count ≤ 1024
+few s l is = (taken_object s l.start l is).few
 
 module _ (s : List ℕ) (l : Layout) where
   -- which objects with segments alone have

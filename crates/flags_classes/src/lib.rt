@@ -50,7 +50,7 @@ const BOTH_BELOW: MarkSet = MarkSet(32);
 const OPPOSITE: MarkSet = MarkSet(64);
 
 // The mark of a segment that is none of the other object's.
-fn unshared(above: bool, note: Note) -> MarkSet
+pub fn unshared(above: bool, note: Note) -> MarkSet
     ensures { result.0 ≡ unshared_marks above (note_number note) }
 {
     match (above, note) {
@@ -62,7 +62,7 @@ fn unshared(above: bool, note: Note) -> MarkSet
 }
 
 // The mark of a segment of both, with the interior of the other object above it or not.
-fn shared(above: bool, other: bool) -> MarkSet
+pub fn shared(above: bool, other: bool) -> MarkSet
     ensures { result.0 ≡ shared_marks above other }
 {
     match (above, other) {

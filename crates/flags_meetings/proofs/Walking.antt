@@ -51,7 +51,7 @@ regroup s a b c d =
 -- ---- one object
 
 module _ (s : List ℕ) (l : Layout) (is : IsObject s l) where
-  degree_is : (v : Point) → T (in_range v) → degree s l v ≡ count (λ m. eqb (keys s l m) (key v)) (indices l.count 0)
+  pub degree_is : (v : Point) → T (in_range v) → degree s l v ≡ count (λ m. eqb (keys s l m) (key v)) (indices l.count 0)
   unfolding degree
   degree_is v h =
       count_same (λ m. is_same_point (element_point s l m) v) (λ m. eqb (keys s l m) (key v)) (elements l)

@@ -50,7 +50,7 @@ const BOUND_OF_G: MarkSet = MarkSet(128);
 
 // Moves a cursor from its element past those that have the key k. In place, as `advance` is.
 // Kept as a while: it ends by the key, and index, offset and key run along together.
-fn pass(c: &mut Cursor<'_>, k: u64)
+pub fn pass(c: &mut Cursor<'_>, k: u64)
     requires { k < top }
     ensures of { (c.new.object.bytes.now ≡ c.old.object.bytes.now) × (c.new.object.layout ≡ c.old.object.layout) }
     ensures passed { Passed c.old.object.layout.count (keys c.old.object.bytes.now c.old.object.layout) k c.old.index c.new.index }
@@ -62,7 +62,7 @@ fn pass(c: &mut Cursor<'_>, k: u64)
 
 // The boundary rule of a line: an odd number of its segments end at the point.
 #[tactic(auto, unfolding(plane::specs::Plane::is_boundary, whole::specs::Count::odd))]
-fn is_bound(degree: usize) -> bool
+pub fn is_bound(degree: usize) -> bool
     ensures { result ≡ is_boundary degree }
 {
     degree % 2 == 1

@@ -19,7 +19,7 @@ use Rattle.flags_table.specs.Table.{unshared, shared}
 use Rattle.flags_table.proofs.Counting.{some_or}
 
 -- a segment is one of the object's with the interior above it, or with the interior below it
-has_either : (s : List ℕ) (l : Layout) (t : Segment) → has_edge (edges s l) t true || has_edge (edges s l) t false ≡ has_segment (segments s l) t
+pub has_either : (s : List ℕ) (l : Layout) (t : Segment) → has_edge (edges s l) t true || has_edge (edges s l) t false ≡ has_segment (segments s l) t
 has_either s l t =
     some_or (same_edge t true) (same_edge t false) (edges s l)
     ∙ some_same (λ e. same_edge t true e || same_edge t false e) (λ (e : Edge). is_same_segment t e.segment) (λ e. go (is_same_segment t e.segment) e.ia) (edges s l)

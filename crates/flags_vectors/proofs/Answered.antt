@@ -32,7 +32,8 @@ use Rattle.flags_masks.specs.declared.FlagMasks.{FlagMasks}
 use Rattle.flags_masks.specs.declared.Wanted.{Wanted}
 use Rattle.flags_masks.specs.Wanted.{masks_for, only, vector_of_f, vector_of_g}
 use Rattle.flags_masks.proofs.Masks.{none_stray}
-use Rattle.flags_vectors.specs.Vectors.{SceneAnswer, with_vectors, scene_vectors, vectors_in, stray_in, stray_wanted, vectors_rules, check_vectors, answered, answer_of}
+use Rattle.flags_vectors.specs.declared.question.MaskedScene.{MaskedScene}
+use Rattle.flags_vectors.specs.Vectors.{SceneAnswer, with_vectors, scene_vectors, given_vectors, vectors_in, asked, asked_of, stray_in, stray_wanted, vectors_rules, check_vectors, answered, answer_of}
 
 -- ---- a scene that is taken
 
@@ -67,8 +68,8 @@ module _ {s : List ℕ} {sc : Scene} {notes : List ℕ} (o : SoundScene s sc) (n
 
 -- ---- the answer
 
-pub unread : (s : List ℕ) (wanted : Wanted) (r : Refusal) → read_scene s ≡ Err r → answer_of s wanted ≡ Err r
-unfolding answer_of
+pub unread : (s : List ℕ) (wanted : Wanted) (r : Refusal) → read_scene s ≡ Err r → asked_of s wanted ≡ Err r
+unfolding asked_of
 unread s wanted r e = rw (check_refused (vectors_rules wanted) s r e)
 
 module _ (s : List ℕ) (sc : Scene) (is : IsScene s sc) where
@@ -77,18 +78,49 @@ module _ (s : List ℕ) (sc : Scene) (is : IsScene s sc) where
   sound g = rw (check_read [] [] s sc is, g)
 
   module _ (wanted : Wanted) where
-    pub stray : stray_in sc (masks_for wanted sc) ≡ true → answer_of s wanted ≡ Err (record { reason = StrayFlag; place = 0 })
-    unfolding answer_of
+    pub stray : stray_in sc (masks_for wanted sc) ≡ true → asked_of s wanted ≡ Err (record { reason = StrayFlag; place = 0 })
+    unfolding asked_of
     stray e = rw (check_read (rule StrayFlag (stray_wanted wanted) ∷ []) [] s sc is, e)
 
     module _ (tidy : stray_in sc (masks_for wanted sc) ≡ false) where
-      pub at_fault : (r : Refusal) → geometry_verdict s sc ≡ Err r → answer_of s wanted ≡ Err r
-      unfolding answer_of
+      pub at_fault : (r : Refusal) → geometry_verdict s sc ≡ Err r → asked_of s wanted ≡ Err r
+      unfolding asked_of
       at_fault r g = rw (check_read (rule StrayFlag (stray_wanted wanted) ∷ []) [] s sc is, tidy, g)
 
-      pub taken : geometry_verdict s sc ≡ Ok tt → {v : Vectors} → v ≡ vectors_in s sc wanted → answer_of s wanted ≡ Ok (with_vectors sc v)
-      unfolding answer_of
-      taken g e = rw (check_read (rule StrayFlag (stray_wanted wanted) ∷ []) [] s sc is, tidy, g, e)
+      pub taken : geometry_verdict s sc ≡ Ok tt → asked_of s wanted ≡ Ok (record { scene = sc; masks = masks_for wanted sc })
+      unfolding asked_of
+      taken g = rw (check_read (rule StrayFlag (stray_wanted wanted) ∷ []) [] s sc is, tidy, g)
+
+module _ (s : List ℕ) (wanted : Wanted) where
+  pub asked_refused : (r : Refusal) → asked_of s wanted ≡ Err r → check_vectors s wanted ≡ Err r
+  unfolding asked_of
+  asked_refused r = go (check_vectors s wanted)
+    where
+      go : (k : CheckedScene) → asked wanted k ≡ Err r → k ≡ Err r
+      go (Err q) e = ap Err (same_refusal e)
+      go (Ok sc) e = absurd (never_taken (sym e))
+
+  pub asked_taken : (a : MaskedScene) → asked_of s wanted ≡ Ok a → (check_vectors s wanted ≡ Ok a.scene) × (a.masks ≡ masks_for wanted a.scene)
+  unfolding asked_of
+  asked_taken a = go (check_vectors s wanted)
+    where
+      go : (k : CheckedScene) → asked wanted k ≡ Ok a → (k ≡ Ok a.scene) × (a.masks ≡ masks_for wanted a.scene)
+      go (Err q) e = absurd (never_taken e)
+      go (Ok sc) e =
+          let q : record { scene = sc; masks = masks_for wanted sc } ≡ a = same_taken e in
+          let x : sc ≡ a.scene = ap (λ (a : MaskedScene). a.scene) q in
+          (ap Ok x, sym (ap (λ (a : MaskedScene). a.masks) q) ∙ ap (masks_for wanted) x)
+
+  pub refused : (r : Refusal) → asked_of s wanted ≡ Err r → answer_of s wanted ≡ Err r
+  unfolding answer_of
+  refused r e = ap (answered s wanted) (asked_refused r e)
+
+  pub told : (a : MaskedScene) → asked_of s wanted ≡ Ok a → {v : Vectors} → v ≡ given_vectors a.scene (scene_vectors s a.scene a.masks) → answer_of s wanted ≡ Ok (with_vectors a.scene v)
+  unfolding answer_of
+  told a e is =
+      let q = asked_taken a e in
+      ap (answered s wanted) q.0
+      ∙ ap (λ (v : Vectors). Ok (with_vectors a.scene v)) (ap (λ (m : FlagMasks). given_vectors a.scene (scene_vectors s a.scene m)) (sym q.1) ∙ sym is)
 
 -- ---- where 9 finds nothing, whatever the scene
 

@@ -7,6 +7,7 @@ use Rattle.scene.specs.Read.{number_of, CheckedScene, Fault, shape_number, unles
 use Rattle.scene.specs.Conditions.{Rule, rule, scene_rules, check_scene_by}
 use Rattle.flags_vectors.specs.declared.Vectors.{Vectors}
 use Rattle.flags_vectors.specs.declared.SceneVectors.{SceneVectors}
+use Rattle.flags_vectors.specs.declared.question.MaskedScene.{MaskedScene}
 use Rattle.flags.specs.Flags.{has_bit}
 use Rattle.flags.specs.Elements.{elements_of}
 use Rattle.flags.specs.Sentences.{sentences_of_f, sentences_of_g, sentence}
@@ -42,6 +43,14 @@ vectors_rules wanted = scene_rules (rule StrayFlag (stray_wanted wanted) ∷ [])
 
 abbrev pub check_vectors : List ℕ → Wanted → CheckedScene
 check_vectors s wanted = check_scene_by (vectors_rules wanted) s
+
+-- a scene that is taken, and the masks of F and of G
+abbrev pub asked : Wanted → CheckedScene → Result MaskedScene Refusal
+asked wanted (Err r) = Err r
+asked wanted (Ok sc) = Ok (record { scene = sc; masks = masks_for wanted sc })
+
+unfoldable pub asked_of : List ℕ → Wanted → Result MaskedScene Refusal
+asked_of s wanted = asked wanted (check_vectors s wanted)
 
 -- the answer with the scene that was read, and the vectors alone
 abbrev pub SceneAnswer : Type 0

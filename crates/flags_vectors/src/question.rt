@@ -1,5 +1,7 @@
 // The vectors question.
-ghost use Rattle.std.specs.Prelude.{◌≡◌, T};
+ghost use Rattle.std.specs.Prelude.{◌≡◌, T, Ok, IfOk};
+ghost use Rattle.scene.specs.Conditions.{check_scene};
+ghost use Rattle.sweep_laws.specs.Noted.{Noted};
 ghost use Rattle.check_verdict.specs.SharedPoints.{CheckedMeans};
 ghost use Rattle.flags_meetings.specs.Met.{meetings};
 ghost use Rattle.flags_classes.specs.Classed.{classes_of_f, classes_of_g};
@@ -7,7 +9,7 @@ ghost use Rattle.flags.specs.Flags.{pack};
 ghost use Rattle.flags_masks.specs.Wanted.{only};
 ghost use Rattle.flags_table.specs.Table.{flags_of_f_by, flags_of_g_by};
 ghost use Rattle.flags_table.specs.Walks.{reads_meetings, reads_classes};
-ghost use Rattle.flags_vectors.specs.Vectors.{scene_vectors, given_vectors, these, check_vectors, answer_of, vectors_of, vectors_values, NoFlagWrong};
+ghost use Rattle.flags_vectors.specs.Vectors.{scene_vectors, given_vectors, these, check_vectors, asked_of, answer_of, vectors_of, vectors_values, NoFlagWrong};
 
 use crate::{SceneVectors, Vectors};
 use check_verdict::taken::NotedScene;
@@ -78,7 +80,7 @@ fn swept_vectors(noted: NotedScene<'_>, masks: FlagMasks) -> Vectors
 }
 
 // The vectors of F and G, in the caller's order.
-fn as_given(scene: Scene, v: Vectors) -> Vectors
+pub fn as_given(scene: Scene, v: Vectors) -> Vectors
     ensures { result ≡ given_vectors scene v }
 {
     Vectors {
@@ -87,17 +89,33 @@ fn as_given(scene: Scene, v: Vectors) -> Vectors
     }
 }
 
-// A scene and what is wanted: taken, with the scene and a vector for each object, or refused with one number and one place.
-pub fn answer(s: &[u8], wanted: Wanted) -> Result<SceneVectors, Refusal>
-    ensures { result ≡ answer_of s.now wanted }
+// A scene that the checks take, and the flags of F and of G that are wanted of it.
+#[derive(Clone, Copy)]
+pub struct MaskedScene {
+    pub scene: Scene,
+    pub masks: FlagMasks,
+}
+
+// The checks before any flag is looked for: a scene and what is wanted are taken, and the sweep leaves its notes, or they are refused with one number and one place.
+pub fn asked(s: &[u8], wanted: Wanted, notes: &mut Notes) -> Result<MaskedScene, Refusal>
+    ensures is { result ≡ asked_of s.now wanted }
+    ensures noted { IfOk result (λ a. (check_scene s.now ≡ Ok a.scene) × Noted s.now a.scene notes.new) }
 {
     let scene = scene_reading::read_scene(s)?;
     let masks = flags_masks::masks_for(wanted, scene);
     if flags_masks::any_stray(scene, masks) {
         return Reason::StrayFlag.at(0);
     }
+    check_verdict::noted_verdict(ReadScene { bytes: s, scene }, notes)?;
+    Ok(MaskedScene { scene, masks })
+}
+
+// A scene and what is wanted: taken, with the scene and a vector for each object, or refused.
+pub fn answer(s: &[u8], wanted: Wanted) -> Result<SceneVectors, Refusal>
+    ensures { result ≡ answer_of s.now wanted }
+{
     let mut notes = Notes::new();
-    check_verdict::noted_verdict(ReadScene { bytes: s, scene }, &mut notes)?;
+    let MaskedScene { scene, masks } = asked(s, wanted, &mut notes)?;
     let noted = NotedScene {
         bytes: s,
         scene,

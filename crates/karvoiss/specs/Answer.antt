@@ -30,6 +30,10 @@ use Rattle.karvoiss.specs.declared.KarvoissEstimate.{KarvoissEstimate}
 use Rattle.summary_window.specs.declared.InWindow.{InWindow}
 use Rattle.summary_window.specs.Window.{WindowValues, window_values}
 use Rattle.karvoiss.specs.declared.KarvoissInWindow.{KarvoissInWindow}
+use Rattle.wkb_reading.specs.Reading.{ReadAnswer, read_values}
+use Rattle.karvoiss.specs.declared.KarvoissReadWkb.{KarvoissReadWkb}
+use Rattle.wkb_writing.specs.Writing.{WriteAnswer, write_values}
+use Rattle.karvoiss.specs.declared.KarvoissWriteWkb.{KarvoissWriteWkb}
 
 -- the number and the place, of every answer alike
 abbrev pub outcome : {A : Type 0} → Result A Refusal → ℕ × ℕ
@@ -93,6 +97,17 @@ in_window_for_c e =
 
 abbrev pub from_c : KarvoissInWindow → WindowValues
 from_c r = record { number = r.number; place = r.place; word = r.word; hits = r.hits }
+
+-- the number that was read beside 25, 0 beside any other
+abbrev pub read_wkb_for_c : ReadAnswer → KarvoissReadWkb
+read_wkb_for_c e =
+    let values = read_values e in
+    record { number = values.number; place = values.place; length = values.length; value = values.value }
+
+abbrev pub write_wkb_for_c : WriteAnswer → KarvoissWriteWkb
+write_wkb_for_c e =
+    let values = write_values e in
+    record { number = values.number; place = values.place; length = values.length }
 
 -- ---- what the signs mean
 

@@ -13,9 +13,13 @@ ghost use Rattle.areas.specs.Areas.{areas_of, PartsMakeWhole};
 ghost use Rattle.summary.specs.Summary.{asked_of};
 ghost use Rattle.summary_objects.specs.Objects.{GoodExactlyIfMade, ToldInFull, LookExactlyIfNear};
 ghost use Rattle.summary_making.specs.Making.{summary_answer_of};
-ghost use Rattle.karvoiss.specs.Answer.{outcome, vectors_for_c, row_signs, signs, cells_for_c, NoSignWrong, relate_for_c, overlap_for_c, areas_for_c, summary_for_c, far_for_c, at, estimate_for_c, in_window_for_c, from_c};
+ghost use Rattle.karvoiss.specs.Answer.{outcome, vectors_for_c, row_signs, signs, cells_for_c, NoSignWrong, relate_for_c, overlap_for_c, areas_for_c, summary_for_c, far_for_c, at, estimate_for_c, in_window_for_c, from_c, read_wkb_for_c, write_wkb_for_c};
 ghost use Rattle.estimate.specs.Estimate.{estimated, EstimateHolds};
 ghost use Rattle.summary_window.specs.Window.{answer_of, BadRight, HitsRight};
+ghost use Rattle.wkb_reading.specs.Reading.{read_file, ReadAsWritten};
+ghost use Rattle.wkb_reading.specs.Reading.{buffer_after as object_after};
+ghost use Rattle.wkb_writing.specs.Writing.{write_of, written_buffer};
+ghost use Rattle.wkb_round_trip.specs.RoundTrip.{RoundTrip};
 
 use areas::sums::Sums;
 use cells::Explored;
@@ -27,6 +31,8 @@ use scene::Refusal;
 use summary::Summary;
 use summary_record::writing;
 use summary_window::{InWindow, Window};
+use wkb_grammar::Fault;
+use wkb_reading::ReadFault;
 
 // Each struct that C gets is made from the answer of its question: number 0 and the values, or a refusal's number and place with zeros beside them.
 // Kept as a struct and an `impl From` for each call, with number and place in each: they are the header's types.
@@ -366,4 +372,77 @@ pub extern "C" fn karvoiss_in_window(window: Window, summaries: &[u8]) -> Karvoi
         × HitsRight window summaries.now (from_c result) }
 {
     summary_window::in_window(window, summaries).into()
+}
+
+#[repr(C)]
+#[derive(Clone, Copy)]
+pub struct KarvoissReadWkb {
+    pub number: u32,
+    pub place: usize,
+    pub length: usize,
+    pub value: f64,
+}
+
+impl From<Result<usize, ReadFault>> for KarvoissReadWkb {
+    ghost from_gives = { λ answer c. c ≡ read_wkb_for_c answer };
+
+    fn from(answer: Result<usize, ReadFault>) -> KarvoissReadWkb {
+        let (number, place, value) = match answer {
+            Ok(_) => (0, 0, 0.0),
+            Err(ReadFault::Bytes(Fault::Malformed(place))) => (24, place, 0.0),
+            Err(ReadFault::Bytes(Fault::NoCoordinate(place, read))) => (25, place, read),
+            Err(ReadFault::Bytes(Fault::Open(place))) => (26, place, 0.0),
+            Err(ReadFault::TooMany) => (20, 0, 0.0),
+            Err(ReadFault::Refused(reason)) => (u8::from(reason) as u32, 0, 0.0),
+            Err(ReadFault::ShortBuffer) => (21, 0, 0.0),
+        };
+        KarvoissReadWkb {
+            number,
+            place,
+            length: answer.unwrap_or(0),
+            value,
+        }
+    }
+}
+
+// An object from well-known binary, into a lent buffer: for every byte string and every buffer the whole answer and the buffer after it; what is accepted is the object as it is written.
+#[unsafe(no_mangle)]
+pub extern "C" fn karvoiss_read_wkb(wkb: &[u8], object: &mut [u8]) -> KarvoissReadWkb
+    ensures { (result ≡ read_wkb_for_c (read_file wkb.now (length object.old)))
+        × (object.new ≡ object_after wkb.now object.old)
+        × ReadAsWritten wkb.now }
+{
+    wkb_reading::read(wkb, object).into()
+}
+
+#[repr(C)]
+#[derive(Clone, Copy)]
+pub struct KarvoissWriteWkb {
+    pub number: u32,
+    pub place: usize,
+    pub length: usize,
+}
+
+impl From<Result<usize, Refusal>> for KarvoissWriteWkb {
+    ghost from_gives = { λ answer c. c ≡ write_wkb_for_c answer };
+
+    fn from(answer: Result<usize, Refusal>) -> KarvoissWriteWkb {
+        let (number, place) = outcome(&answer);
+        KarvoissWriteWkb {
+            number,
+            place,
+            length: answer.unwrap_or(0),
+        }
+    }
+}
+
+// Points or a line as well-known binary, into a lent buffer: for every byte string and every buffer the whole answer and the buffer after it; what is written is read back; and what the verdict says in points.
+#[unsafe(no_mangle)]
+pub extern "C" fn karvoiss_write_wkb(object: &[u8], wkb: &mut [u8]) -> KarvoissWriteWkb
+    ensures { (result ≡ write_wkb_for_c (write_of object.now (length wkb.old)))
+        × (wkb.new ≡ written_buffer object.now wkb.old)
+        × CheckedObjectMeans object.now (check_object object.now)
+        × RoundTrip object.now }
+{
+    wkb_writing::write(object, wkb).into()
 }

@@ -1,7 +1,7 @@
 -- The orders of points and of halfsegments are strict: no element comes before itself, and "comes before" is transitive. For halfsegments at one
 -- point that is the transitivity of "turns left" among directions that point right or straight up, as an ordered segment's does.
 use mathlib.Core.Path.{◌≡◌, refl, sym, ap, ap₂, ◌∙◌, subst, subst₂}
-use mathlib.Core.Logic.{⊎_elim}
+use mathlib.Core.Logic.{◌⊎◌, inl, inr, ⊎_elim}
 use mathlib.Core.Bool.{Bool, true, false, ◌&&◌, ◌||◌, true≢false}
 use mathlib.Core.List.{List, [], ◌∷◌}
 use lib.Dec.{T}
@@ -18,6 +18,7 @@ use Rattle.plane.specs.declared.Halfsegment.{Halfsegment}
 use Rattle.plane.specs.Plane.{before, is_same_point, is_same_segment, ordered, side, dominating, far_end, comes_before}
 use Rattle.plane.proofs.OnSegment.{Ordered, slanting, upright, ordered_read, width}
 use Rattle.plane.proofs.Equal.{same_point_read, same_point_refl, same_segment_read, same_segment_refl}
+use Rattle.plane.proofs.Touch.{wide, tall, Step, Compare, earlier, equal, later, compare}
 
 -- ---- points: p comes before q where the segment from p to q has ordered ends
 
@@ -61,6 +62,18 @@ before_trans p q r t u = before_make p r (go (before_read p q t) (before_read q 
     go (upright e h) (slanting k) = wider (nonneg_add_pos (zero_nonneg e) k)
     go (upright e h) (upright f k) =
         upright (sym (sum p.x q.x r.x) ∙ ap₂ ◌+ℤ◌ e f) (subst Pos (sum p.y q.y r.y) (pos_add h k))
+
+pub before_cases : (p q : Point) → T (before p q) ⊎ ((p ≡ q) ⊎ T (before q p))
+before_cases p q = go (compare p q)
+  where
+    forward : (p q : Point) → Step p q → T (before p q)
+    forward p q (wide h) = before_make p q (slanting h)
+    forward p q (tall e h) = before_make p q (upright e h)
+
+    go : Compare p q → T (before p q) ⊎ ((p ≡ q) ⊎ T (before q p))
+    go (earlier h) = inl (forward p q h)
+    go (equal e) = inr (inl e)
+    go (later h) = inr (inr (forward q p h))
 
 -- ---- directions of ordered segments
 

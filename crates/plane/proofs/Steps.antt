@@ -201,7 +201,7 @@ pub positive_is : (z : ℤ) → T (positive z) → Pos z
 unfolding positive
 positive_is z t = lt_z0_pos z t
 
-at_least_is : (z : ℤ) → T (at_least z) → NonNeg z
+pub at_least_is : (z : ℤ) → T (at_least z) → NonNeg z
 unfolding at_least
 at_least_is z t = le_z0_nonneg z t
 

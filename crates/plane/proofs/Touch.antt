@@ -49,7 +49,7 @@ at_grid f free e p h t = ap f (at_multiple e p t) ∙ free p.W h (grid e)
 
 -- ---- steps that go forward, by x, then y
 
-data Onward (x y : ℤ) : Type 0 where
+pub data Onward (x y : ℤ) : Type 0 where
   wide : Pos x → Onward x y
   tall : x ≡ pos 0 → Pos y → Onward x y
 
@@ -80,7 +80,7 @@ onward_moves e f (wide h) = zero_pos e h
 onward_moves e f (tall g h) = zero_pos f h
 
 -- from one grid point to another, from e to p, and from p to e
-abbrev Step : Point → Point → Type 0
+abbrev pub Step : Point → Point → Type 0
 Step e f = Onward (f.x -ℤ e.x) (f.y -ℤ e.y)
 
 abbrev After : Point → HPoint → Type 0
@@ -107,12 +107,12 @@ step_through e f p h a b =
     sum : (e f z : ℤ) → (z -ℤ e *ℤ p.W) +ℤ (f *ℤ p.W -ℤ z) ≡ p.W *ℤ (f -ℤ e)
     sum e f z = solve (e ∷ f ∷ z ∷ p.W ∷ []) (var 2 :- var 0 :* var 3 :+ (var 1 :* var 3 :- var 2)) (var 3 :* (var 1 :- var 0)) tt
 
-data Compare (e f : Point) : Type 0 where
+pub data Compare (e f : Point) : Type 0 where
   earlier : Step e f → Compare e f
   equal : e ≡ f → Compare e f
   later : Step f e → Compare e f
 
-compare : (e f : Point) → Compare e f
+pub compare : (e f : Point) → Compare e f
 compare e f = by_x (sign (f.x -ℤ e.x)) (sign (f.y -ℤ e.y))
   where
     turned : (a b : ℤ) → Neg (b -ℤ a) → Pos (a -ℤ b)
@@ -215,7 +215,7 @@ end_within_lem s o e z a b =
 
 -- ---- opposite signs
 
-data Opposite (a b : ℤ) : Type 0 where
+pub data Opposite (a b : ℤ) : Type 0 where
   falls : Pos a → Neg b → Opposite a b
   rises : Neg a → Pos b → Opposite a b
 
@@ -240,16 +240,16 @@ opposite_product : {a b : ℤ} → Opposite a b → Neg (a *ℤ b)
 opposite_product (falls h k) = pos_mul_neg h k
 opposite_product (rises h k) = neg_mul_pos h k
 
-opposite_differ : {A : Type 0} {a b : ℤ} → Opposite a b → a ≡ b → A
+pub opposite_differ : {A : Type 0} {a b : ℤ} → Opposite a b → a ≡ b → A
 opposite_differ (falls h k) e = pos_clash h (subst Neg (sym e) k)
 opposite_differ (rises h k) e = pos_clash k (subst Neg e h)
 
 -- a sum with positive weights that is zero
-data Balance (a b : ℤ) : Type 0 where
+pub data Balance (a b : ℤ) : Type 0 where
   tipped : Opposite a b → Balance a b
   level : a ≡ pos 0 → b ≡ pos 0 → Balance a b
 
-balance : {m n a b : ℤ} → Pos m → Pos n → m *ℤ a +ℤ n *ℤ b ≡ pos 0 → Balance a b
+pub balance : {m n a b : ℤ} → Pos m → Pos n → m *ℤ a +ℤ n *ℤ b ≡ pos 0 → Balance a b
 balance {m} {n} {a} {b} h k e = go (sign a)
   where
     rest : n *ℤ b ≡ neg_ℤ (m *ℤ a)
@@ -274,7 +274,7 @@ side_at_mean s {u} {v} {p} h =
     tt
 
 -- the ends of t lie strictly on opposite sides of the line of s
-abbrev Across : Segment → Segment → Type 0
+abbrev pub Across : Segment → Segment → Type 0
 Across s t = Opposite (side_at s (grid t.left)) (side_at s (grid t.right))
 
 -- the side values of each segment's ends against the other differ by the same
@@ -298,13 +298,13 @@ cross_sides : (s t : Segment)
 unfolding cross
 cross_sides s t = simp side_grid
 
-cross_make : (s t : Segment) → Across s t → Across t s → T (cross s t)
+pub cross_make : (s t : Segment) → Across s t → Across t s → T (cross s t)
 cross_make s t a b =
     subst T (sym (cross_sides s t))
     (and_make (opposite (side_at s (grid t.left)) (side_at s (grid t.right))) (opposite (side_at t (grid s.left)) (side_at t (grid s.right)))
     (opposite_make (side_at s (grid t.left)) (side_at s (grid t.right)) a) (opposite_make (side_at t (grid s.left)) (side_at t (grid s.right)) b))
 
-cross_read : (s t : Segment) → T (cross s t) → Across s t × Across t s
+pub cross_read : (s t : Segment) → T (cross s t) → Across s t × Across t s
 cross_read s t h = (
   opposite_read (side_at s (grid t.left)) (side_at s (grid t.right)) (and_left one other both),
   opposite_read (side_at t (grid s.left)) (side_at t (grid s.right)) (and_right one other both),
@@ -321,13 +321,13 @@ cross_read s t h = (
 
 -- ---- the test, taken apart: they cross, or an end of t lies strictly inside s, or an end of s inside t
 
-abbrev EndWithin : Segment → Segment → Type 0
+abbrev pub EndWithin : Segment → Segment → Type 0
 EndWithin s t = T (end_within s t.left) ⊎ T (end_within s t.right)
 
-abbrev Touching : Segment → Segment → Type 0
+abbrev pub Touching : Segment → Segment → Type 0
 Touching s t = T (cross s t) ⊎ (EndWithin s t ⊎ EndWithin t s)
 
-touch_read : (s t : Segment) → T (touch s t) → Touching s t
+pub touch_read : (s t : Segment) → T (touch s t) → Touching s t
 unfolding touch
 touch_read s t h =
     first_of (cross s t) (end_within s t.left) (end_within s t.right) (end_within t s.left) (end_within t s.right)
@@ -460,7 +460,7 @@ first_between u v =
     only a b = solve (a ∷ b ∷ []) (con (pos 1) :* var 0) (con (pos 1) :* var 0 :+ con (pos 0) :* var 1) tt
 
 -- where they cross
-cross_shares : (s t : Segment) → Ordered s → Ordered t → T (cross s t) → SharePoint s t
+pub cross_shares : (s t : Segment) → Ordered s → Ordered t → T (cross s t) → SharePoint s t
 cross_shares s t o u h =
     ⊎_elim apart (λ m. share s t m.z o u m.z_pos m.on_segment m.on_path (no_end m))
     (clear_or_meets (grid t.left) (grid t.right) (one_pos 0) (one_pos 0) s)

@@ -1,2 +1,3 @@
 -- The plane's specification.
 pub mod Plane
+pub mod Shoelace

@@ -15,7 +15,7 @@ pub const LIMIT: i32 = 10_000_000;
 // A grid point.
 // Kept as clauses: that points are in range, or in twice the range. Code and definitions speak of points beyond it too: doubled ones, an estimate's, those of bytes that are refused.
 // So a type of those in range would be a second type of points, unwrapped at each comparison and in each definition.
-#[derive(Clone, Copy, PartialEq, Eq, PartialOrd, Ord)]
+#[derive(Clone, Copy, Default, PartialEq, Eq, PartialOrd, Ord)]
 pub struct Point {
     pub x: i32,
     pub y: i32,
@@ -27,7 +27,7 @@ impl Point {
 
 // A segment. Of a scene that is taken, its left end comes strictly before its right end, and both are in range.
 // Kept as clauses, as for points: the segments of bytes that are refused and those with doubled coordinates would be a second type.
-#[derive(Clone, Copy, PartialEq, Eq)]
+#[derive(Clone, Copy, Default, PartialEq, Eq)]
 pub struct Segment {
     pub left: Point,
     pub right: Point,

@@ -15,7 +15,7 @@ use Rattle.scene.specs.declared.Refusal.{Refusal}
 use Rattle.scene.specs.declared.Flaw.{Flaw}
 use Rattle.scene.specs.declared.Flaw.TheVariants.{Misplaced, Unpaired, Touching, OddEnd, WrongIa, TouchingAcross}
 use Rattle.scene.specs.declared.Reason.{Reason}
-use Rattle.scene.specs.declared.Reason.TheVariants.{CutShort, WrongKind, WrongField, OutOfRange, EndsReversed, TooMany, MoreBytes, StrayFlag, Flawed, NotRegions, ShortBuffer, BadSummary, NotNine, NoCharacter, BadWindow, TooManySummaries}
+use Rattle.scene.specs.declared.Reason.TheVariants.{CutShort, WrongKind, WrongField, OutOfRange, EndsReversed, TooMany, MoreBytes, StrayFlag, Flawed, NotRegions, ShortBuffer, BadSummary, OffGrid, TooManyElements, NoRoom, NotNine, NoCharacter, Malformed, BadWindow, TooManySummaries}
 
 -- ---- the bytes of an element
 
@@ -82,7 +82,8 @@ shape_of n = cond (eqb n 1) Points (cond (eqb n 2) Line Region)
 
 -- ---- a record at fault
 
--- the numbers of "What is turned away", and of the requests: "18 summary not good", "22 pattern not of nine characters", "23 a character outside the six", "27 not a window", "28 more than 64 summaries"
+-- the numbers of "What is turned away", and of the requests: "18 summary not good", 19 to 21 of splitting, "22 pattern not of nine characters", "23 a character outside the
+-- six", 24 and 21 of writing well-known binary, "27 not a window", "28 more than 64 summaries"
 abbrev pub flaw_number : Flaw → ℕ
 flaw_number Misplaced = 10
 flaw_number Unpaired = 11
@@ -104,8 +105,12 @@ number_of (Flawed f) = flaw_number f
 number_of NotRegions = 16
 number_of ShortBuffer = 17
 number_of BadSummary = 18
+number_of OffGrid = 19
+number_of TooManyElements = 20
+number_of NoRoom = 21
 number_of NotNine = 22
 number_of NoCharacter = 23
+number_of Malformed = 24
 number_of BadWindow = 27
 number_of TooManySummaries = 28
 

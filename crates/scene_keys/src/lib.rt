@@ -1,18 +1,18 @@
-// The points of an object's elements as numbers, their keys: those of points and the dominating points of halfsegments, in the order of points. A
-// comparison is then one test, and the end of an object needs none.
+// Points as numbers, their keys, in the order of points, and back; and the keys of an object's elements: of its points, or of the dominating points of its
+// halfsegments. A comparison is then one test, and the end of an object needs none.
 #![tactic(auto)]
 
 ghost use Rattle.std.specs.Prelude.{◌≡◌, ◌+◌, ◌*◌, ◌<◌, ◌≤◌, T, nat_abs, length};
 ghost use Rattle.plane.specs.Plane.{limit, in_range};
 ghost use Rattle.scene.specs.Read.{size, place};
-ghost use Rattle.scene_keys.specs.Keyed.{raised, key, point_in, next_key};
+ghost use Rattle.scene_keys.specs.Keyed.{raised, key, lowered, IsKey, keyed_point, keyed_segment, GoodEnds, point_in, next_key};
 
-use plane::Point;
+use plane::{Point, Segment};
 use scene::{Shape, bytes};
 use scene_segments::Object;
 
 // The radix of a key: a power of two above every raised coordinate.
-const ROOM: u64 = 33_554_432;
+pub const ROOM: u64 = 33_554_432;
 
 // The key past the last element, above that of every point.
 // Kept as a number: the end has to come after every point, and of an Option `None` comes first.
@@ -27,11 +27,49 @@ fn raised(v: i32) -> u64
 }
 
 // The key of a point: by x, then y, as points are ordered.
-fn key(p: Point) -> u64
+pub fn key(p: Point) -> u64
     requires { T (in_range p) }
     ensures { result ≡ key p }
 {
     ROOM * raised(p.x) + raised(p.y)
+}
+
+// The coordinate that is so far above the least.
+fn lowered(n: u64) -> i32
+    requires { n ≤ 2 * limit }
+    ensures { result ≡ lowered n }
+{
+    n as i32 - plane::LIMIT
+}
+
+// The point with a key.
+pub fn point(k: u64) -> Point
+    requires { IsKey k }
+    ensures { result ≡ keyed_point k }
+{
+    Point {
+        x: lowered(k / ROOM),
+        y: lowered(k % ROOM),
+    }
+}
+
+/// A segment by the keys of its two ends.
+#[derive(Clone, Copy, Default, PartialEq, Eq, PartialOrd, Ord)]
+pub struct Ends {
+    pub left: u64,
+    pub right: u64,
+}
+
+impl Ends {
+    pub fn segment(self) -> Segment
+        requires { GoodEnds self }
+        ensures { result ≡ keyed_segment self }
+    {
+        Segment {
+            left: point(self.left),
+            right: point(self.right),
+        }
+    }
 }
 
 // The point of the element at an offset.
@@ -72,18 +110,27 @@ pub struct Cursor<'a> {
 }
 
 impl<'a> Cursor<'a> {
+    // At an element, or past the last.
+    pub fn at_element(object: Object<'a>, index: usize) -> Cursor<'a>
+        requires { index ≤ object.layout.count }
+        ensures of { (result.object.bytes.now ≡ object.entry.bytes.now) × (result.object.layout ≡ object.entry.layout) }
+        ensures index { result.index ≡ index }
+    {
+        let at = object.place(index);
+        Cursor {
+            object,
+            index,
+            at,
+            key: key_of(object, index, at),
+        }
+    }
+
     // At the first element.
     pub fn first(object: Object<'a>) -> Cursor<'a>
         ensures of { (result.object.bytes.now ≡ object.entry.bytes.now) × (result.object.layout ≡ object.entry.layout) }
         ensures index { result.index ≡ 0 }
     {
-        let at = object.place(0);
-        Cursor {
-            object,
-            index: 0,
-            at,
-            key: key_of(object, 0, at),
-        }
+        Cursor::at_element(object, 0)
     }
 
     // On to the next one. In place: where each step copied the cursor, and with it the object, a walk over points took three to six times as long.

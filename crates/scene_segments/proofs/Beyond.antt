@@ -33,41 +33,48 @@ use Rattle.scene_segments.proofs.Walk.{between, all_between, left_passes, count_
 
 -- ---- two segments
 
--- a segment that begins right of t's end is not counted for t's ia
-module _ (t u : Segment) (o : T (ordered t)) (b : T (beyond t u)) where
-  gap : Pos (u.left.x -ℤ t.right.x)
-  gap = lt_z_pos t.right.x u.left.x b
+-- a segment that begins right of t's midpoint, or ends left of it, is not counted for t's ia
+module _ (t u : Segment) where
+  abbrev from : ℤ
+  from = u.left.x *ℤ pos 2
 
-  right_of_middle : Neg ((t.left.x +ℤ t.right.x) -ℤ u.left.x *ℤ pos 2)
-  right_of_middle =
-      subst Neg
-      (solve (t.left.x ∷ t.right.x ∷ u.left.x ∷ []) (opp (var 2 :- var 1 :+ (var 2 :- var 1) :+ (var 1 :- var 0))) (var 0 :+ var 1 :- var 2 :* con (pos 2)) tt)
-      (pos_neg (pos_add_nonneg (pos_add gap gap) (width (ordered_read t o))))
+  abbrev to : ℤ
+  to = u.right.x *ℤ pos 2
 
-  not_below : is_below t u ≡ false
-  unfolding counts_below counts_below_left
-  not_below = go (vertical t)
+  abbrev middle : ℤ
+  middle = t.left.x +ℤ t.right.x
+
+  by_both : (T (counts_below_left (midpoint t) u) → ⊥) → (T (counts_below (midpoint t) u) → ⊥) → is_below t u ≡ false
+  by_both upright slanting = go (vertical t)
     where
-      from : ℤ
-      from = u.left.x *ℤ pos 2
-
-      to : ℤ
-      to = u.right.x *ℤ pos 2
-
-      middle : ℤ
-      middle = t.left.x +ℤ t.right.x
-
-      upright : T (counts_below_left (midpoint t) u) → ⊥
-      upright h =
-          nonneg_clash (pos_nonneg (lt_z_pos from middle (and_left (lt_z from middle) (le_z middle to) (and_left (lt_z from middle && le_z middle to) (lt_z (pos 0) (side_at u (midpoint t))) h)))) right_of_middle
-
-      slanting : T (counts_below (midpoint t) u) → ⊥
-      slanting h =
-          nonneg_clash (le_z_nonneg from middle (and_left (le_z from middle) (lt_z middle to) (and_left (le_z from middle && lt_z middle to) (lt_z (pos 0) (side_at u (midpoint t))) h))) right_of_middle
-
       go : (v : Bool) → cond v (counts_below_left (midpoint t) u) (counts_below (midpoint t) u) ≡ false
       go true = refute (counts_below_left (midpoint t) u) upright
       go false = refute (counts_below (midpoint t) u) slanting
+
+  pub begins_after : Neg (middle -ℤ from) → is_below t u ≡ false
+  unfolding counts_below counts_below_left
+  begins_after n =
+      by_both
+      (λ h. nonneg_clash (pos_nonneg (lt_z_pos from middle (and_left (lt_z from middle) (le_z middle to) (and_left (lt_z from middle && le_z middle to) (lt_z (pos 0) (side_at u (midpoint t))) h)))) n)
+      (λ h. nonneg_clash (le_z_nonneg from middle (and_left (le_z from middle) (lt_z middle to) (and_left (le_z from middle && lt_z middle to) (lt_z (pos 0) (side_at u (midpoint t))) h))) n)
+
+  pub ends_before : Neg (to -ℤ middle) → is_below t u ≡ false
+  unfolding counts_below counts_below_left
+  ends_before n =
+      by_both
+      (λ h. nonneg_clash (le_z_nonneg middle to (and_right (lt_z from middle) (le_z middle to) (and_left (lt_z from middle && le_z middle to) (lt_z (pos 0) (side_at u (midpoint t))) h))) n)
+      (λ h. nonneg_clash (pos_nonneg (lt_z_pos middle to (and_right (le_z from middle) (lt_z middle to) (and_left (le_z from middle && lt_z middle to) (lt_z (pos 0) (side_at u (midpoint t))) h)))) n)
+
+-- so one that begins right of t's end is not
+not_below : (t u : Segment) → T (ordered t) → T (beyond t u) → is_below t u ≡ false
+not_below t u o b =
+    begins_after t u
+    (subst Neg
+    (solve (t.left.x ∷ t.right.x ∷ u.left.x ∷ []) (opp (var 2 :- var 1 :+ (var 2 :- var 1) :+ (var 1 :- var 0))) (var 0 :+ var 1 :- var 2 :* con (pos 2)) tt)
+    (pos_neg (pos_add_nonneg (pos_add gap gap) (width (ordered_read t o)))))
+  where
+    gap : Pos (u.left.x -ℤ t.right.x)
+    gap = lt_z_pos t.right.x u.left.x b
 
 -- ---- elements in order
 

@@ -9,8 +9,10 @@ ghost use Rattle.scene.specs.Conditions.{has_segments, half, ia};
 use plane::{Halfsegment, Point};
 use scene::{Layout, Scene, bytes};
 
-mod apart;
+pub mod apart;
 mod search;
+
+pub use search::is_below;
 
 /// The bytes in which an object was read, and where its records stand in them.
 #[derive(Clone, Copy)]

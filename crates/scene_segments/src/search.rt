@@ -33,7 +33,7 @@ fn is_left_touched(h: Halfsegment, t: Segment) -> bool
 }
 
 // Does u count for the ia of t, the doubled coordinates of whose midpoint are m's?
-fn is_below(u: Segment, t: Segment, m: Point) -> bool
+pub fn is_below(u: Segment, t: Segment, m: Point) -> bool
     requires { T (segment_in_range u) × T (within (2 * limit) m) × (halved m ≡ midpoint t) }
     ensures { result ≡ is_below t u }
 {

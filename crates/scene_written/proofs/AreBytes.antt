@@ -1,22 +1,27 @@
--- What is written is a byte string: each number of it is below 256.
-use Prim.Native.Nat.{ℕ, ◌<◌}
+-- A byte string's numbers are below 256, at each offset; and what is written is a byte string.
+use Prim.Native.Nat.{ℕ, zero, suc, ◌<◌}
 use native.Mathlib.Omega.{arith}
 use mathlib.Core.Path.{sym, subst}
 use mathlib.Core.Logic.{⊎_elim}
 use mathlib.Core.Bool.{Bool, true, false}
 use mathlib.Core.List.{List, [], ◌∷◌, ◌++◌}
 use lib.IntN.{ℤ}
-use Rattle.whole.specs.Count.{bit}
+use Rattle.whole.specs.Count.{bit, here, there}
 use Rattle.whole.proofs.Logic.{in_nil, in_cons, in_append}
 use Rattle.plane.specs.declared.Point.{Point}
 use Rattle.plane.specs.declared.Halfsegment.{Halfsegment}
 use Rattle.plane.specs.Plane.{Object}
 use Rattle.scene.specs.declared.Shape.{Shape}
 use Rattle.scene.specs.declared.Shape.TheVariants.{Points, Line, Region}
-use Rattle.scene.specs.Read.{shape_number}
+use Rattle.scene.specs.Read.{byte, shape_number}
 use Rattle.scene_written.specs.Bytes.{Item, AreBytes, coordinate_then, point_then, half_then, record_bytes, records_of}
 use Rattle.scene_written.specs.Arranged.{shape_in, items_of, object_bytes}
 use Rattle.scene_written.proofs.Coordinates.{digit_small}
+
+pub byte_below : (s : List ℕ) → AreBytes s → (i : ℕ) → byte s i < 256
+byte_below [] h i = omega arith
+byte_below (n ∷ s) h zero = h n here
+byte_below (n ∷ s) h (suc i) = byte_below s (λ k m. h k (there m)) i
 
 none_bytes : AreBytes []
 none_bytes n m = absurd (in_nil m)

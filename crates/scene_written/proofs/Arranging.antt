@@ -142,7 +142,7 @@ halves_in (t ∷ l) {h} m = ⊎_elim (λ e. of e) (λ k. ⊎_elim (λ e. of e) (
     of : {d : Bool} → h ≡ half_of d t → h.segment ∈ (t ∷ l)
     of e = subst (λ (u : Segment). u ∈ (t ∷ l)) (sym (ap (λ (k : Halfsegment). k.segment) e)) here
 
-in_halves : (d : Bool) {t : Segment} {l : List Segment} → t ∈ l → half_of d t ∈ halves_of l
+pub in_halves : (d : Bool) {t : Segment} {l : List Segment} → t ∈ l → half_of d t ∈ halves_of l
 in_halves true here = here
 in_halves false here = there here
 in_halves d (there m) = there (there (in_halves d m))
@@ -167,10 +167,10 @@ line_halves l ord across = record {
   both = λ d m. arrange_keeps comes_before (halves_of l) (halves_compared l ord across) (in_halves d m);
 }
 
+pub halves_length : (l : List Segment) → length (halves_of l) ≡ 2 * length l
+halves_length [] = refl
+halves_length (t ∷ l) = let h = halves_length l in omega arith
+
 pub line_length : (l : List Segment) → length (line_items l) ≤ 2 * length l
 unfolding line_items
-line_length l = omega (arith, arrange_length comes_before (halves_of l), two l)
-  where
-    two : (l : List Segment) → length (halves_of l) ≡ 2 * length l
-    two [] = refl
-    two (t ∷ l) = let h = two l in omega arith
+line_length l = omega (arith, arrange_length comes_before (halves_of l), halves_length l)

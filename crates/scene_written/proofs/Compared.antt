@@ -133,7 +133,7 @@ never d t u (upright f h) (upright g k) e a differ z = go (half (rise u -ℤ ris
 
 -- ---- the order of points is total
 
-data Places (p q : Point) : Type 0 where
+pub data Places (p q : Point) : Type 0 where
   earlier : T (before p q) → Places p q
   later : T (before q p) → Places p q
   same : p ≡ q → Places p q
@@ -154,7 +154,7 @@ by_y p q e h =
     or_right (lt_z p.x q.x) (eq_z p.x q.x && lt_z p.y q.y)
     (and_make (eq_z p.x q.x) (lt_z p.y q.y) (zero_eq_z p.x q.x e) (pos_lt_z p.y q.y h))
 
-places : (p q : Point) → Places p q
+pub places : (p q : Point) → Places p q
 places p q = at_x (sign (q.x -ℤ p.x))
   where
     at_y : q.x -ℤ p.x ≡ pos 0 → Sign (q.y -ℤ p.y) → Places p q

@@ -208,7 +208,7 @@ module _ {s : List ℕ} {lay : Layout} {l : List Segment} {hs : List Halfsegment
     parity_read : (f : Segment → Bool) → parity f (segments s lay) ≡ parity f l
     parity_read = same_parity (segments s lay) l (segments_once segments_sorted) once (λ t m. segments_in m) (λ t m. in_segments m)
 
-    odd_read : (f : Segment → Bool) → odd (count f (segments s lay)) ≡ odd (count f l)
+    pub odd_read : (f : Segment → Bool) → odd (count f (segments s lay)) ≡ odd (count f l)
     odd_read f = odd_count f (segments s lay) ∙ parity_read f ∙ sym (odd_count f l)
 
     interior_read : (t : Segment) → interior_above (segments s lay) t ≡ interior_above l t

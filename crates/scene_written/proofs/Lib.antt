@@ -7,4 +7,5 @@ pub mod Compared
 pub mod Arranging
 pub mod Judged
 pub mod Taken
+pub mod Again
 pub mod Examples

@@ -28,14 +28,14 @@ use Rattle.scene_written.proofs.Stands.{Stands, stands_here, stands_after, stand
 -- ---- where each record stands
 
 module _ (k : Shape) where
-  records_length : (xs : List (Item k)) → length (records_of k xs) ≡ length xs * size k
+  pub records_length : (xs : List (Item k)) → length (records_of k xs) ≡ length xs * size k
   records_length [] = omega arith
   records_length (x ∷ xs) = length-append (record_bytes k x) (records_of k xs) ∙ sum (records_length xs)
     where
       sum : length (records_of k xs) ≡ length xs * size k → length (record_bytes k x) + length (records_of k xs) ≡ suc (length xs) * size k
       sum e = omega (arith, record_length k x)
 
-  bytes_length : (xs : List (Item k)) → length (bytes_of k xs) ≡ 2 + length xs * size k + 1
+  pub bytes_length : (xs : List (Item k)) → length (bytes_of k xs) ≡ 2 + length xs * size k + 1
   bytes_length xs = omega (arith, length-append (records_of k xs) (69 ∷ []), records_length xs)
 
   record_stands : (xs : List (Item k)) (d : Item k) (i : ℕ) → i < length xs → Stands (records_of k xs) (i * size k) (record_bytes k (get_or xs i d))

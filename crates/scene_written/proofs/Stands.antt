@@ -73,15 +73,31 @@ stands_in_lem {s} {at} {o} {bs} {cs} h k = record {
     along : (i : ℕ) → at + o + i ≡ at + (o + i)
     along i = omega arith
 
+-- the two parts of what stands there
+pub stands_front : {s : List ℕ} {at : ℕ} (a b : List ℕ) → Stands s at (a ++ b) → Stands s at a
+stands_front a b h = record {
+  fits = omega (arith, h.fits, length-append a b);
+  same = λ i k. h.same i (omega (arith, length-append a b)) ∙ get_or-append a b 0 i k;
+}
+
+pub stands_back : {s : List ℕ} {at o : ℕ} (a b : List ℕ) → at + length a ≡ o → Stands s at (a ++ b) → Stands s o b
+stands_back {s} {at} {o} a b e h = record {
+  fits = omega (arith, h.fits, length-append a b);
+  same = λ i k. ap (byte s) (along i) ∙ h.same (length a + i) (omega (arith, length-append a b)) ∙ get_or-append-add a b i 0;
+}
+  where
+    along : (i : ℕ) → o + i ≡ at + (length a + i)
+    along i = omega arith
+
 -- the four bytes of a coordinate, at o in bs
 abbrev Coded : List ℕ → ℕ → ℤ → Type 0
 Coded bs o z = (byte bs o ≡ digit z 1) × (byte bs (o + 1) ≡ digit z 256) × (byte bs (o + 2) ≡ digit z 65536) × (byte bs (o + 3) ≡ digit z 16777216)
 
-range_x : (p : Point) → T (in_range p) → nat_abs p.x ≤ limit
+pub range_x : (p : Point) → T (in_range p) → nat_abs p.x ≤ limit
 unfolding within
 range_x p t = leb→le (nat_abs p.x) limit (and_left (leb (nat_abs p.x) limit) (leb (nat_abs p.y) limit) t)
 
-range_y : (p : Point) → T (in_range p) → nat_abs p.y ≤ limit
+pub range_y : (p : Point) → T (in_range p) → nat_abs p.y ≤ limit
 unfolding within
 range_y p t = leb→le (nat_abs p.y) limit (and_right (leb (nat_abs p.x) limit) (leb (nat_abs p.y) limit) t)
 

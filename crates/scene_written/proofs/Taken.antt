@@ -65,7 +65,7 @@ regular_writable l r g few = record { segments = split_writable l r g.split few;
 
 -- ---- its elements are good
 
-halves_of : (l : List Segment) → GoodSegments l → Halves l (line_items l)
+pub halves_of : (l : List Segment) → GoodSegments l → Halves l (line_items l)
 halves_of l g = line_halves l g.in_order g.apart
 
 good_half : (l : List Segment) → GoodSegments l → (h : Halfsegment) → h ∈ line_items l → GoodSegment h.segment
@@ -100,7 +100,7 @@ module _ (s : List ℕ) (start : ℕ) (o : Object) (w : Writable o) (stands : St
   pub read_back : IsObject s (layout_of o start)
   read_back = object_back s start (shape_in o) (items_of o) stands (good_items o w) (few_items o w)
 
-line_read : (s : List ℕ) (start : ℕ) (l : List Segment) → GoodSegments l → Stands s start (object_bytes (line l)) → ReadAs s (layout_of (line l) start) l (line_items l)
+pub line_read : (s : List ℕ) (start : ℕ) (l : List Segment) → GoodSegments l → Stands s start (object_bytes (line l)) → ReadAs s (layout_of (line l) start) l (line_items l)
 line_read s start l g stands = record {
   has = refl;
   read = read_back s start (line l) g stands;
@@ -109,7 +109,7 @@ line_read s start l g stands = record {
   ia_is = λ e i h. absurd (false≢true e);
 }
 
-region_read : (s : List ℕ) (start : ℕ) (l : List Segment) → GoodRegion l → Stands s start (object_bytes (region l)) → ReadAs s (layout_of (region l) start) l (line_items l)
+pub region_read : (s : List ℕ) (start : ℕ) (l : List Segment) → GoodRegion l → Stands s start (object_bytes (region l)) → ReadAs s (layout_of (region l) start) l (line_items l)
 unfolding region_items
 region_read s start l g stands = record {
   has = refl;
@@ -212,7 +212,7 @@ no_faults s start (region l) g stands =
 
 -- ---- the verdicts
 
-no_refusal : {A B : Type 0} (refuse : Refusal → B) (b : B) (s : List ℕ) (a : A) (rules : List (Rule A)) → NoFault s a rules → judge refuse b (conditions rules s a) ≡ b
+pub no_refusal : {A B : Type 0} (refuse : Refusal → B) (b : B) (s : List ℕ) (a : A) (rules : List (Rule A)) → NoFault s a rules → judge refuse b (conditions rules s a) ≡ b
 no_refusal refuse b s a [] n = refl
 no_refusal refuse b s a (r ∷ rules) n =
     ap (λ (f : Fault). decide refuse r.reason f (judge refuse b (conditions rules s a))) n.0 ∙ no_refusal refuse b s a rules n.1

@@ -1,4 +1,3 @@
--- The box by the elements one after the other; and an object beside an empty one.
+-- The box by the elements one after the other; and the summary by the scene that an object and an empty one form.
 pub mod Corners
-pub mod EmptyBeside
 pub mod Summarized

@@ -37,11 +37,14 @@ use Rattle.cells.proofs.Taken.{empty_as}
 use Rattle.summary.specs.declared.Summary.{Summary}
 use Rattle.summary.specs.Summary.{corners, grow, box_of, shape_of, is_empty, beside, flags_f, ascending_vectors, swapped, far_vectors}
 use Rattle.summary_objects.specs.Objects.{summary_in}
-use Rattle.summary_objects.proofs.Accepted.{sound_object, elements_in_range}
+use Rattle.check_verdict.proofs.Laws.{sound_object}
+use Rattle.check_alone.specs.Beside.{empty_of}
+use Rattle.check_alone.proofs.Alone.{short}
+use Rattle.summary_objects.proofs.Accepted.{elements_in_range}
 use Rattle.summary_objects.proofs.Told.{far_told}
-use Rattle.summary_making.specs.Making.{corners_from, widest, empty_of, beside_empty, summarized, summary_answer_of}
+use Rattle.summary_making.specs.Making.{corners_from, widest, beside_empty, summarized, summary_answer_of}
 use Rattle.summary_making.proofs.Corners.{corners_are, grow_widest}
-use Rattle.summary_making.proofs.EmptyBeside.{nothing, scene, empty_read, empty_faultless, checked_beside}
+use Rattle.check_alone.proofs.EmptyBeside.{nothing, scene, empty_read, empty_faultless, checked_beside}
 
 -- ---- type, emptiness and box
 
@@ -102,9 +105,6 @@ same_type s t e = go (descends s.shape t.shape) (ap (descends s.shape) e ∙ not
 module _ (s : List ℕ) (l : Layout) (read : read_alone s ≡ Ok l) where
   abbrev k : Shape
   k = l.shape
-
-  pub short : length s ≤ longest
-  short = let t = taken_alone s l read in omega (arith, object_short s 0 l t.object, t.all)
 
   pub refused_beside : (r : Refusal) → check_scene (s ++ empty_of k) ≡ Err r → check_object s ≡ Err r
   refused_beside r e = object_read s l read ∙ go (object_verdict s l) (sym (checked_beside s l k read) ∙ e)

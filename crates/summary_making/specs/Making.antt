@@ -60,11 +60,7 @@ corners_from s l (suc n) i = corners_at s l.shape (place l i) ++ corners_from s 
 abbrev pub widest : Bounds
 widest = record { least = record { x = pos limit; y = pos limit }; greatest = record { x = neg_ℤ (pos limit); y = neg_ℤ (pos limit) } }
 
--- ---- and an empty object beside this one
+-- ---- and the vector that an object has beside an empty object of its type
 
-abbrev pub empty_of : Shape → List ℕ
-empty_of k = 84 ∷ shape_number k ∷ 69 ∷ []
-
--- the vector that an object has beside an empty object of its type
 abbrev pub beside_empty : Summary → ℕ
 beside_empty s = pack (flags_f s.shape s.shape (not s.empty) s.boundary)

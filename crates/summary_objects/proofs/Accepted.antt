@@ -15,9 +15,8 @@ use Rattle.scene.specs.declared.Shape.{Shape}
 use Rattle.scene.specs.declared.Shape.TheVariants.{Points, Line, Region}
 use Rattle.scene.specs.declared.Layout.{Layout}
 use Rattle.scene.specs.Conditions.{has_segments, elements, segments, check_object}
-use Rattle.scene.proofs.Given.{checked_object_lem}
 use Rattle.scene.proofs.Indices.{in_element}
-use Rattle.check_verdict.proofs.Laws.{SoundObject, segments_in_range, segments_sorted, point_in_range, points_sorted}
+use Rattle.check_verdict.proofs.Laws.{SoundObject, sound_object, segments_in_range, segments_sorted, point_in_range, points_sorted}
 use Rattle.flags.specs.Elements.{point_of, points_of, elements_as, elements_of}
 use Rattle.flags.proofs.Elements.{outline_edges}
 use Rattle.cells_matrix.proofs.Theorem.{Good}
@@ -25,11 +24,6 @@ use Rattle.cells.proofs.Taken.{good}
 use Rattle.summary.specs.Summary.{ends, corners, is_good}
 use Rattle.summary.proofs.Made.{AllInRange, Listed, made_good}
 use Rattle.summary_objects.specs.Objects.{summary_in}
-
-pub sound_object : (s : List ℕ) (l : Layout) → check_object s ≡ Ok l → SoundObject s l
-sound_object s l e =
-    let c = checked_object_lem s l e in
-    record { read = c.0.read; order = c.1.0; paired = c.1.1.0; apart = c.1.1.1.0; even = c.1.1.1.1.0; right_ia = c.1.1.1.1.1.0 }
 
 -- both ends of segments in range
 ends_in_range : (l : List Segment) → ((t : Segment) → t ∈ l → T (segment_in_range t)) → AllInRange (ends l)

@@ -40,7 +40,8 @@ use Rattle.summary.proofs.Theorem.{full_answer, far_apart}
 use Rattle.summary.proofs.Near.{look_exactly}
 use Rattle.summary.proofs.Bytes.{good_bytes_lem, good_summary, asked_good}
 use Rattle.summary_objects.specs.Objects.{summary_in, NeverBad, ToldInFull, LookExactlyIfNear}
-use Rattle.summary_objects.proofs.Accepted.{sound_object, elements_good, summary_good}
+use Rattle.check_verdict.proofs.Laws.{sound_object}
+use Rattle.summary_objects.proofs.Accepted.{elements_good, summary_good}
 
 pub read_of : (s : List ℕ) (l : Layout) → check_object s ≡ Ok l → read_alone s ≡ Ok l
 read_of s l e = (subst (CheckedObjectMeans s) e (checked_object_means s)).0

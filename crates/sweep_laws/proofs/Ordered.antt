@@ -21,7 +21,7 @@ use Rattle.sweep_laws.proofs.Under.{NotBefore}
 use Rattle.sweep_laws.proofs.Run.{Orderly}
 
 -- an element that comes before another has the earlier dominating point, or the same
-comes_point : (h k : Halfsegment) → T (comes_before h k) → T (before (dominating h) (dominating k)) ⊎ (dominating h ≡ dominating k)
+pub comes_point : (h k : Halfsegment) → T (comes_before h k) → T (before (dominating h) (dominating k)) ⊎ (dominating h ≡ dominating k)
 unfolding comes_before
 comes_point h k t = ⊎_elim inl (λ u. inr (same_point_read (dominating h) (dominating k) (and_left (is_same_point (dominating h) (dominating k)) _ u))) (or_cases (before (dominating h) (dominating k)) _ t)
 

@@ -186,7 +186,7 @@ module _ {s : List ℕ} {l : Layout} (o : SoundObject s l) where
 
 -- 15, whichever of them is given first, since touching goes both ways
 module _ {s : List ℕ} {a b : Layout} (o : SoundObject s a) (q : SoundObject s b) (none : touching s a (segments s b) ≡ None) where
-  untouched : (t u : Segment) → t ∈ segments s a → u ∈ segments s b → (touch t u ≡ false) × (touch u t ≡ false)
+  pub untouched : (t u : Segment) → t ∈ segments s a → u ∈ segments s b → (touch t u ≡ false) × (touch u t ≡ false)
   untouched t u m k =
       let e = none_touched o none t u m k in
       (e, refute (touch u t) (λ h. subst T e (touch_swap u t (all_ordered q u k) (all_ordered o t m) h)))

@@ -2,7 +2,8 @@
 // number and place of each, two zeros where it is taken. A label that begins with `o`, as `object` does, is checked as one object alone.
 #![tactic(auto)]
 
-use check_verdict::{check_object, check_scene};
+use check_alone::check_object;
+use check_verdict::check_scene;
 use scene::Refusal;
 use std::io;
 use std::io::Stdout;

@@ -8,3 +8,4 @@ pub mod Sorted
 pub mod Deciding
 pub mod Counted
 pub mod Parity
+pub mod Totals

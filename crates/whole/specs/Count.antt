@@ -1,6 +1,6 @@
--- Tests and counts: equality of whole numbers, an odd number, and "some", "every" and "how many" over a list.
+-- Tests and counts: equality of whole numbers, an odd number, and "some", "every", "how many" and a sum over a list.
 -- Each is a test that computes; `∈` is the membership that "some" and "every" are about.
-use Rattle.std.specs.Prelude.{ℕ, ◌+◌, ◌%◌, Bool, true, false, ◌&&◌, ◌||◌, List, [], ◌∷◌, eqb, ℤ, pos, negsuc}
+use Rattle.std.specs.Prelude.{ℕ, ◌+◌, ◌%◌, Bool, true, false, ◌&&◌, ◌||◌, List, [], ◌∷◌, eqb, ℤ, pos, negsuc, ◌+ℤ◌}
 
 abbrev pub eq_z : ℤ → ℤ → Bool
 eq_z (pos a) (pos b) = eqb a b
@@ -32,3 +32,7 @@ module _ {A : Type 0} where
   abbrev pub count : (A → Bool) → List A → ℕ
   count f [] = 0
   count f (a ∷ l) = bit (f a) + count f l
+
+  abbrev pub total : (A → ℤ) → List A → ℤ
+  total f [] = pos 0
+  total f (a ∷ l) = f a +ℤ total f l

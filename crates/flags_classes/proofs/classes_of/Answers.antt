@@ -1,21 +1,16 @@
 -- `flags_classes::classes_of` meets its contract, step by step: a segment of F, of G or of both.
-use Rattle.std.proofs.Common.{arith, ℕ, ◌≤◌, ◌≡◌, List, [], ap₂, ◌∙◌, Ok}
-use Rattle.scene.specs.declared.Layout.{Layout}
+use Rattle.std.proofs.Common.{arith, ℕ, ◌≡◌, List, [], ap₂, ◌∙◌, Ok}
 use Rattle.scene.specs.declared.Scene.{Scene}
-use Rattle.scene.specs.Read.{IsObject}
 use Rattle.scene.specs.Conditions.{check_scene}
-use Rattle.scene.proofs.Taken.{taken_object}
 use Rattle.check_verdict.proofs.Laws.{SoundScene, sound_scene}
 use Rattle.flags_classes.specs.Marked.{unshared_marks, shared_marks}
+use Rattle.flags_classes.proofs.Merging.{few}
 use Rattle.flags_classes.proofs.Walking.{walking_f, walking_g, walking_both, walked}
 use Rattle.flags_classes.proofs.classes_of.Goals as goal
 
 sound : (s : List ℕ) (sc : Scene) → check_scene s ≡ Ok sc → SoundScene s sc
 unfolding check_scene
 sound s sc e = sound_scene [] [] s sc e
-
-few : (s : List ℕ) (l : Layout) → IsObject s l → l.count ≤ 1024
-few s l is = (taken_object s l.start l is).few
 
 pub of-requires : goal.of-requires
 of-requires c =

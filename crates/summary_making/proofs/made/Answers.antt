@@ -4,7 +4,7 @@ use Rattle.scene.specs.declared.Shape.{Shape}
 use Rattle.flags.specs.Flags.{pack}
 use Rattle.flags.specs.Elements.{elements_of}
 use Rattle.summary.specs.Summary.{flags_f, has_boundary}
-use Rattle.summary_objects.proofs.Accepted.{sound_object}
+use Rattle.check_verdict.proofs.Laws.{sound_object}
 use Rattle.summary_making.proofs.Summarized.{shape_is, empty_is}
 use Rattle.summary_making.proofs.made.Goals as goal
 

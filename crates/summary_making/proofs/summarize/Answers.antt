@@ -3,7 +3,8 @@ use Rattle.std.proofs.Common.{sym, ◌∙◌}
 use Rattle.scene.proofs.Taken.{taken_alone}
 use Rattle.scene.proofs.Outcomes.{handed_on}
 use Rattle.check_verdict.proofs.Verdicts.{object_refused}
-use Rattle.summary_making.proofs.Summarized.{short, refused_alone, taken_so, refused_answer, made_answer}
+use Rattle.check_alone.proofs.Alone.{short}
+use Rattle.summary_making.proofs.Summarized.{refused_alone, taken_so, refused_answer, made_answer}
 use Rattle.summary_making.proofs.summarize.Goals as goal
 
 pub returns-in_err-layout : goal.returns-in_err-layout

@@ -7,7 +7,8 @@ use mir.Syntax.{w64}
 use mir.Val.{to_z, of_z}
 use Rattle.plane.specs.declared.Segment.{Segment}
 use Rattle.plane.specs.Plane.{segment_in_range}
-use Rattle.areas.specs.Parts.{shoelace, Part, in_both, in_f_only, in_g_only}
+use Rattle.plane.specs.Shoelace.{shoelace}
+use Rattle.areas.specs.Parts.{Part, in_both, in_f_only, in_g_only}
 use Rattle.areas.specs.declared.sums.Sums.{Sums}
 use Rattle.areas.specs.Areas.{sum_of, Small}
 use Rattle.areas.proofs.Adding.{back, back_as, value_small, sum_added}

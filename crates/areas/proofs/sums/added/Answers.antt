@@ -2,7 +2,7 @@
 use Rattle.std.proofs.Common.{◌≡◌, Bool, true, false, refl, sym, ap, ap₂, ◌∙◌}
 use mathlib.Core.Bool.{beq}
 use lib.IntN.{◌+ℤ◌}
-use Rattle.areas.specs.Parts.{weighed}
+use Rattle.plane.specs.Shoelace.{weighed}
 use Rattle.areas.proofs.Adding.{back, added_none, added_plus, added_minus, machine_sum_is, machine_difference_is}
 use Rattle.areas.proofs.sums.added.Goals as goal
 

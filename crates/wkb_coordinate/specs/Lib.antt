@@ -1,0 +1,2 @@
+-- Which floats are coordinates.
+pub mod Coordinate

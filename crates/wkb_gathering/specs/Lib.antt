@@ -1,0 +1,3 @@
+-- What the second pass reads and gathers.
+pub mod Keys
+pub mod Gathers

@@ -1,0 +1,3 @@
+-- Where midpoints are.
+pub mod Interiors
+pub mod Examples

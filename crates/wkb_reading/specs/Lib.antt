@@ -1,0 +1,2 @@
+-- What reading a well-known binary file answers.
+pub mod Reading

@@ -1,0 +1,3 @@
+-- What is written is read back as the same bytes.
+pub mod Wrote
+pub mod Again

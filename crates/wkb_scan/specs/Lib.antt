@@ -1,0 +1,2 @@
+-- Reading one item after another, without the values.
+pub mod InTurn
