@@ -1,0 +1,5 @@
+-- What the state of a walk is, and what a portion of it gives.
+pub mod State
+pub mod Walked
+pub mod Theorems
+pub mod Resumed

@@ -1,0 +1,9 @@
+-- What taking one element sets, off the table of flags.
+pub mod Few
+pub mod OfClass
+pub mod OfPoints
+pub mod LineLine
+pub mod LineRegion
+pub mod RegionRegion
+pub mod OneTaken
+pub mod Stepping

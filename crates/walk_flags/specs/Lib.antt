@@ -1,0 +1,2 @@
+-- What one element amounts to beside the other object.
+pub mod OneTaken

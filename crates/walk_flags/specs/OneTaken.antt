@@ -1,0 +1,92 @@
+-- One element as the table of flags reads it: the meeting at its point, by the degrees that the point has in both objects and by the element's note, and the
+-- class of its segment. proofs/OneTaken.antt says that the table read off these gives what taking the element sets.
+use Rattle.std.specs.Prelude.{ℕ, ◌+◌, ◌&&◌, cond, List, get_or}
+use Rattle.scene.specs.declared.Layout.{Layout}
+use Rattle.scene.specs.declared.Scene.{Scene}
+use Rattle.scene.specs.Conditions.{ia, left_test}
+use Rattle.scene_keys.specs.Keyed.{element_point}
+use Rattle.flags_meetings.specs.declared.Meetings.{Meetings}
+use Rattle.flags_meetings.specs.Met.{degree, bound_outside_test, bound_inside_test, bound_on_test, bound_bound_test, bound_inner_test, inner_bound_test, inner_inner_test, bound_of_g_test}
+use Rattle.flags_classes.specs.declared.Classes.{Classes}
+use Rattle.flags_classes.specs.Classed.{above_outside_test, below_outside_test, above_inside_test, below_inside_test, both_above_test, both_below_test, opposite}
+use Rattle.flags.specs.Flags.{pack}
+use Rattle.flags_classes.specs.Marked.{unshared_marks, shared_marks, named}
+use Rattle.flags_table.specs.Table.{flags_of_f_by, flags_of_g_by}
+use Rattle.flags_masks.specs.declared.FlagMasks.{FlagMasks}
+use Rattle.flags_masks.specs.Wanted.{only}
+use Rattle.walk_flags.specs.declared.Degrees.{Degrees}
+
+-- of a point of degree a in F and b in G, with the note n
+abbrev pub met_at : (a b n : ℕ) → Meetings
+met_at a b n =
+    record {
+      bound_outside = bound_outside_test a b n;
+      bound_inside = bound_inside_test a b n;
+      bound_on = bound_on_test a b n;
+      bound_bound = bound_bound_test a b n;
+      bound_inner = bound_inner_test a b n;
+      inner_bound = inner_bound_test a b n;
+      inner_inner = inner_inner_test a b n;
+      bound_of_g = bound_of_g_test a b;
+    }
+
+-- of the element i of an object beside the other; a right halfsegment and a point have no class
+abbrev pub class_at : List ℕ → (own other : Layout) (note : ℕ → ℕ) → ℕ → Classes
+class_at s own other note i =
+    record {
+      above_outside = left_test s own i && above_outside_test s own other note i;
+      below_outside = left_test s own i && below_outside_test s own other note i;
+      above_inside = left_test s own i && above_inside_test s own other note i;
+      below_inside = left_test s own i && below_inside_test s own other note i;
+      both_above = left_test s own i && both_above_test s own other i;
+      both_below = left_test s own i && both_below_test s own other i;
+      opposite = left_test s own i && opposite s own other i;
+    }
+
+module _ (s : List ℕ) (sc : Scene) (notes : List ℕ) where
+  -- the element i of F, and the element j of G with any note
+  abbrev pub met_by_f : ℕ → Meetings
+  met_by_f i = met_at (degree s sc.f (element_point s sc.f i)) (degree s sc.g (element_point s sc.f i)) (get_or notes i 0)
+
+  abbrev pub met_by_g : (note : ℕ) → ℕ → Meetings
+  met_by_g note j = met_at (degree s sc.f (element_point s sc.g j)) (degree s sc.g (element_point s sc.g j)) note
+
+  abbrev pub class_by_f : ℕ → Classes
+  class_by_f i = class_at s sc.f sc.g (λ k. get_or notes k 0) i
+
+  abbrev pub class_by_g : ℕ → Classes
+  class_by_g j = class_at s sc.g sc.f (λ k. get_or notes (1024 + k) 0) j
+
+-- ---- the class by the event: of an object alone, or of both
+
+-- the mark of an element that is an event of its object alone, with its note
+abbrev pub alone_marks : List ℕ → Layout → (i note : ℕ) → ℕ
+alone_marks s l i note = cond (left_test s l i) (unshared_marks (ia s l i) note) 0
+
+-- and of one that is the same event as the element j of the other object
+abbrev pub both_marks : List ℕ → (own other : Layout) → (i j : ℕ) → ℕ
+both_marks s own other i j = cond (left_test s own i) (shared_marks (ia s own i) (ia s other j)) 0
+
+-- ---- the wanted flags of the next event
+
+-- what the table gives, as far as it is wanted
+module _ (sc : Scene) (want : FlagMasks) (m : Meetings) (c : Classes) where
+  abbrev pub wanted_f : ℕ
+  wanted_f = only want.f (pack (flags_of_f_by sc.f.shape sc.g.shape m c))
+
+  abbrev pub wanted_g : ℕ
+  wanted_g = only want.g (pack (flags_of_g_by sc.f.shape sc.g.shape m c))
+
+-- of a point with these degrees: the element i of F alone, the element j of G alone, and each of the two where they are one event
+module _ (s : List ℕ) (sc : Scene) (notes : List ℕ) (want : FlagMasks) (at : Degrees) where
+  abbrev pub alone_of_f : ℕ → ℕ
+  alone_of_f i = let note = get_or notes i 0 in wanted_f sc want (met_at at.f at.g note) (named (alone_marks s sc.f i note))
+
+  abbrev pub alone_of_g : ℕ → ℕ
+  alone_of_g j = let note = get_or notes (1024 + j) 0 in wanted_g sc want (met_at at.f at.g note) (named (alone_marks s sc.g j note))
+
+  abbrev pub both_of_f : ℕ → ℕ → ℕ
+  both_of_f i j = wanted_f sc want (met_at at.f at.g (get_or notes i 0)) (named (both_marks s sc.f sc.g i j))
+
+  abbrev pub both_of_g : ℕ → ℕ → ℕ
+  both_of_g i j = wanted_g sc want (met_at at.f at.g (get_or notes i 0)) (named (both_marks s sc.g sc.f j i))
