@@ -46,7 +46,7 @@ run: target/bin/explore target/tools/scene
 	done
 endif
 
-# The companion tool, outside the proved crates: scenes as text, listings, pictures; with the archive well-known binary too
+# The companion tool, outside the proved crates: scenes as text, listings, pictures; with the archive well-known binary and splitting too
 tools: archive target/bin/explore
 	@tools/build
 

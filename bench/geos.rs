@@ -1,5 +1,5 @@
 //! GEOS, through its C interface: a scene's objects built from the scene's bytes, tested for validity, and related under its own boundary rule, the
-//! OGC's of odd counts, which is document 02's boundary of a line if each segment is a part of its own. And the areas of two regions, by overlay, and well-known binary.
+//! OGC's of odd counts, which is document 02's boundary of a line if each segment is a part of its own. And the areas of two regions, by overlay, well-known binary, and noding.
 
 use crate::cells::{of_signs, Matrix};
 use crate::plane::{Point, Segment};
@@ -17,6 +17,7 @@ type Coordinates = *mut c_void;
 const MULTIPOINT: c_int = 4;
 const MULTILINESTRING: c_int = 5;
 const MULTIPOLYGON: c_int = 6;
+const COLLECTION: c_int = 7;
 
 #[link(name = "geos_c")]
 extern "C" {
@@ -36,6 +37,9 @@ extern "C" {
     fn GEOSDifference_r(handle: Handle, f: *const c_void, g: *const c_void) -> Geometry;
     fn GEOSArea_r(handle: Handle, geometry: *const c_void, area: *mut c_double) -> c_int;
     fn GEOSFree_r(handle: Handle, what: *mut c_void);
+    fn GEOSNode_r(handle: Handle, geometry: *const c_void) -> Geometry;
+    fn GEOSGeom_clone_r(handle: Handle, geometry: *const c_void) -> Geometry;
+    fn GEOSGetNumCoordinates_r(handle: Handle, geometry: *const c_void) -> c_int;
     fn GEOSEquals_r(handle: Handle, f: *const c_void, g: *const c_void) -> c_char;
     fn GEOSGetGeometryN_r(handle: Handle, geometry: *const c_void, index: c_int) -> *const c_void;
     fn GEOSGetNumGeometries_r(handle: Handle, geometry: *const c_void) -> c_int;
@@ -195,6 +199,22 @@ impl Pair<'_> {
         (measured == 1).then_some(2.0 * area)
     }
 
+    /// The segments of both, noded and each taken once, or none if GEOS raised an exception.
+    pub fn noded(&self) -> Option<usize> {
+        unsafe {
+            let both = [self.f, self.g].map(|geometry| GEOSGeom_clone_r(self.geos.0, geometry));
+            let all = GEOSGeom_createCollection_r(self.geos.0, COLLECTION, both.as_ptr(), 2);
+            let noded = GEOSNode_r(self.geos.0, all);
+            GEOSGeom_destroy_r(self.geos.0, all);
+            if noded.is_null() {
+                return None;
+            }
+            let (ends, paths) = (GEOSGetNumCoordinates_r(self.geos.0, noded), GEOSGetNumGeometries_r(self.geos.0, noded));
+            GEOSGeom_destroy_r(self.geos.0, noded);
+            Some((ends - paths) as usize)
+        }
+    }
+
     /// Twice the area in both.
     pub fn shared_area(&self) -> Option<f64> {
         self.overlaid(GEOSIntersection_r, self.f, self.g)
@@ -242,6 +262,16 @@ pub fn shared_area_from_bytes(geos: &Geos, bytes: &[u8], parts: &[Parts; 2]) -> 
     let pair = Pair::build(geos, bytes, parts);
     if pair.is_valid() {
         pair.shared_area()
+    } else {
+        None
+    }
+}
+
+/// The whole way to the noded segments of both: build, validity, noding.
+pub fn noded_from_bytes(geos: &Geos, bytes: &[u8], parts: &[Parts; 2]) -> Option<usize> {
+    let pair = Pair::build(geos, bytes, parts);
+    if pair.is_valid() {
+        pair.noded()
     } else {
         None
     }

@@ -9,6 +9,7 @@ mod compare;
 mod faults;
 mod geos;
 mod ground;
+mod noding;
 mod picture;
 mod report;
 mod results;
@@ -59,6 +60,12 @@ mod random;
 #[path = "../tests/reference/scene.rs"]
 mod scene;
 #[allow(dead_code)]
+#[path = "../tests/reference/split.rs"]
+mod split;
+#[allow(dead_code)]
+#[path = "../tests/reference/split_maker.rs"]
+mod split_maker;
+#[allow(dead_code)]
 #[path = "../tests/reference/summary.rs"]
 mod summary;
 #[allow(dead_code)]
@@ -90,6 +97,7 @@ const USAGE: &str = "usage: bench compare           GEOS's cells against ours; f
        bench summaries          times of summaries and of what two of them tell, beside the full answer and GEOS's relate
        bench areas              GEOS's areas of two regions against ours within its rounding, and times of both
        bench wkb                shapes through GEOS's well-known binary and ours, and times of reading, ours and GEOS's
+       bench split              raw pairs in GEOS against the same split, and times of splitting, ours and GEOS's noding
        bench slowest            our times for scenes with a fault, and the slowest of many random scenes
        bench make DIR           writes the scenes of full size, a file each
        bench count ours FILE..  asks for the cells of each scene once, for callgrind
@@ -127,6 +135,10 @@ fn main() {
         ["wkb"] => {
             println!("version {}", Geos::version());
             binary::run(&Geos::new())
+        }
+        ["split"] => {
+            println!("version {}", Geos::version());
+            noding::run(&Geos::new())
         }
         ["slowest"] => slowest(),
         ["make", directory] => make(directory),

@@ -1,7 +1,9 @@
 //! The measured part of docs/BENCH.md, everything after its marker, written from the runs' outputs.
 
 use crate::picture;
-use crate::results::{read, Binary, BinaryCompared, Compared, Ground, GroundCompared, Other, Results, Summaries, Times, Turns};
+use crate::results::{
+    read, Binary, BinaryCompared, Compared, Ground, GroundCompared, Noding, NodingCompared, Other, Results, Summaries, Times, Turns,
+};
 use crate::rows::{kind_name, name, EITHER_ORDER, FULL, RANDOM, SIZES};
 use crate::scene::{LINE, POINTS, REGION};
 use crate::shapes::{Family, FAMILIES};
@@ -48,6 +50,7 @@ fn measured(results: &Results) -> String {
         summaries(results),
         ground(results),
         binary(results),
+        noding(results),
         faults(results),
         comparison(results),
     ]
@@ -192,6 +195,25 @@ fn binary(results: &Results) -> String {
         text,
         "\nOf {shapes} random shapes GEOS wrote {read} strings, in either byte order and in orders mixed, that we read as the object that the shape was made of, and {back} that we wrote are equal in \
          GEOS; {wrong} differ.\n"
+    );
+    text
+}
+
+fn noding(results: &Results) -> String {
+    let new = &results.versions[0];
+    let mut text = format!(
+        "### Splitting\n\nA raw pair split, over GEOS {new} from the same bytes: build, validity and noding; and noding alone, on geometries that are built. Added: the segments of both objects that were not there \
+         before.\n\n| raw pair | types | added | ours | GEOS {new} | ratio | noding alone | ratio |\n|---|---|---|---|---|---|---|---|\n"
+    );
+    for Noding { name, kinds, added, ours, whole, alone } in &results.noding {
+        let [own, all, part] = [ours, whole, alone].map(|time| short(*time));
+        let _ = writeln!(text, "| {name} | {kinds} | {added} | {own} | {all} | {:.3} | {part} | {:.3} |", ours / whole, ours / alone);
+    }
+    let NodingCompared { same, other, off_grid } = results.noding_compared;
+    let _ = write!(
+        text,
+        "\nOf {} random raw pairs that are cut GEOS {new} gives {same} the matrix that we give the pair split; {other} differ. {off_grid} more cross off the grid.\n",
+        same + other
     );
     text
 }

@@ -1,4 +1,4 @@
-//! What the runs wrote, read back: times by row and version, counts of instructions, the comparison, scenes in turn, the faults, the areas, well-known binary.
+//! What the runs wrote, read back: times by row and version, counts of instructions, the comparison, scenes in turn, the faults, the areas, well-known binary, splitting.
 
 use std::collections::HashMap;
 use std::path::Path;
@@ -105,6 +105,23 @@ pub struct BinaryCompared {
     pub wrong: usize,
 }
 
+/// A raw pair: the segments added by splitting, our splitting, GEOS's noding from the same bytes, and alone.
+pub struct Noding {
+    pub name: String,
+    pub kinds: String,
+    pub added: usize,
+    pub ours: f64,
+    pub whole: f64,
+    pub alone: f64,
+}
+
+/// Raw pairs: those to which GEOS gives the matrix that we give the pair split, and others; and those passed over, since they cross off the grid.
+pub struct NodingCompared {
+    pub same: usize,
+    pub other: usize,
+    pub off_grid: usize,
+}
+
 pub struct Results {
     pub processor: String,
     pub versions: [String; 2],
@@ -119,6 +136,8 @@ pub struct Results {
     pub ground_compared: GroundCompared,
     pub binary: Vec<Binary>,
     pub binary_compared: BinaryCompared,
+    pub noding: Vec<Noding>,
+    pub noding_compared: NodingCompared,
 }
 
 /// The lines of a file that begin with a word, as the words after it.
@@ -208,6 +227,19 @@ fn binary_compared(directory: &Path) -> BinaryCompared {
     BinaryCompared { shapes: number(&words[0]), read: number(&words[1]), back: number(&words[2]), wrong: number(&words[3]) }
 }
 
+fn noding(directory: &Path) -> Vec<Noding> {
+    let one = |words: &Vec<String>| {
+        let [ours, whole, alone] = [4, 5, 6].map(|column| number(&words[column]));
+        Noding { name: words[0].clone(), kinds: format!("{}, {}", words[1], words[2]), added: number(&words[3]), ours, whole, alone }
+    };
+    lines(directory, "split", "split").iter().map(one).collect()
+}
+
+fn noding_compared(directory: &Path) -> NodingCompared {
+    let words = &lines(directory, "split", "split-compared")[0];
+    NodingCompared { same: number(&words[0]), other: number(&words[1]), off_grid: number(&words[2]) }
+}
+
 pub fn read(directory: &Path) -> Results {
     let version = |file: &str| lines(directory, file, "version")[0][0].split('-').next().unwrap_or_default().to_string();
     Results {
@@ -224,5 +256,7 @@ pub fn read(directory: &Path) -> Results {
         ground_compared: ground_compared(directory),
         binary: binary(directory),
         binary_compared: binary_compared(directory),
+        noding: noding(directory),
+        noding_compared: noding_compared(directory),
     }
 }

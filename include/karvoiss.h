@@ -4,11 +4,12 @@
  * a region, and either type may come first. The functions below read a scene and
  * answer a question about it, in the scene's order: what is said of F is said of
  * the object that the bytes have first. Two more make the summary of an object, and
- * say what two of these tell; and two read an object from well-known binary, and
- * write it so. All are total: any bytes of any length may be passed, nothing need be
- * tested beforehand. They keep no state, allocate nothing, and may be called from
- * several threads at once. The bytes passed are only read, but for the buffers of
- * karvoiss_overlap, karvoiss_read_wkb and karvoiss_write_wkb.
+ * say what two of these tell; two read an object from well-known binary, and
+ * write it so; and one splits two objects that cross into a scene. All are total: any
+ * bytes of any length may be passed, nothing need be tested beforehand. They keep no
+ * state, allocate nothing, and may be called from several threads at once. The bytes
+ * passed are only read, but for the buffers of karvoiss_overlap, karvoiss_read_wkb,
+ * karvoiss_write_wkb and karvoiss_split.
  *
  * `scene` points to `length` bytes; it may be null where `length` is 0.
  *
@@ -39,7 +40,8 @@
  * (d = 1); on the same side, h before k where k's far end is strictly to the left
  * of the ray from the dominating point through h's far end. ia is 1 where the
  * region's interior is above the segment, or left of it if it is vertical.
- * Crossings are split beforehand: two segments share only common ends.
+ * Crossings are split beforehand: two segments share only common ends. Where those of F
+ * and G do not, karvoiss_split splits them.
  *
  * Refusals
  * --------
@@ -71,9 +73,13 @@
  *  17  the buffer is shorter than the count (place 0; karvoiss_overlap only)
  *  18  a bad summary (place is its index, from 0; karvoiss_far and
  *      karvoiss_in_window only)
- *  20  more than 1,024 points or 512 segments (place 0; karvoiss_read_wkb only)
- *  21  the buffer is shorter than what is written (place 0; karvoiss_read_wkb and
- *      karvoiss_write_wkb only)
+ *  19  segments of F and G cross at a point that is not on the grid: F's record
+ *      (karvoiss_split only)
+ *  20  more than 1,024 points or 512 segments (place 0; karvoiss_read_wkb); an object
+ *      that would have more than 1,024 elements once split, at its type record
+ *      (karvoiss_split)
+ *  21  the buffer is shorter than what is written (place 0; karvoiss_read_wkb,
+ *      karvoiss_write_wkb and karvoiss_split only)
  *  22  the pattern has not nine characters (place 0; karvoiss_relate only)
  *  23  a character is none of T, F, *, 0, 1, 2: the position of the first
  *      such, from 0 (karvoiss_relate only)
@@ -90,8 +96,8 @@
  * being bytes after its end; karvoiss_far has 18 alone, and
  * karvoiss_in_window 27, 28 and 18, in this order. karvoiss_read_wkb has 24, 25 and
  * 26, the earliest byte first, then 20, 10, 12, 13 and 21, each at place 0, and
- * karvoiss_write_wkb those of karvoiss_summary, then 24 and 21. A number that is not in
- * the table never occurs.
+ * karvoiss_write_wkb those of karvoiss_summary, then 24 and 21. karvoiss_split has 1 to 7,
+ * 10 to 14, then 19, 20 and 21. A number that is not in the table never occurs.
  *
  * Since 0.3.0 either type may come first. Before, a scene whose first type was
  * above its second was refused with 8, and a caller had to exchange the objects
@@ -119,7 +125,8 @@ extern "C" {
  * to need about 6,000 bytes, karvoiss_summary 25,520, since it copies its object,
  * karvoiss_far 160, karvoiss_estimate 40 and karvoiss_in_window 216;
  * karvoiss_read_wkb 123,672 and karvoiss_write_wkb 46,264, since they build and
- * check an object; the numbers leave room for other compilers.
+ * check an object, and karvoiss_split 306,008; the numbers leave room for other
+ * compilers.
  */
 #define KARVOISS_VECTORS_STACK 11200
 #define KARVOISS_CELLS_STACK 11200
@@ -132,6 +139,7 @@ extern "C" {
 #define KARVOISS_IN_WINDOW_STACK 512
 #define KARVOISS_READ_WKB_STACK 248000
 #define KARVOISS_WRITE_WKB_STACK 93000
+#define KARVOISS_SPLIT_STACK 614400
 
 /* The topological feature vectors of F and G.
  *
@@ -505,6 +513,52 @@ typedef struct {
 
 karvoiss_write_wkb_t karvoiss_write_wkb(const uint8_t *object, size_t length,
                                         uint8_t *wkb, size_t room);
+
+/* A raw pair, two objects whose segments cross, touch or overlap, as a scene. Since
+ * 0.13.0.
+ *
+ * `scene` points to `length` bytes, which are only read; it may be null where `length`
+ * is 0. `split` points to `room` bytes that the scene is written to; it may be null
+ * where `room` is 0, and must not overlap `scene`. Taken: `length` of the result is the
+ * written scene's, its bytes are the first ones of the buffer, and later bytes are as
+ * they were. Refused: `length`, `added_f` and `added_g` are 0 and all bytes are as they
+ * were. 38,918 bytes are enough for any pair.
+ *
+ * Taken are two objects, in either order, that a scene may have but for 15: lines or
+ * regions that are sound each by itself, however they meet. Each segment is cut at
+ * every point, but its own ends, at which a segment of the other object crosses it or
+ * ends on it; so a stretch in common is cut at both its ends. Nothing else is cut. A
+ * piece of a region's segment has the ia of the segment. What is written is a scene that
+ * every call takes, in the order of elements that all scenes have. Every point lies in the
+ * interior, the boundary or the exterior of each object as it did, and twice each
+ * region's area, by the shoelace sum, is what it was.
+ *
+ * `added_f` and `added_g` are the segments, not halfsegments, that F and G have more than
+ * before: an object's number of cuts, each counted once however many segments meet there.
+ * A scene that is split comes out as it is, with 0 and 0. So does one that holds
+ * points, which have nothing to cut.
+ *
+ * Refused are what karvoiss_cells refuses, but for 15, with the same number and place; then
+ *
+ *  19  a segment of F and one of G cross at a point whose x or y is not a whole number:
+ *      at the earliest record of such a segment in F, the object that comes first
+ *  20  more than 1,024 elements, 512 segments, of an object once split: at the type
+ *      record of the first such object
+ *  21  the buffer is shorter than the scene that is written (place 0)
+ *
+ * in this order, each over the whole pair. Objects that are read by karvoiss_read_wkb
+ * and laid one after the other are such a pair, unless they cross off the grid.
+ */
+typedef struct {
+    uint32_t number;
+    size_t place;
+    size_t added_f;
+    size_t added_g;
+    size_t length;
+} karvoiss_split_t;
+
+karvoiss_split_t karvoiss_split(const uint8_t *scene, size_t length,
+                                uint8_t *split, size_t room);
 
 /* The side of a point c against the segment from a to b, estimated in single
  * floats (since 0.8.0). It takes no scene and refuses nothing.

@@ -21,6 +21,9 @@ karvoiss_read_wkb_t __wrap_karvoiss_read_wkb(const uint8_t *wkb, size_t length, 
 karvoiss_write_wkb_t __real_karvoiss_write_wkb(const uint8_t *object, size_t length, uint8_t *wkb, size_t room);
 karvoiss_write_wkb_t __wrap_karvoiss_write_wkb(const uint8_t *object, size_t length, uint8_t *wkb, size_t room);
 
+karvoiss_split_t __real_karvoiss_split(const uint8_t *scene, size_t length, uint8_t *split, size_t room);
+karvoiss_split_t __wrap_karvoiss_split(const uint8_t *scene, size_t length, uint8_t *split, size_t room);
+
 /* Reads a byte. */
 static inline __attribute__((unused)) void touch(const volatile uint8_t *byte)
 {
@@ -164,6 +167,44 @@ karvoiss_write_wkb_t __wrap_karvoiss_write_wkb(const uint8_t *object, size_t len
 #elif defined MISTAKE_writer_high_first
     if (answer.number == 0)
         *wkb = 0;
+#endif
+    return answer;
+}
+
+karvoiss_split_t __wrap_karvoiss_split(const uint8_t *scene, size_t length, uint8_t *split, size_t room)
+{
+#if defined MISTAKE_split_reads_on
+    touch(scene + length);
+#elif defined MISTAKE_split_reads_null
+    touch(scene);
+#elif defined MISTAKE_split_keeps_state
+    static volatile size_t kept;
+
+    kept = length;
+#elif defined MISTAKE_split_deep
+    dig(KARVOISS_SPLIT_STACK);
+#endif
+    karvoiss_split_t answer = __real_karvoiss_split(scene, length, split, room);
+
+#if defined MISTAKE_split_written_early
+    if (answer.number != 0 && room > 0)
+        *(volatile uint8_t *)split = 84;
+#elif defined MISTAKE_split_writes_on
+    ((volatile uint8_t *)split)[answer.length] = 0;
+#elif defined MISTAKE_split_clears_rest
+    if (room > 0)
+        memset(split + answer.length, 0, room - answer.length);
+#elif defined MISTAKE_split_still_15
+    if (answer.added_f + answer.added_g > 0)
+        answer = (karvoiss_split_t){.number = 15, .place = 2};
+#elif defined MISTAKE_split_in_vain
+    if (answer.number == 0)
+        memcpy(split, scene, length);
+#elif defined MISTAKE_split_counts_halves
+    answer.added_f *= 2;
+    answer.added_g *= 2;
+#elif defined MISTAKE_split_keeps_state
+    answer.place += kept != length;
 #endif
     return answer;
 }

@@ -1,6 +1,6 @@
 /* For libFuzzer: an input is two masks, a room (each 16 bits, low byte first), a pattern with its length, and a scene. The archive must answer what the reference does.
- * The same bytes are asked about as one object and as two summaries, the first of them as long as the room's lowest five bits say; as well-known binary, and as an object to be
- * written so.
+ * The same bytes are asked about as one object and as two summaries, the first of them as long as the room's lowest five bits say; as well-known binary, as an object to be
+ * written so, and as a pair to be split.
  * The scene, the pattern and the list end at pages that may not be touched, so that a byte too far is noticed though the archive has no checks of its own. */
 #define _DEFAULT_SOURCE
 #include "scenes.h"
@@ -27,6 +27,7 @@ struct reference reference_answers(const uint8_t *scene, size_t length, size_t s
                                    const uint8_t *pattern, size_t pattern_length, uint8_t *list, size_t room);
 karvoiss_read_wkb_t reference_read_wkb(const uint8_t *wkb, size_t length, uint8_t *buffer, size_t room);
 karvoiss_write_wkb_t reference_write_wkb(const uint8_t *object, size_t length, uint8_t *buffer, size_t room);
+karvoiss_split_t reference_split(const uint8_t *scene, size_t length, uint8_t *buffer, size_t room);
 int LLVMFuzzerTestOneInput(const uint8_t *data, size_t size);
 
 /* The end of `size` bytes, a whole number of pages, before a page that may not be touched. */
@@ -91,6 +92,24 @@ static void ask_wkb_at_fence(const uint8_t *bytes, size_t length, size_t room)
     }
 }
 
+static void ask_split_at_fence(const uint8_t *bytes, size_t length, size_t room)
+{
+    static uint8_t *end, expected[1 << 16];
+    const size_t size = sizeof expected;
+
+    if (end == NULL)
+        end = fenced_end(size);
+    const size_t rooms[2] = {reference_split(bytes, length, expected, size).length, room};
+    for (int k = 0; k < 2; k++) {
+        memset(expected, 0xEE, size);
+        memset(end - size, 0xEE, size);
+        karvoiss_split_t reference = reference_split(bytes, length, expected + size - rooms[k], rooms[k]);
+        karvoiss_split_t split = karvoiss_split(bytes, length, end - rooms[k], rooms[k]);
+        require(same_split(&reference, &split), "splitting");
+        require(memcmp(expected, end - size, size) == 0, "the scene that was split, or what is around it");
+    }
+}
+
 int LLVMFuzzerTestOneInput(const uint8_t *data, size_t size)
 {
     static uint8_t *scene_end, *pattern_end, *list_end;
@@ -138,6 +157,7 @@ int LLVMFuzzerTestOneInput(const uint8_t *data, size_t size)
     require(same_far(&reference.far, &far), "what two summaries tell");
     require(memcmp(expected, list - GUARD, GUARD + room) == 0, "the lent buffer, its list or what is around it");
     ask_wkb_at_fence(scene, length, room);
+    ask_split_at_fence(scene, length, room);
     require(memcmp(data + HEAD, scene, length) == 0, "the scene was changed");
     return 0;
 }

@@ -1,4 +1,5 @@
-/* Null where the length is 0: for the scene of each call, for the pattern and the list, alone and with it, for either summary, and for well-known binary, in and out. */
+/* Null where the length is 0: for the scene of each call, for the pattern and the list, alone and with it, for either summary, for well-known binary, in and out,
+ * and for a pair and what it is split into. */
 #include "scenes.h"
 
 static const uint8_t empty_regions[] = {84, 3, 69, 84, 3, 69};
@@ -60,6 +61,25 @@ static void wkb_of_null(void)
         fail("null", "a buffer was changed");
 }
 
+static void is_refused(const char *name, karvoiss_split_t answer, uint32_t number)
+{
+    karvoiss_split_t expected = {.number = number};
+
+    if (!same_split(&answer, &expected))
+        fail(name, "another answer");
+}
+
+static void split_of_null(void)
+{
+    uint8_t buffer[1] = {0xEE};
+
+    is_refused("null split into a buffer", karvoiss_split(NULL, 0, buffer, 1), 1);
+    is_refused("null split into null", karvoiss_split(NULL, 0, NULL, 0), 1);
+    is_refused("two empty regions split into null", karvoiss_split(empty_regions, sizeof empty_regions, NULL, 0), 21);
+    if (buffer[0] != 0xEE)
+        fail("null", "a buffer was changed");
+}
+
 static void is_relate(const char *name, karvoiss_relate_t answer, uint32_t number)
 {
     if (answer.number != number || answer.place != 0 || answer.holds)
@@ -102,6 +122,7 @@ int main(int argc, char **argv)
         fail("overlap of null into a buffer", "the buffer was changed");
     summaries_of_null(&scene);
     wkb_of_null();
-    puts("null: 21 calls");
+    split_of_null();
+    puts("null: 24 calls");
     return 0;
 }

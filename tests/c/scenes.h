@@ -8,8 +8,8 @@
 #include <stdlib.h>
 #include <string.h>
 
-/* More bytes than any list has; as many as any object has, as any object has as well-known binary by karvoiss_write_wkb, and by wkb_of. */
-enum { LIST = 2048, OBJECT = 19459, WRITTEN = 21513, WKB = 39433 };
+/* More bytes than any list has; as many as any object has, as any object has as well-known binary by karvoiss_write_wkb, and by wkb_of; as many as any scene has. */
+enum { LIST = 2048, OBJECT = 19459, WRITTEN = 21513, WKB = 39433, SCENE = 2 * OBJECT };
 
 struct scene {
     const char *name;
@@ -24,7 +24,7 @@ struct masks {
 
 /* `nothing` is asked for under two zero masks; `first` and `second` are the summaries of the two objects, and `far` is what they tell; `estimate` is asked for the numbers in the
  * first 24 bytes, `in_window` for the bytes as summaries; `read` for the first object as well-known binary, `written` for the first object, `unread` for the bytes as well-known
- * binary. */
+ * binary; `split` for the bytes as a pair. */
 struct answers {
     karvoiss_vectors_t vectors;
     karvoiss_vectors_t nothing;
@@ -38,6 +38,7 @@ struct answers {
     karvoiss_in_window_t in_window;
     karvoiss_read_wkb_t read, unread;
     karvoiss_write_wkb_t written;
+    karvoiss_split_t split;
     uint8_t list[LIST];
 };
 
@@ -205,6 +206,45 @@ static inline void ask_wkb(const uint8_t *bytes, size_t length, struct answers *
     }
 }
 
+static inline bool same_split(const karvoiss_split_t *a, const karvoiss_split_t *b)
+{
+    return a->number == b->number && a->place == b->place && a->added_f == b->added_f && a->added_g == b->added_g && a->length == b->length;
+}
+
+/* A scene that is split into itself. */
+static inline void splits_no_more(const uint8_t *scene, size_t length)
+{
+    uint8_t again[SCENE];
+    const karvoiss_split_t found = karvoiss_split(scene, length, again, sizeof again), expected = {.length = length};
+
+    if (!same_split(&found, &expected) || memcmp(again, scene, length) != 0)
+        fail("split", "a scene is split into another");
+}
+
+/* The bytes as a pair: the refusals are those of the cells, but for 15; what is written is a scene. */
+static inline void ask_split(const uint8_t *bytes, size_t length, struct answers *answers)
+{
+    uint8_t split[SCENE];
+    const karvoiss_cells_t *cells = &answers->cells;
+    const karvoiss_split_t found = karvoiss_split(bytes, length, memset(split, 0xEE, sizeof split), sizeof split);
+
+    answers->split = found;
+    if (cells->number != 15 ? found.number != cells->number || found.place != cells->place : found.number != 0 && found.number != 19 && found.number != 20)
+        fail("split", "another refusal than the cells have");
+    if (found.number != 0 && (found.length != 0 || found.added_f != 0 || found.added_g != 0))
+        fail("split", "something beside a refusal");
+    for (size_t i = found.length; i < sizeof split; i++)
+        if (split[i] != 0xEE)
+            fail("split", "a later byte was changed");
+    if (cells->number == 0)
+        splits_no_more(bytes, length);
+    if (cells->number == 15 && found.number == 0) {
+        if (karvoiss_cells(split, found.length).number != 0 || found.added_f + found.added_g == 0)
+            fail("split", "what is written is no scene, or nothing was added");
+        splits_no_more(split, found.length);
+    }
+}
+
 /* The pattern of what was answered, nine characters: each cell as it is, but for IE, of which it is asked whether it is empty, and EI, which is left open. */
 static inline void own_pattern(const karvoiss_cells_t *cells, uint8_t *pattern)
 {
@@ -256,6 +296,7 @@ static inline void ask(const uint8_t *bytes, size_t length, uint8_t *list, size_
     answers->estimate = ask_numbers(bytes, length);
     answers->in_window = karvoiss_in_window((karvoiss_window_t){-1.0F, -1.0F, 1.0F, 1.0F}, bytes, length);
     ask_wkb(bytes, length, answers);
+    ask_split(bytes, length, answers);
 }
 
 static inline bool same_vectors(const karvoiss_vectors_t *a, const karvoiss_vectors_t *b)
@@ -319,7 +360,7 @@ static inline bool same_answers(const struct answers *a, const struct answers *b
         && same_relate(&a->relate, &b->relate) && same_overlap(&a->overlap, &b->overlap) && same_summary(&a->first, &b->first)
         && same_summary(&a->second, &b->second) && same_far(&a->far, &b->far) && same_estimate(&a->estimate, &b->estimate)
         && same_in_window(&a->in_window, &b->in_window) && same_areas(&a->areas, &b->areas)
-        && same_read(&a->read, &b->read) && same_read(&a->unread, &b->unread) && same_written(&a->written, &b->written);
+        && same_read(&a->read, &b->read) && same_read(&a->unread, &b->unread) && same_written(&a->written, &b->written) && same_split(&a->split, &b->split);
 }
 
 #endif

@@ -12,7 +12,7 @@ static ucontext_t here, there;
 static struct scene scene;
 static struct masks all;
 static size_t second;
-static uint8_t list[LIST], wkb[2][WKB], object[WKB];
+static uint8_t list[LIST], wkb[2][WKB], object[WKB], split[SCENE];
 static size_t wkb_length[2];
 static struct answers answers;
 
@@ -76,6 +76,11 @@ static void ask_other_written(void)
     answers.written = karvoiss_write_wkb(scene.bytes + second, scene.length - second, object, sizeof object);
 }
 
+static void ask_split_alone(void)
+{
+    answers.split = karvoiss_split(scene.bytes, scene.length, split, sizeof split);
+}
+
 static void ask_estimate(void)
 {
     answers.estimate = karvoiss_estimate(-273771, -1000000, 905877, 999997, -1000000, 900003);
@@ -132,6 +137,7 @@ int main(int argc, char **argv)
         {"karvoiss_read_wkb, the second object", ask_other_read, KARVOISS_READ_WKB_STACK, 0},
         {"karvoiss_write_wkb, the first object", ask_written, KARVOISS_WRITE_WKB_STACK, 0},
         {"karvoiss_write_wkb, the second object", ask_other_written, KARVOISS_WRITE_WKB_STACK, 0},
+        {"karvoiss_split", ask_split_alone, KARVOISS_SPLIT_STACK, 0},
         {"karvoiss_estimate", ask_estimate, KARVOISS_ESTIMATE_STACK, 0},
         {"karvoiss_in_window", ask_window, KARVOISS_IN_WINDOW_STACK, 0},
     };

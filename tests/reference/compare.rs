@@ -12,9 +12,13 @@ use crate::library;
 use crate::maker::{full, side_by_side, small, some_pair, with_hub};
 use crate::mistakes::{Rules, RIGHT};
 use crate::pieces::Extent;
+use crate::plane::{turn, Fraction, Segment};
 use crate::random::Random;
 use crate::scaled;
-use crate::scene::{object_bytes, read_scene, scene_bytes, MOST, REGION};
+use crate::scene::{object_bytes, read_scene, scene_bytes, Object, MOST, POINTS, REGION};
+use crate::split::{SplitAnswer, Splitting};
+use crate::split_byhand;
+use crate::split_maker;
 use crate::summary::{are_far, far, summary, FarAnswer, Summary};
 use crate::tally::Tally;
 use crate::wkb::{Reading, Writing};
@@ -87,6 +91,12 @@ impl Case {
     pub fn wkb_of_seed(seed: u64) -> Case {
         let bytes = wkb_maker::some(&mut Random::new(seed));
         Case { from: format!("seed {seed}, well-known binary"), bytes, must_be_taken: false, seed, every_pattern: false }
+    }
+
+    /// The raw pair that a seed names, some of them damaged.
+    pub fn raw_of_seed(seed: u64) -> Case {
+        let bytes = split_maker::some(&mut Random::new(seed));
+        Case { from: format!("seed {seed}, a raw pair"), bytes, must_be_taken: false, seed, every_pattern: false }
     }
 
     fn by_hand(name: &str, bytes: Vec<u8>) -> Case {
@@ -247,6 +257,105 @@ fn ask_writing(bytes: &[u8], rules: &Rules, random: &mut Random, tally: &mut Tal
         }
     }
     Ok(wkb)
+}
+
+/// Asks what a pair is split into, and now and then the pair the other way round. What comes out must be a scene, each of whose objects is the source's in pieces.
+pub fn ask_split(case: &Case, rules: &Rules, tally: &mut Tally) -> Result<(), String> {
+    let mut random = Random::new(!case.seed);
+    tally.scenes += 1;
+    ask_splitting(&case.bytes, None, rules, &mut random, tally).map_err(|what| failure(case, &case.bytes, &what))?;
+    if let (true, Ok((_, g))) = (random.once_in(4), read_scene(&case.bytes)) {
+        let exchanged = exchange::bytes(&case.bytes, g.start);
+        ask_splitting(&exchanged, None, rules, &mut random, tally).map_err(|what| failure(case, &exchanged, &what))?;
+    }
+    Ok(())
+}
+
+/// Asks about the raw pairs made by hand.
+pub fn ask_split_by_hand(rules: &Rules, tally: &mut Tally) -> Result<(), String> {
+    let mut random = Random::new(0);
+    for known in split_byhand::known() {
+        let told = |what: String| format!("{}: {what}", known.name);
+        let found = ask_splitting(&known.bytes, known.room, rules, &mut random, tally).map_err(told)?;
+        if known.written.is_some_and(|written| found != Some(written)) {
+            return Err(told("another scene than the one made by hand".to_string()));
+        }
+    }
+    Ok(())
+}
+
+/// Into buffers of some sizes, or of one; gives the scene that the engine writes.
+fn ask_splitting(bytes: &[u8], room: Option<usize>, rules: &Rules, random: &mut Random, tally: &mut Tally) -> Result<Option<Vec<u8>>, String> {
+    let splitting = Splitting::of(bytes, rules);
+    let rooms = room.map_or_else(|| buffers(splitting.bytes.len(), random).to_vec(), |room| vec![room]);
+    let mut written = None;
+    for room in rooms {
+        let (answer, found) = ask_into("splitting", bytes, room, random, library::split, |lent| splitting.answer(lent))?;
+        tally.questions += 1;
+        tally.split.answered(answer.number);
+        if answer.number == 0 && written.is_none() {
+            written = Some(found[..answer.length].to_vec());
+            is_split(bytes, &found[..answer.length], &answer, tally)?;
+        }
+    }
+    Ok(written)
+}
+
+/// Whether a scene is another one split, by the words of the paper: it is taken, split once more it stays as it is, and each object is the source's in pieces, as many more as were
+/// said to be added, with the ends of pieces on the other object; a region's area is what it was.
+fn is_split(source: &[u8], split: &[u8], answer: &SplitAnswer, tally: &mut Tally) -> Result<(), String> {
+    let cells = library::cells(split)?;
+    if cells.number != 0 {
+        return Err(format!("what was split is refused with {} at {}", cells.number, cells.place));
+    }
+    let mut again = vec![0; split.len()];
+    let second = library::split(split, &mut again);
+    agree("splitting what was split", &SplitAnswer { length: split.len(), ..SplitAnswer::default() }, &second)?;
+    if again != split {
+        return Err("what was split is split again into something else".to_string());
+    }
+    let read = |bytes: &[u8]| read_scene(bytes).map_err(|refusal| format!("not read: {refusal:?}"));
+    let ((f, g), (split_f, split_g)) = (read(source)?, read(split)?);
+    tally.split.taken(&split_f, &split_g, [answer.added_f, answer.added_g]);
+    if f.kind == POINTS || g.kind == POINTS {
+        return if split == source { Ok(()) } else { Err("points were not copied".to_string()) };
+    }
+    for (own, other, pieces, added) in [(&f, &g, &split_f, answer.added_f), (&g, &f, &split_g, answer.added_g)] {
+        in_pieces(own, &other.segments(), pieces, added)?;
+        if shoelace(own) != shoelace(pieces) {
+            return Err(format!("an area of {} has become one of {}", shoelace(own), shoelace(pieces)));
+        }
+    }
+    Ok(())
+}
+
+/// Each segment is a chain of pieces in line with it, of its ia, every end of which but the segment's own is on the other object; and there are no other pieces.
+fn in_pieces(own: &Object, other: &[Segment], split: &Object, added: usize) -> Result<(), String> {
+    let left = |object: &Object| object.halves.iter().filter(|h| h.left).map(|h| (h.segment, h.ia)).collect::<Vec<_>>();
+    let (whole, mut pieces) = (left(own), left(split));
+    if pieces.len() != whole.len() + added {
+        return Err(format!("{} segments have become {}, with {added} added", whole.len(), pieces.len()));
+    }
+    for (s, ia) in whole {
+        let mut at = s.left;
+        while at != s.right {
+            let next =
+                |(piece, its): &(Segment, bool)| piece.left == at && piece.right <= s.right && turn(s.left, s.right, piece.right) == 0 && *its == ia;
+            let Some(found) = pieces.iter().position(next) else { return Err(format!("{s:?} has no piece from {at:?} on")) };
+            at = pieces.swap_remove(found).0.right;
+            if at != s.right && !other.iter().any(|t| t.has(&Fraction::whole(at))) {
+                return Err(format!("{s:?} is cut at {at:?}, where nothing is"));
+            }
+        }
+    }
+    Ok(())
+}
+
+/// Twice a region's area by the shoelace sum.
+fn shoelace(object: &Object) -> i128 {
+    let term = |s: &Segment| s.left.0 as i128 * s.right.1 as i128 - s.left.1 as i128 * s.right.0 as i128;
+    let left = object.halves.iter().filter(|h| h.left && object.kind == REGION);
+    left.map(|h| if h.ia { term(&h.segment) } else { -term(&h.segment) }).sum()
 }
 
 /// The engine's answers to two byte strings, one of them the other scaled, places and lists too.

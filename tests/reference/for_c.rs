@@ -13,12 +13,14 @@ mod mistakes;
 mod pieces;
 mod plane;
 mod scene;
+mod split;
 mod summary;
 mod wkb;
 
 use judge::{judge, VectorsAnswer};
 use mistakes::RIGHT;
 use pieces::Extent;
+use split::Splitting;
 use summary::LENGTH;
 use wkb::{Reading, Writing};
 
@@ -86,6 +88,15 @@ pub struct ReadWkb {
 pub struct WriteWkb {
     number: u32,
     place: usize,
+    length: usize,
+}
+
+#[repr(C)]
+pub struct Split {
+    number: u32,
+    place: usize,
+    added_f: usize,
+    added_g: usize,
     length: usize,
 }
 
@@ -168,4 +179,15 @@ pub unsafe extern "C" fn reference_write_wkb(object: *const u8, length: usize, b
     let (object, buffer) = unsafe { (std::slice::from_raw_parts(object, length), std::slice::from_raw_parts_mut(buffer, room)) };
     let answer = Writing::of(object, &RIGHT).answer(buffer);
     WriteWkb { number: answer.number, place: answer.place, length: answer.length }
+}
+
+/// The scene that the bytes are split into, if they are a pair, into `buffer`.
+///
+/// # Safety
+/// `scene` has `length` bytes and `buffer` has `room`, neither is null.
+#[no_mangle]
+pub unsafe extern "C" fn reference_split(scene: *const u8, length: usize, buffer: *mut u8, room: usize) -> Split {
+    let (scene, buffer) = unsafe { (std::slice::from_raw_parts(scene, length), std::slice::from_raw_parts_mut(buffer, room)) };
+    let answer = Splitting::of(scene, &RIGHT).answer(buffer);
+    Split { number: answer.number, place: answer.place, added_f: answer.added_f, added_g: answer.added_g, length: answer.length }
 }

@@ -10,6 +10,7 @@ pub use stand_in::*;
 mod linked {
     use crate::cells::of_signs;
     use crate::judge::{AreasAnswer, CellsAnswer, OverlapAnswer, RelateAnswer, VectorsAnswer};
+    use crate::split::SplitAnswer;
     use crate::summary::{FarAnswer, SummaryAnswer, LENGTH};
     use crate::wkb::{ReadAnswer, Value, WriteAnswer};
 
@@ -86,6 +87,15 @@ mod linked {
         length: usize,
     }
 
+    #[repr(C)]
+    struct Split {
+        number: u32,
+        place: usize,
+        added_f: usize,
+        added_g: usize,
+        length: usize,
+    }
+
     extern "C" {
         fn karvoiss_vectors(scene: *const u8, length: usize, want_f: u16, want_g: u16) -> Vectors;
         fn karvoiss_cells(scene: *const u8, length: usize) -> Cells;
@@ -96,6 +106,7 @@ mod linked {
         fn karvoiss_far(first: *const u8, first_length: usize, second: *const u8, second_length: usize) -> Far;
         fn karvoiss_read_wkb(wkb: *const u8, length: usize, object: *mut u8, room: usize) -> ReadWkb;
         fn karvoiss_write_wkb(object: *const u8, length: usize, wkb: *mut u8, room: usize) -> WriteWkb;
+        fn karvoiss_split(scene: *const u8, length: usize, split: *mut u8, room: usize) -> Split;
     }
 
     /// Null where the length is 0, which the header allows.
@@ -162,12 +173,18 @@ mod linked {
         let answer = unsafe { karvoiss_write_wkb(start(object), object.len(), wkb.as_mut_ptr(), wkb.len()) };
         WriteAnswer { number: answer.number, place: answer.place, length: answer.length }
     }
+
+    pub fn split(scene: &[u8], split: &mut [u8]) -> SplitAnswer {
+        let Split { number, place, added_f, added_g, length } = unsafe { karvoiss_split(start(scene), scene.len(), split.as_mut_ptr(), split.len()) };
+        SplitAnswer { number, place, added_f, added_g, length }
+    }
 }
 
 #[cfg(not(library))]
 mod stand_in {
     use crate::judge::{judge, AreasAnswer, CellsAnswer, OverlapAnswer, RelateAnswer, VectorsAnswer};
     use crate::mistakes::RIGHT;
+    use crate::split::{SplitAnswer, Splitting};
     use crate::summary::{self, FarAnswer, SummaryAnswer};
     use crate::wkb::{ReadAnswer, Reading, WriteAnswer, Writing};
 
@@ -207,5 +224,9 @@ mod stand_in {
 
     pub fn write_wkb(object: &[u8], wkb: &mut [u8]) -> WriteAnswer {
         Writing::of(object, &RIGHT).answer(wkb)
+    }
+
+    pub fn split(scene: &[u8], split: &mut [u8]) -> SplitAnswer {
+        Splitting::of(scene, &RIGHT).answer(split)
     }
 }

@@ -26,17 +26,21 @@ mod plane;
 mod random;
 mod scaled;
 mod scene;
+mod split;
+mod split_byhand;
+mod split_maker;
 mod summary;
 mod tally;
 mod wkb;
 mod wkb_byhand;
 mod wkb_maker;
 
-use compare::{ask, ask_areas, ask_by_hand, ask_wkb, ask_wkb_by_hand, Case};
+use compare::{ask, ask_areas, ask_by_hand, ask_split, ask_split_by_hand, ask_wkb, ask_wkb_by_hand, Case};
 use judge::{judge, VectorsAnswer};
 use mistakes::{Rules, MISTAKES, RIGHT};
 use plane::Point;
 use random::Random;
+use split::Splitting;
 use std::io::{Read, Write};
 use std::process::exit;
 use std::time::{Duration, Instant};
@@ -51,11 +55,13 @@ const USAGE: &str = "usage: reference answer < scene    the line that explore wr
        reference summary < object  the 20 bytes of its summary, or its refusal
        reference read < wkb        the object that well-known binary is read as in hexadecimal, or the refusal
        reference write < object    the well-known binary of an object in hexadecimal, or the refusal
+       reference split < scene     the segments added to F and to G, the length and the scene that a pair is split into in hexadecimal, or the refusal
        reference vectors < text    the lines that the program test_vectors writes
        reference draw < scene      the scene as bytes, words and a drawing
        reference scene SEED        writes the scene that a seed names
        reference object SEED       writes an object that a seed names
        reference wkb SEED          writes the well-known binary that a seed names
+       reference raw SEED          writes the raw pair that a seed names
        reference self              the scenes made by hand against their known answers
        reference compare             the fixed run: all must agree, and it must reach enough
            --scenes N, --seed N      another number of scenes, another seed
@@ -63,6 +69,7 @@ const USAGE: &str = "usage: reference answer < scene    the line that explore wr
            --regions                 scenes of two regions, and of these the areas alone
            --beside                  objects side by side alone, for what their summaries tell
            --wkb                     well-known binary alone, read, written and read back
+           --split                   raw pairs alone, and what they are split into
            --seconds N               fresh seeds for so long instead
            --mistake NAME            with a mistake in the reference: must disagree
            --trace                   names each scene before it is asked about
@@ -101,6 +108,10 @@ fn main() {
             println!("{}", write_line(&input()));
             true
         }
+        ["split"] => {
+            println!("{}", split_line(&input(), None));
+            true
+        }
         ["vectors"] => answer_cases(&String::from_utf8_lossy(&input())),
         ["draw"] => {
             print!("{}", drawing::scene_text(&input()));
@@ -108,6 +119,7 @@ fn main() {
         }
         ["object", seed] => std::io::stdout().write_all(&Case::object_of_seed(number(seed))).is_ok(),
         ["wkb", seed] => std::io::stdout().write_all(&Case::wkb_of_seed(number(seed)).bytes).is_ok(),
+        ["raw", seed] => std::io::stdout().write_all(&Case::raw_of_seed(number(seed)).bytes).is_ok(),
         ["scene", seed] => std::io::stdout().write_all(&Case::of_seed(number(seed)).bytes).is_ok(),
         ["self"] => self_test(),
         ["compare", "--mistakes"] => all_mistakes(),
@@ -177,6 +189,17 @@ fn write_line(bytes: &[u8]) -> String {
     match Writing::of(bytes, &RIGHT).0 {
         Ok(wkb) => hexadecimal(&wkb),
         Err(refusal) => format!("no {} {}", refusal.number, refusal.place),
+    }
+}
+
+/// The segments added to F and to G, the length and the bytes in hexadecimal, into just enough room or another, or `no`, number and place.
+fn split_line(bytes: &[u8], room: Option<usize>) -> String {
+    let splitting = Splitting::of(bytes, &RIGHT);
+    let mut split = vec![0; room.unwrap_or(splitting.bytes.len())];
+    let answer = splitting.answer(&mut split);
+    match answer.number {
+        0 => format!("{} {} {} {}", answer.added_f, answer.added_g, answer.length, hexadecimal(&split[..answer.length])),
+        number => format!("no {number} {}", answer.place),
     }
 }
 
@@ -261,6 +284,15 @@ fn self_test() -> bool {
     for known in wkb_byhand::written() {
         check(known.name, &known.line, write_line(&known.bytes));
     }
+    for known in split_byhand::known() {
+        let answer = split_line(&known.bytes, known.room);
+        let mut words: Vec<&str> = answer.split(' ').collect();
+        words.truncate(3);
+        check(known.name, &known.line, words.join(" "));
+        if let Some(written) = known.written {
+            check(known.name, &hexadecimal(&written), answer.rsplit(' ').next().unwrap_or_default().to_string());
+        }
+    }
     println!("self-test: {passed} passed, {failed} failed");
     failed == 0
 }
@@ -279,11 +311,19 @@ fn small_summaries() -> Vec<Summary> {
     all
 }
 
-/// A comparison: what was made by hand, scenes or with `wkb` well-known binary alone, then those of a seed, a number of them or as many as there is time for.
+/// What a comparison is of.
+#[derive(Clone, Copy, PartialEq, Eq)]
+enum Of {
+    Scenes,
+    Wkb,
+    RawPairs,
+}
+
+/// A comparison: what was made by hand, well-known binary or raw pairs alone or with scenes all of it, then those of a seed, a number of them or as many as there is time for.
 struct Run {
     rules: Rules,
     by_hand: bool,
-    wkb: bool,
+    of: Of,
     made: fn(u64) -> Case,
     asks: fn(&Case, &Rules, &mut Tally) -> Result<(), String>,
     seed: u64,
@@ -294,13 +334,16 @@ struct Run {
 
 impl Run {
     fn go(&self, tally: &mut Tally) -> Result<(), String> {
-        let by_hand = if self.by_hand && !self.wkb { Case::all_by_hand() } else { Vec::new() };
+        let by_hand = if self.by_hand && self.of == Of::Scenes { Case::all_by_hand() } else { Vec::new() };
         let mut seeds = Random::new(self.seed);
         let of_seed = (0..self.scenes).map(|_| (self.made)(seeds.next()));
-        if self.by_hand {
+        if self.by_hand && self.of != Of::RawPairs {
             ask_wkb_by_hand(&self.rules, tally)?;
         }
-        if self.by_hand && !self.wkb {
+        if self.by_hand && self.of != Of::Wkb {
+            ask_split_by_hand(&self.rules, tally)?;
+        }
+        if self.by_hand && self.of == Of::Scenes {
             ask_by_hand(&self.rules, tally)?;
         }
         for case in by_hand.into_iter().chain(of_seed) {
@@ -319,7 +362,7 @@ impl Run {
 fn compare(arguments: &[&str]) -> bool {
     let start = Instant::now();
     let mut run =
-        Run { rules: RIGHT, by_hand: true, wkb: false, made: Case::of_seed, asks: ask, seed: SEED, scenes: SCENES, until: None, trace: false };
+        Run { rules: RIGHT, by_hand: true, of: Of::Scenes, made: Case::of_seed, asks: ask, seed: SEED, scenes: SCENES, until: None, trace: false };
     let mut reach = Reach::Everything;
     let mut seed = None;
     let mut arguments = arguments.iter();
@@ -338,7 +381,10 @@ fn compare(arguments: &[&str]) -> bool {
                 (run.by_hand, run.made, reach) = (false, Case::side_by_side_of_seed, Reach::Summaries);
             }
             "--wkb" => {
-                (run.wkb, run.made, run.asks) = (true, Case::wkb_of_seed, ask_wkb);
+                (run.of, run.made, run.asks) = (Of::Wkb, Case::wkb_of_seed, ask_wkb);
+            }
+            "--split" => {
+                (run.of, run.made, run.asks) = (Of::RawPairs, Case::raw_of_seed, ask_split);
             }
             "--seconds" => {
                 run.until = Some(start + Duration::from_secs(number(value())));
@@ -361,7 +407,11 @@ fn compare(arguments: &[&str]) -> bool {
     let outcome = run.go(&mut tally);
     // a run that was cut short, by a disagreement or by the clock, need not have reached everything
     let complete = outcome.is_ok() && run.until.is_none();
-    let wrong = if run.wkb { tally.report_wkb(complete) } else { tally.report(if complete { reach } else { Reach::Nothing }) };
+    let wrong = match run.of {
+        Of::Scenes => tally.report(if complete { reach } else { Reach::Nothing }),
+        Of::Wkb => tally.report_wkb(complete),
+        Of::RawPairs => tally.report_split(complete),
+    };
     wrong.iter().for_each(|what| println!("WRONG: {what}"));
     if let Err(what) = &outcome {
         println!("{what}");
@@ -376,18 +426,12 @@ fn all_mistakes() -> bool {
     let mut caught_all = true;
     for mistake in &MISTAKES {
         let mut tally = Tally::default();
-        let of_wkb = mistake.rules.wkb != Slip::None;
-        let run = Run {
-            rules: mistake.rules,
-            by_hand: false,
-            wkb: of_wkb,
-            made: if of_wkb { Case::wkb_of_seed } else { Case::of_seed },
-            asks: if of_wkb { ask_wkb } else { ask },
-            seed: SEED,
-            scenes: SCENES_PER_MISTAKE,
-            until: None,
-            trace: false,
+        let (of, made, asks): (Of, fn(u64) -> Case, fn(&Case, &Rules, &mut Tally) -> Result<(), String>) = match mistake.rules {
+            Rules { wkb, .. } if wkb != Slip::None => (Of::Wkb, Case::wkb_of_seed, ask_wkb),
+            Rules { split, .. } if split != split::Slip::None => (Of::RawPairs, Case::raw_of_seed, ask_split),
+            _ => (Of::Scenes, Case::of_seed, ask),
         };
+        let run = Run { rules: mistake.rules, by_hand: false, of, made, asks, seed: SEED, scenes: SCENES_PER_MISTAKE, until: None, trace: false };
         let caught = run.go(&mut tally).is_err();
         let verdict = format!("{} {} scenes", if caught { "caught after" } else { "NOT CAUGHT in" }, tally.scenes);
         caught_all &= caught;

@@ -7,6 +7,7 @@ use crate::judge::{Judgement, Reading, TwoZeros};
 use crate::pieces::Extent;
 use crate::plane::{inside, interior_above, Point, Segment};
 use crate::scene::{Half, Object, Refusal, LINE, POINTS, REGION};
+use crate::split;
 use crate::summary::{are_far, corners, has_boundary, FarAnswer, Summary};
 use crate::wkb::Slip;
 
@@ -29,7 +30,7 @@ impl Order {
 }
 
 /// What a mistake may exchange. `faults`: whose fault goes first where a number is found in both; `crossings`: whose record 15 names first; from `corners` on, what
-/// summaries are made of and tell; `wkb`: the way in which well-known binary is got wrong.
+/// summaries are made of and tell; `wkb` and `split`: the way in which well-known binary and splitting are got wrong.
 #[derive(Clone, Copy)]
 pub struct Rules {
     pub line_boundary: fn(&Object) -> Vec<Point>,
@@ -45,6 +46,7 @@ pub struct Rules {
     pub are_far: fn(&Summary, &Summary) -> bool,
     pub spoil_far: fn(&mut FarAnswer, &Summary, &Summary),
     pub wkb: Slip,
+    pub split: split::Slip,
 }
 
 impl Rules {
@@ -73,6 +75,7 @@ pub const RIGHT: Rules = Rules {
     are_far,
     spoil_far: |_, _, _| (),
     wkb: Slip::None,
+    split: split::Slip::None,
 };
 
 pub struct Mistake {
@@ -85,9 +88,14 @@ const fn wkb_mistake(name: &'static str, says: &'static str, wkb: Slip) -> Mista
     Mistake { name, says, rules: Rules { wkb, ..RIGHT } }
 }
 
+const fn split_mistake(name: &'static str, says: &'static str, split: split::Slip) -> Mistake {
+    Mistake { name, says, rules: Rules { split, ..RIGHT } }
+}
+
 /// Every mistake, by the name that `--mistake` takes: the four, from "refuse-all" on the imitations, then those about two zero masks, those about scenes whose
-/// first type is above the second, those about hubs, those about what a cell extends to, those about patterns, those about summaries, those about areas, one about the range, and those about well-known binary.
-pub const MISTAKES: [Mistake; 82] = [
+/// first type is above the second, those about hubs, those about what a cell extends to, those about patterns, those about summaries, those about areas, one about the range, those about well-known
+/// binary, and those about splitting.
+pub const MISTAKES: [Mistake; 104] = [
     Mistake {
         name: "next-halfsegment",
         says: "a line's end is a boundary point if the next halfsegment starts elsewhere",
@@ -327,6 +335,28 @@ pub const MISTAKES: [Mistake; 82] = [
     wkb_mistake("right-end-first", "a segment is written with its right end first", Slip::RightFirst),
     wkb_mistake("24-first", "a region is refused with 24 before its own refusals", Slip::RegionFirst),
     wkb_mistake("empty-region", "an empty region is written", Slip::EmptyRegion),
+    split_mistake("x-alone", "x alone is tested for the grid", split::Slip::XAlone),
+    split_mistake("rounded", "a crossing off the grid is moved to it", split::Slip::Rounded),
+    split_mistake("narrow-crossing", "where two segments cross is computed by 64-bit products", split::Slip::Narrow),
+    split_mistake("one-end", "a stretch in common is cut at its left end alone", split::Slip::OneEnd),
+    split_mistake("touch-uncut", "a segment is not cut where the other's end is", split::Slip::NoTouch),
+    split_mistake("cut-twice", "a cut at which several segments meet is counted as often", split::Slip::CutTwice),
+    split_mistake("f-alone", "F alone is cut", split::Slip::FAlone),
+    split_mistake("source-order", "the pieces stand where their segment stood", split::Slip::SourceOrder),
+    split_mistake("ia-turned", "ia of a piece is turned", split::Slip::IaTurned),
+    split_mistake("added-halves", "halfsegments are counted for segments", split::Slip::Halfsegments),
+    split_mistake("added-by-type", "the counts stand in the order of types", split::Slip::InOrderOfTypes),
+    split_mistake("19-in-second", "19 names the record of the second object", split::Slip::NineteenInSecond),
+    split_mistake("19-at-lower", "19 names the record of the object with the lower type", split::Slip::NineteenAtLower),
+    split_mistake("20-before-19", "20 before 19", split::Slip::TwentyFirst),
+    split_mistake("20-at-start", "20 at 0 for the second object too", split::Slip::TwentyAtStart),
+    split_mistake("early-20", "20 for 1,024 elements", split::Slip::TwentyEarly),
+    split_mistake("21-before-19", "21 before 19 and 20", split::Slip::ShortFirst),
+    split_mistake("early-21", "21 although the buffer holds just the scene", split::Slip::ShortEarly),
+    split_mistake("split-early", "the buffer is written as far as it goes, and then refused", split::Slip::WrittenEarly),
+    split_mistake("rest-cleared", "later bytes of the buffer are cleared", split::Slip::RestCleared),
+    split_mistake("still-15", "a raw pair is refused with 15", split::Slip::Fifteen),
+    split_mistake("copied-unchecked", "a scene with points is copied before the checks", split::Slip::CopiedUnchecked),
 ];
 
 /// A segment of two regions, with its terms in the three shoelace sums.

@@ -7,7 +7,7 @@ use crate::flags::flag_counts;
 use crate::judge::Judgement;
 use crate::maker::{DESCENDING, PAIRS};
 use crate::plane::{Point, LIMIT};
-use crate::scene::{Object, LINE, MOST};
+use crate::scene::{Object, LINE, MOST, POINTS};
 use crate::summary::FarAnswer;
 use std::collections::{BTreeMap, BTreeSet};
 
@@ -17,6 +17,9 @@ const NUMBERS: [u32; 18] = [1, 2, 3, 4, 5, 6, 7, 9, 10, 11, 12, 13, 14, 15, 16, 
 /// The numbers that reading and writing well-known binary can have, 0 for taken.
 const READ: [u32; 9] = [0, 10, 12, 13, 20, 21, 24, 25, 26];
 const WRITTEN: [u32; 15] = [0, 1, 2, 3, 4, 5, 6, 7, 10, 11, 12, 13, 14, 21, 24];
+
+/// The numbers that splitting can have, 0 for taken.
+const SPLIT: [u32; 16] = [0, 1, 2, 3, 4, 5, 6, 7, 10, 11, 12, 13, 14, 19, 20, 21];
 
 /// How often each refusal must have been met, and scenes of full size, and scenes at the limits of the range.
 const LEAST: usize = 50;
@@ -67,6 +70,7 @@ pub struct Tally {
     /// Bad summaries, by the place that 18 names.
     bad_summaries: [usize; 2],
     pub wkb: Wkb,
+    pub split: Split,
 }
 
 /// Well-known binary: how often reading and writing had each number, and what was written and read as the same object again.
@@ -98,6 +102,44 @@ impl Wkb {
             wrong.extend(rare.map(|number| format!("well-known binary {what}: {number} came fewer than {LEAST} times")));
         }
         println!("well-known binary written and read back: {}", self.back);
+        wrong
+    }
+}
+
+/// Raw pairs: how often splitting had each number, and of those taken how often something was added to neither object, to F, to G and to both, how many hold points, and how
+/// many have an object of 1,024 elements once split.
+#[derive(Default)]
+pub struct Split {
+    numbers: BTreeMap<u32, usize>,
+    added: [usize; 4],
+    copied: usize,
+    full: usize,
+}
+
+impl Split {
+    pub fn answered(&mut self, number: u32) {
+        *self.numbers.entry(number).or_default() += 1;
+    }
+
+    pub fn taken(&mut self, f: &Object, g: &Object, added: [usize; 2]) {
+        self.added[(added[0] > 0) as usize + 2 * (added[1] > 0) as usize] += 1;
+        self.copied += (f.kind == POINTS || g.kind == POINTS) as usize;
+        self.full += [f, g].iter().any(|object| object.halves.len() == MOST) as usize;
+    }
+
+    fn report(&self, complete: bool) -> Vec<String> {
+        let times = |number: &u32| *self.numbers.get(number).unwrap_or(&0);
+        println!("split: {}", SPLIT.map(|number| format!("{number}: {}", times(&number))).join("  "));
+        let [neither, f, g, both] = self.added;
+        println!(
+            "taken: {neither} with no cut, {f} in F alone, {g} in G alone, {both} in both; {} with points, {} of full size",
+            self.copied, self.full
+        );
+        let rare = SPLIT.iter().filter(|number| complete && times(number) < LEAST);
+        let mut wrong: Vec<String> = rare.map(|number| format!("split: {number} came fewer than {LEAST} times")).collect();
+        if complete && [neither, f, g, both, self.copied].iter().any(|times| *times < LEAST) || complete && self.full < 10 {
+            wrong.push("split: too few of a kind".to_string());
+        }
         wrong
     }
 }
@@ -181,6 +223,12 @@ impl Tally {
     pub fn report_wkb(&self, complete: bool) -> Vec<String> {
         println!("{} strings of well-known binary, {} questions", self.scenes, self.questions);
         self.wkb.report(complete)
+    }
+
+    /// Prints the counts of raw pairs alone; gives what is wrong with them.
+    pub fn report_split(&self, complete: bool) -> Vec<String> {
+        println!("{} raw pairs, {} questions", self.scenes, self.questions);
+        self.split.report(complete)
     }
 
     /// Prints the counts; gives what is wrong with them.

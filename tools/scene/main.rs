@@ -2,7 +2,7 @@
 
 use scene::listing::NAMES;
 use scene::text::Fault;
-use scene::{answer, draw, explain, make, show, wkb};
+use scene::{answer, draw, explain, make, show, split, wkb};
 use std::io::{IsTerminal, Read, Write};
 use std::path::PathBuf;
 use std::process::ExitCode;
@@ -42,6 +42,7 @@ struct Options {
     files: Vec<String>,
     out: Option<String>,
     beyond: bool,
+    split: bool,
     at: Option<usize>,
     text: bool,
     explore: Option<PathBuf>,
@@ -59,6 +60,7 @@ fn options(words: &[String]) -> Result<Options, Failure> {
         match (words[0].as_str(), word.as_str()) {
             (_, "-o" | "--out") => options.out = Some(value()?),
             ("make", "--beyond") => options.beyond = true,
+            ("make", "--split") => options.split = true,
             ("show", "--at") => {
                 let byte = value()?;
                 options.at = Some(byte.parse().map_err(|_| wrong_command(format!("--at {byte} is no byte offset")))?);
@@ -145,9 +147,14 @@ fn not_for_reading(options: &Options, what: &str) -> Result<(), Failure> {
     Ok(())
 }
 
-/// From one file or from standard input two objects, from two files one each.
 fn made(input: &[u8], options: &Options) -> Result<Vec<u8>, Failure> {
     not_for_reading(options, "scene bytes are")?;
+    let pair = pair(input, options)?;
+    if options.split { split::scene(&pair).map_err(wrong_input) } else { Ok(pair) }
+}
+
+/// From one file or from standard input two objects, from two files one each.
+fn pair(input: &[u8], options: &Options) -> Result<Vec<u8>, Failure> {
     match &options.files[..] {
         [first, second] => {
             let other = self::input(Some(second))?;

@@ -1,4 +1,4 @@
-//! The refusals that `explore` can give, and those of well-known binary, in words, with what to do about each.
+//! The refusals that `explore` can give, and those of well-known binary and of splitting, in words, with what to do about each.
 
 pub struct Refusal {
     pub says: &'static str,
@@ -25,7 +25,14 @@ pub fn of(number: usize) -> Refusal {
             "Each polygon's outline must close, and no two polygons of one region may have an edge in common.",
         ),
         14 => ("ia is wrong: the interior is on the other side of the segment", BYTES),
-        15 => ("unequal segments of F and G share a point that is not an end of both", "Split both segments at the points they share."),
+        15 => (
+            "unequal segments of F and G share a point that is not an end of both",
+            "Split both segments at the points they share; `scene make --split` does.",
+        ),
+        19 => (
+            "a segment of F crosses one of G at a point that is not on the grid",
+            "Move one of their ends, or enlarge both objects by the same whole number.",
+        ),
         20 => ("there are more than 1,024 different points or 512 different segments", ""),
         24 => (
             "cut, left over, or nothing that is allowed here",

@@ -34,6 +34,8 @@ use Rattle.wkb_reading.specs.Reading.{ReadAnswer, read_values}
 use Rattle.karvoiss.specs.declared.KarvoissReadWkb.{KarvoissReadWkb}
 use Rattle.wkb_writing.specs.Writing.{WriteAnswer, write_values}
 use Rattle.karvoiss.specs.declared.KarvoissWriteWkb.{KarvoissWriteWkb}
+use Rattle.split.specs.Split.{SplitAnswer, split_values}
+use Rattle.karvoiss.specs.declared.KarvoissSplit.{KarvoissSplit}
 
 -- the number and the place, of every answer alike
 abbrev pub outcome : {A : Type 0} → Result A Refusal → ℕ × ℕ
@@ -108,6 +110,11 @@ abbrev pub write_wkb_for_c : WriteAnswer → KarvoissWriteWkb
 write_wkb_for_c e =
     let values = write_values e in
     record { number = values.number; place = values.place; length = values.length }
+
+abbrev pub split_for_c : SplitAnswer → KarvoissSplit
+split_for_c e =
+    let values = split_values e in
+    record { number = values.number; place = values.place; added_f = values.added_f; added_g = values.added_g; length = values.length }
 
 -- ---- what the signs mean
 

@@ -13,13 +13,15 @@ ghost use Rattle.areas.specs.Areas.{areas_of, PartsMakeWhole};
 ghost use Rattle.summary.specs.Summary.{asked_of};
 ghost use Rattle.summary_objects.specs.Objects.{GoodExactlyIfMade, ToldInFull, LookExactlyIfNear};
 ghost use Rattle.summary_making.specs.Making.{summary_answer_of};
-ghost use Rattle.karvoiss.specs.Answer.{outcome, vectors_for_c, row_signs, signs, cells_for_c, NoSignWrong, relate_for_c, overlap_for_c, areas_for_c, summary_for_c, far_for_c, at, estimate_for_c, in_window_for_c, from_c, read_wkb_for_c, write_wkb_for_c};
+ghost use Rattle.karvoiss.specs.Answer.{outcome, vectors_for_c, row_signs, signs, cells_for_c, NoSignWrong, relate_for_c, overlap_for_c, areas_for_c, summary_for_c, far_for_c, at, estimate_for_c, in_window_for_c, from_c, read_wkb_for_c, write_wkb_for_c, split_for_c};
 ghost use Rattle.estimate.specs.Estimate.{estimated, EstimateHolds};
 ghost use Rattle.summary_window.specs.Window.{answer_of, BadRight, HitsRight};
 ghost use Rattle.wkb_reading.specs.Reading.{read_file, ReadAsWritten};
 ghost use Rattle.wkb_reading.specs.Reading.{buffer_after as object_after};
 ghost use Rattle.wkb_writing.specs.Writing.{write_of, written_buffer};
 ghost use Rattle.wkb_round_trip.specs.RoundTrip.{RoundTrip};
+ghost use Rattle.split.specs.Split.{split_answer, split_buffer};
+ghost use Rattle.split.specs.Promised.{Promised};
 
 use areas::sums::Sums;
 use cells::Explored;
@@ -28,6 +30,7 @@ use flags_vectors::{Vectors, question};
 use plane::Point;
 use plane_dimensions::Dimension;
 use scene::Refusal;
+use split::Splitted;
 use summary::Summary;
 use summary_record::writing;
 use summary_window::{InWindow, Window};
@@ -445,4 +448,44 @@ pub extern "C" fn karvoiss_write_wkb(object: &[u8], wkb: &mut [u8]) -> KarvoissW
         × RoundTrip object.now }
 {
     wkb_writing::write(object, wkb).into()
+}
+
+#[repr(C)]
+#[derive(Clone, Copy)]
+pub struct KarvoissSplit {
+    pub number: u32,
+    pub place: usize,
+    pub added_f: usize,
+    pub added_g: usize,
+    pub length: usize,
+}
+
+impl From<Result<Splitted, Refusal>> for KarvoissSplit {
+    ghost from_gives = { λ answer c. c ≡ split_for_c answer };
+
+    fn from(answer: Result<Splitted, Refusal>) -> KarvoissSplit {
+        let (number, place) = outcome(&answer);
+        let splitted = answer.unwrap_or(Splitted {
+            added_f: 0,
+            added_g: 0,
+            length: 0,
+        });
+        KarvoissSplit {
+            number,
+            place,
+            added_f: splitted.added_f,
+            added_g: splitted.added_g,
+            length: splitted.length,
+        }
+    }
+}
+
+// A pair split on the grid, into a lent buffer: for every byte string and every buffer the whole answer and the buffer after it, and what is promised of a pair that is taken.
+#[unsafe(no_mangle)]
+pub extern "C" fn karvoiss_split(scene: &[u8], split: &mut [u8]) -> KarvoissSplit
+    ensures { (result ≡ split_for_c (split_answer scene.now split.old))
+        × (split.new ≡ split_buffer scene.now split.old)
+        × Promised scene.now (length split.old) }
+{
+    split::split(scene, split).into()
 }

@@ -1,0 +1,4 @@
+-- Where two segments cross, and the points at which they are cut.
+pub mod Crossing
+pub mod Cuts
+pub mod Examples
