@@ -11,27 +11,25 @@
 #include <pthread.h>
 #include <sqlite3.h>
 
-enum { MOST = 40000, MOST_THREADS = 16, TEXT = 4096, BIG = 1 << 20 };
+enum { MOST = 50000, MOST_FILES = 16, MOST_THREADS = 16, TEXT = 4096, BIG = 1 << 20 };
 
 /* ---- The byte strings ---------------------------------------------------- */
 
-static struct scene items[MOST];
+static struct scene items[MOST], files[MOST_FILES];
 static size_t count;
 
-static void read_items(const char *name)
+static void read_items(const struct scene *file)
 {
-    struct scene file = read_scene(name);
-
-    for (size_t at = 0; at < file.length; count++) {
+    for (size_t at = 0; at < file->length; count++) {
         uint32_t length;
 
-        if (count == MOST || file.length - at < 4)
-            fail(name, "too many byte strings, or one that is cut");
-        memcpy(&length, file.bytes + at, 4);
-        items[count] = (struct scene){name, file.bytes + at + 4, length};
+        if (count == MOST || file->length - at < 4)
+            fail(file->name, "too many byte strings, or one that is cut");
+        memcpy(&length, file->bytes + at, 4);
+        items[count] = (struct scene){file->name, file->bytes + at + 4, length};
         at += 4 + length;
-        if (at > file.length)
-            fail(name, "a byte string is cut");
+        if (at > file->length)
+            fail(file->name, "a byte string is cut");
     }
 }
 
@@ -359,7 +357,7 @@ static void connect(struct connection *c)
     char *error = NULL;
 
     if (sqlite3_open(":memory:", &c->db) != SQLITE_OK || sqlite3_enable_load_extension(c->db, 1) != SQLITE_OK
-        || sqlite3_load_extension(c->db, extension, NULL, &error) != SQLITE_OK)
+        || sqlite3_load_extension(c->db, extension, "sqlite3_karvoiss_init", &error) != SQLITE_OK)
         fail(extension, error != NULL ? error : "cannot be loaded");
     for (int k = 0; k < QUESTIONS; k++) {
         c->plain[k] = question_about(c->db, "", &questions[k]);
@@ -565,12 +563,14 @@ int main(int argc, char **argv)
     size_t answers = 0;
     pthread_attr_t attributes;
 
-    if (most < 1 || most > MOST_THREADS)
+    if (most < 1 || most > MOST_THREADS || argc > 3 + MOST_FILES)
         fail("sqlite", "name the extension, a number of threads and files");
     extension = argv[1];
     watch_fences();
-    for (int i = 3; i < argc; i++)
-        read_items(argv[i]);
+    for (int i = 3; i < argc; i++) {
+        files[i - 3] = read_scene(argv[i]);
+        read_items(&files[i - 3]);
+    }
     pthread_attr_init(&attributes);
     if (count == 0 || pthread_attr_setstacksize(&attributes, KARVOISS_SPLIT_STACK + (1 << 17)) != 0)
         fail("sqlite", "nothing to ask about, or no stack of this size");
@@ -583,6 +583,8 @@ int main(int argc, char **argv)
         pthread_join(threads[t].id, NULL);
         answers += threads[t].answers;
     }
+    for (int i = 3; i < argc; i++)
+        free(files[i - 3].bytes);
     printf("sqlite: %zu byte strings, %d threads, %zu answers are the library's\n", count, most, answers);
     return 0;
 }
