@@ -1,7 +1,8 @@
--- The functions in a schema that is not trusted: in generated columns, checks, indexes on expressions, triggers and
--- views. tests/sqlite compares what is printed with untrusted.expected.
+-- The functions in a schema that is not trusted, and whose texts are UTF-16: in generated columns, checks, indexes on
+-- expressions, triggers and views. tests/sqlite compares what is printed with untrusted.expected.
 
 PRAGMA trusted_schema = OFF;
+PRAGMA encoding = 'UTF-16';
 
 CREATE TABLE shape (
     id      INTEGER PRIMARY KEY,
@@ -14,6 +15,10 @@ CREATE TABLE log (text TEXT);
 CREATE TRIGGER added AFTER INSERT ON shape BEGIN
     INSERT INTO log SELECT id || ' ' || karvoiss_cells(karvoiss_split(karvoiss_scene(new.outline, outline))) FROM shape WHERE id < new.id;
 END;
+CREATE TABLE pattern (text TEXT);
+INSERT INTO pattern VALUES ('F***T****'), ('FF*FF****'), ('T********');
+CREATE VIEW related AS
+SELECT f.id AS f, g.id AS g, text FROM shape AS f JOIN shape AS g ON f.id < g.id JOIN pattern ON karvoiss_try_relate(karvoiss_scene(f.outline, g.outline), text);
 CREATE VIEW touching AS
 SELECT f.id AS f, g.id AS g FROM shape AS f JOIN shape AS g ON f.id < g.id WHERE karvoiss_touches(karvoiss_split(karvoiss_scene(f.outline, g.outline)));
 
@@ -27,6 +32,7 @@ INSERT INTO shape VALUES (5, 'text');
 SELECT id, x_min, hex(summary) FROM shape;
 SELECT * FROM log;
 SELECT * FROM touching;
+SELECT * FROM related;
 SELECT id FROM shape WHERE karvoiss_y_min(summary) = -2;
 EXPLAIN QUERY PLAN SELECT id FROM shape WHERE karvoiss_y_min(summary) = -2;
 PRAGMA integrity_check;
