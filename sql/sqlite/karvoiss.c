@@ -48,7 +48,17 @@ struct function {
 
 static const sql_refusal_t taken = {0};
 
-/* One argument; false where it has the wrong type, or cannot be had for lack of memory, which the
+/* An error with a text of sqlite3_mprintf, which is given back; null is for want of memory. */
+static void give_error(struct call *call, char *text)
+{
+    if (text != NULL)
+        sqlite3_result_error(call->context, text, -1);
+    else
+        sqlite3_result_error_nomem(call->context);
+    sqlite3_free(text);
+}
+
+/* One argument; false where it has the wrong type, or cannot be had for want of memory, which the
  * result then says. */
 static bool take(struct call *call, int k, sqlite3_value *value)
 {
@@ -57,10 +67,7 @@ static bool take(struct call *call, int k, sqlite3_value *value)
     const int wanted = letter == 'b' ? SQLITE_BLOB : letter == 't' ? SQLITE_TEXT : SQLITE_INTEGER;
 
     if (sqlite3_value_type(value) != wanted) {
-        char *text = sqlite3_mprintf("%s: argument %d is not %s", call->function->name, k + 1, names[wanted]);
-
-        sqlite3_result_error(call->context, text != NULL ? text : "out of memory", -1);
-        sqlite3_free(text);
+        give_error(call, sqlite3_mprintf("%s: argument %d is not %s", call->function->name, k + 1, names[wanted]));
         return false;
     }
     if (wanted == SQLITE_INTEGER) {
@@ -79,7 +86,7 @@ static bool take(struct call *call, int k, sqlite3_value *value)
 /* A refusal as the result. */
 static void refuse(struct call *call, sql_refusal_t refusal)
 {
-    char where[SQL_TEXT_ROOM], says[SQL_TEXT_ROOM], *text;
+    char where[SQL_TEXT_ROOM], says[SQL_TEXT_ROOM];
 
     if (call->function->tries) {
         sqlite3_result_null(call->context);
@@ -87,9 +94,7 @@ static void refuse(struct call *call, sql_refusal_t refusal)
     }
     sql_where(refusal, where);
     sql_says(refusal, says);
-    text = sqlite3_mprintf("%s: %s: %s. %s", call->function->name, where, says, sql_hint(refusal.number));
-    sqlite3_result_error(call->context, text != NULL ? text : "out of memory", -1);
-    sqlite3_free(text);
+    give_error(call, sqlite3_mprintf("%s: %s: %s. %s", call->function->name, where, says, sql_hint(refusal.number)));
 }
 
 /* Every function of SQL comes in here. */

@@ -1,5 +1,5 @@
 /* What the extension for SQLite answers, beside what the library's calls answer: every function, and its karvoiss_try_ form, about every byte string of the files named. A file
- * holds byte strings, each after its length in 4 bytes, low byte first. Every argument lies right before a page that may not be touched.
+ * holds byte strings, each after its length in 4 bytes, low byte first. Every argument lies right before a page that may not be touched, or right after one.
  *
  *     sqlite EXTENSION THREADS FILE..
  *
@@ -49,9 +49,9 @@ struct asked {
     struct masks all;
 };
 
-static struct scene placed(struct fenced fence, const uint8_t *bytes, size_t length)
+static struct scene placed(struct fenced fence, placing place, const uint8_t *bytes, size_t length)
 {
-    struct scene at = {"", at_end(fence, length), length};
+    struct scene at = {"", place(fence, length), length};
 
     if (length > 0)
         memcpy(at.bytes, bytes, length);
@@ -68,12 +68,13 @@ static void ask_library(struct asked *a, const struct scene *item, size_t number
 {
     static const char *const some[] = {"T********", "FF*FF****", "T*F**F***", "212101212", "FFFFFFFFF", "*********", "", "TTTTTTTT", "T*f******"};
     static const int64_t masks[] = {0, 1, 5, 255, 65535, 65536, -1, INT64_MAX};
+    const placing place = placings[number / 2 % 2];
     size_t first = part(item, number);
 
     a->item = item;
-    a->whole = placed(a->fences[0], item->bytes, item->length);
-    a->first = placed(a->fences[1], item->bytes, first);
-    a->second = placed(a->fences[2], item->bytes + first, item->length - first);
+    a->whole = placed(a->fences[0], place, item->bytes, item->length);
+    a->first = placed(a->fences[1], place, item->bytes, first);
+    a->second = placed(a->fences[2], place, item->bytes + first, item->length - first);
     a->pattern = some[number % 9];
     a->want_f = masks[number % 8];
     a->want_g = masks[number / 8 % 8];
@@ -81,7 +82,7 @@ static void ask_library(struct asked *a, const struct scene *item, size_t number
     a->summaries[0] = karvoiss_summary(a->first.bytes, a->first.length);
     a->summaries[1] = karvoiss_summary(a->second.bytes, a->second.length);
     for (int k = 0; k < 2; k++)
-        a->records[k] = placed(a->fences[3 + k], a->summaries[k].record, 20).bytes;
+        a->records[k] = placed(a->fences[3 + k], place, a->summaries[k].record, 20).bytes;
     a->far = karvoiss_far(a->records[0], 20, a->records[1], 20);
     a->all = all_flags(item->bytes, item->length);
 }
