@@ -1,7 +1,7 @@
 # make test: everything that the gate checks. make run: builds explore and answers the sample scenes; make run SCENE=file answers a file.
 # make install PREFIX=dir: header, archive and pkg-config file. make fuzz SECONDS=n: fresh scenes and inputs for so long.
 # make wrong: the wrong programs that the gate leaves out; make wrong CRATES="a b": those of these crates.
-.PHONY: test run archive install fuzz wrong tools pictures bench fmt clean
+.PHONY: test run archive install sqlite sql-setup fuzz wrong tools pictures bench fmt clean
 
 test:
 	@bash tests/gate
@@ -26,6 +26,18 @@ install: archive
 	@install -m 644 include/karvoiss.h $(DESTDIR)$(prefix)/include
 	@install -m 644 target/staticlib/libkarvoiss.a $(DESTDIR)$(prefix)/lib
 	@sed 's|@PREFIX@|$(prefix)|' include/karvoiss.pc.in > $(DESTDIR)$(prefix)/lib/pkgconfig/karvoiss.pc
+
+# The extension for SQLite, one loadable file: docs/SQL.md. Its symbols are its own, but for the one that SQLite calls
+sqlite: target/sqlite/karvoiss.so
+
+target/sqlite/karvoiss.so: sql/sqlite/karvoiss.c sql/shared.c sql/shared.h include/karvoiss.h target/staticlib/libkarvoiss.a
+	@mkdir -p target/sqlite
+	@cc -std=c11 -O2 -Wall -Wextra -Werror -fPIC -fvisibility=hidden -Iinclude -shared -Wl,--exclude-libs,ALL -Wl,-z,defs \
+	    sql/sqlite/karvoiss.c sql/shared.c target/staticlib/libkarvoiss.a -o $@
+
+# The packages that the extensions for SQLite and PostgreSQL are built and tried with
+sql-setup:
+	@sql/setup
 
 SECONDS ?= 60
 fuzz: archive target/tools/scene

@@ -62,6 +62,7 @@ const USAGE: &str = "usage: reference answer < scene    the line that explore wr
        reference object SEED       writes an object that a seed names
        reference wkb SEED          writes the well-known binary that a seed names
        reference raw SEED          writes the raw pair that a seed names
+       reference many WHAT COUNT   writes what the seeds 1 to COUNT name, scene, object, wkb or raw, each after its length in 4 bytes, low byte first
        reference self              the scenes made by hand against their known answers
        reference compare             the fixed run: all must agree, and it must reach enough
            --scenes N, --seed N      another number of scenes, another seed
@@ -121,6 +122,7 @@ fn main() {
         ["wkb", seed] => std::io::stdout().write_all(&Case::wkb_of_seed(number(seed)).bytes).is_ok(),
         ["raw", seed] => std::io::stdout().write_all(&Case::raw_of_seed(number(seed)).bytes).is_ok(),
         ["scene", seed] => std::io::stdout().write_all(&Case::of_seed(number(seed)).bytes).is_ok(),
+        ["many", what, count] => write_many(maker(what), number(count)).is_ok(),
         ["self"] => self_test(),
         ["compare", "--mistakes"] => all_mistakes(),
         ["compare", ref rest @ ..] => compare(rest),
@@ -142,6 +144,28 @@ fn input() -> Vec<u8> {
     let mut bytes = Vec::new();
     std::io::stdin().read_to_end(&mut bytes).expect("standard input cannot be read");
     bytes
+}
+
+/// What makes bytes of a seed.
+fn maker(what: &str) -> fn(u64) -> Vec<u8> {
+    match what {
+        "scene" => |seed| Case::of_seed(seed).bytes,
+        "object" => Case::object_of_seed,
+        "wkb" => |seed| Case::wkb_of_seed(seed).bytes,
+        "raw" => |seed| Case::raw_of_seed(seed).bytes,
+        _ => usage(),
+    }
+}
+
+/// What is made of the seeds 1 to `count`, each after its length.
+fn write_many(made: fn(u64) -> Vec<u8>, count: u64) -> std::io::Result<()> {
+    let mut out = std::io::BufWriter::new(std::io::stdout());
+    for seed in 1..=count {
+        let bytes = made(seed);
+        out.write_all(&(bytes.len() as u32).to_le_bytes())?;
+        out.write_all(&bytes)?;
+    }
+    out.flush()
 }
 
 /// The overlap list into so much room, or `no`, number and place.
