@@ -2,6 +2,7 @@
 #include "shared.h"
 
 #include <stdio.h>
+#include <stdlib.h>
 #include <string.h>
 
 enum { POINTS = 1, LINE = 2, REGION = 3 };
@@ -83,14 +84,26 @@ const char *sql_hint(uint32_t number)
     return found != NULL ? found->hint : NULL;
 }
 
+/* The shortest decimal number that is read as `value`. */
+static void in_decimal(double value, char text[32])
+{
+    int digits = 15;
+
+    do
+        snprintf(text, 32, "%.*g", digits, value);
+    while (strtod(text, NULL) != value && digits++ < 17);
+    if (value != value)
+        strcpy(text, "NaN");
+}
+
 void sql_says(sql_refusal_t refusal, char text[SQL_TEXT_ROOM])
 {
     const char *says = sql_words(refusal.number);
+    char value[32];
 
-    if (refusal.number == 25 && refusal.value != refusal.value)
-        snprintf(text, SQL_TEXT_ROOM, "%s: NaN", says);
-    else if (refusal.number == 25)
-        snprintf(text, SQL_TEXT_ROOM, "%s: %.17g", says, refusal.value);
+    in_decimal(refusal.value, value);
+    if (refusal.number == 25)
+        snprintf(text, SQL_TEXT_ROOM, "%s: %s", says, value);
     else
         snprintf(text, SQL_TEXT_ROOM, "%s", says != NULL ? says : "unknown");
 }
