@@ -71,7 +71,7 @@ from compared as c join shape as ff on ff.id = c.f join shape as gg on gg.id = c
 
 set max_parallel_workers_per_gather = 0;
 
--- processor time of this process, and of a query the least of three runs; each run asks it as often as takes a tenth of a second
+-- processor time of this process, and of a query the least of three runs, of which each asks it as often as takes a tenth of a second; one run is enough for a query of more than a second
 create function used() returns double precision language sql as $$ select split_part(pg_read_file('/proc/self/schedstat'), ' ', 1)::double precision / 1e9 $$;
 create function seconds(query text) returns double precision language plpgsql as $$
 declare
@@ -87,6 +87,7 @@ begin
             asked := asked + 1;
         end loop;
         least_one := least(least_one, (used() - begun) / asked);
+        exit when least_one > 1;
     end loop;
     return least_one;
 end $$;
@@ -109,14 +110,14 @@ create function microseconds(call text, layer text) returns numeric language sql
 $$;
 
 \echo
-\echo 'Microseconds of processor time a pair, of pairs that meet:'
+\echo 'Microseconds of processor time a pair, of pairs that meet, the row and fetching the values included:'
 select layer, count(*) as pairs, round(avg(length(split) - 6) / 38) as segments, microseconds('ST_Relate(f_shape, g_shape)', layer) as "ST_Relate", microseconds('ST_Intersects(f_shape, g_shape)', layer) as "ST_Intersects",
     microseconds('karvoiss_cells(split)', layer) as "cells, stored scene", microseconds('karvoiss_try_cells(karvoiss_scene(f, g))', layer) as "cells, two objects",
-    microseconds('karvoiss_split(scene)', layer) as split, microseconds('karvoiss_far(f_summary, g_summary)', layer) as far
+    microseconds('karvoiss_split(scene)', layer) as split, microseconds('karvoiss_far(f_summary, g_summary)', layer) as far, microseconds('bit_count(split)', layer) as "fetching a scene"
 from pair group by layer having count(*) >= 50 order by layer;
 
 \echo
-\echo 'Microseconds of processor time a call on one shape:'
+\echo 'Microseconds of processor time a call on one shape, the same included:'
 select layer, round(avg(length(f) - 3) / 38) as segments, microseconds('ST_AsBinary(f_shape)', layer) as "ST_AsBinary", microseconds('karvoiss_object(f_wkb)', layer) as object, microseconds('karvoiss_summary(f)', layer) as summary,
     microseconds('karvoiss_box(f_summary)', layer) as box
 from pair group by layer having count(*) >= 50 order by layer;
@@ -131,9 +132,11 @@ $$;
 \echo
 select format('a plain operator: %s ns', operator_nanoseconds());
 set enable_seqscan = off;
-select call, round(1000 * (microseconds(call, 'Boston tracts') - microseconds('f_summary', 'Boston tracts')) / operator_nanoseconds()) as cost
-from unnest(array['karvoiss_object(f_wkb)', 'karvoiss_summary(f)', 'karvoiss_box(f_summary)', 'karvoiss_far(f_summary, g_summary)', 'karvoiss_far_cells(f_summary, g_summary)', 'karvoiss_scene(f, g)', 'karvoiss_split(scene)',
-    'karvoiss_cells(split)', 'karvoiss_bits(split)', 'karvoiss_relate(split, ''T********'')', 'karvoiss_touches(split)', 'karvoiss_vectors(split)', 'karvoiss_area_both(split)', 'ST_Relate(f_shape, g_shape)']) as call;
+select call, round(1000 * (microseconds(call, 'Boston tracts') - microseconds(fetching, 'Boston tracts')) / operator_nanoseconds()) as cost
+from (values ('karvoiss_object(f_wkb)', 'bit_count(f_wkb)'), ('karvoiss_summary(f)', 'bit_count(f)'), ('karvoiss_box(f_summary)', 'f_summary'), ('karvoiss_far(f_summary, g_summary)', 'f_summary'),
+    ('karvoiss_far_cells(f_summary, g_summary)', 'f_summary'), ('karvoiss_scene(f, g)', 'bit_count(f) + bit_count(g)'), ('karvoiss_split(scene)', 'bit_count(scene)'), ('karvoiss_cells(split)', 'bit_count(split)'),
+    ('karvoiss_bits(split)', 'bit_count(split)'), ('karvoiss_relate(split, ''T********'')', 'bit_count(split)'), ('karvoiss_touches(split)', 'bit_count(split)'), ('karvoiss_vectors(split)', 'bit_count(split)'),
+    ('karvoiss_area_both(split)', 'bit_count(split)'), ('ST_Relate(f_shape, g_shape)', 'length(f_shape::bytea) + length(g_shape::bytea)')) as v (call, fetching);
 
 set enable_seqscan = on;
 
