@@ -66,7 +66,7 @@ begin
     end if;
 end $do$;
 
--- deeper and deeper, with as much stack as the server may have, until it says that it is enough
+-- deeper and deeper, with as much stack as the server may have here, until it says that it is enough
 create function deeper(depth integer) returns integer language plpgsql as $$
 begin
     perform karvoiss_split('\x540145540145'), karvoiss_object('\x000000000400000000'), karvoiss_cells('\x540145540145');
@@ -74,11 +74,12 @@ begin
 end $$;
 do $do$
 declare
-    most text := '100kB';
+    most text;
 begin
     foreach most in array array['2MB', '3MB', '7680kB'] loop
-        perform set_config('max_stack_depth', most, false);
+        continue when error_of(format('set max_stack_depth = %L', most)) like '22023 |%max_stack_depth%';
         if error_of('select deeper(0)') not like '54001 |%' then raise exception 'with % of stack: %', most, error_of('select deeper(0)'); end if;
     end loop;
+    if current_setting('max_stack_depth') = '100kB' then raise exception 'no deeper stack was tried'; end if;
 end $do$;
 select 'words: errors, what is not taken, and the stack';
