@@ -3,7 +3,7 @@
 \pset fieldsep ' | '
 \pset footer off
 set client_min_messages = warning;
-select format('%s, %s', split_part(version(), ' on ', 1), postgis_full_version());
+select format('%s, %s', split_part(version(), ' on ', 1), postgis_full_version()) as versions;
 
 -- ---- The layers, fitted to the grid ------------------------------------------
 
@@ -37,14 +37,6 @@ create index on shape using gist (karvoiss_box(summary));
 create index on shape (layer, id);
 vacuum analyze shape;
 
-\echo
-\echo Shapes, once rounded:
-select layer, count(*) as shapes, count(*) filter (where g is null or ST_IsEmpty(g)) as vanish, count(*) filter (where not ST_IsValid(g)) as "not valid",
-    count(*) filter (where number = 20) as "refused with 20", count(*) filter (where number in (10, 12)) as "with 10 or 12", count(*) filter (where number not in (0, 10, 12, 20)) as "with another",
-    count(*) filter (where number = 0) as taken
-from fitted, lateral (select case when ST_IsValid(g) and not ST_IsEmpty(g) then karvoiss_object_number(ST_AsBinary(g)) end as number) as n
-group by layer order by layer;
-
 -- ---- All pairs beside ST_Relate ----------------------------------------------
 
 create table compared as
@@ -56,14 +48,22 @@ create table compared as
         lateral (select karvoiss_try_cells(scene) as uncut) as third
     where f.object is not null and g.object is not null and (f.layer not in ('rivers', 'province lines', 'towns and countries', 'made coverage') or f.g && g.g);
 
+create view layers as
+    select layer, count(*) as shapes, count(*) filter (where number is null) as bad, count(*) filter (where number = 20) as long, count(*) filter (where number not in (0, 20)) as otherwise
+    from fitted, lateral (select case when not ST_IsEmpty(g) and ST_IsValid(g) then karvoiss_object_number(ST_AsBinary(g)) end as number) as n group by layer;
+
 \echo
 \echo 'All pairs of a layer (of the four large ones those whose boxes meet), our cells beside ST_Relate:'
-select layer, count(*) as pairs, count(*) filter (where far) as "told by summaries", count(*) filter (where cut and number = 0) as "split first", count(*) filter (where number = 19) as "off the grid (19)",
-    count(*) filter (where number not in (0, 19)) as "refused otherwise", count(*) filter (where ours = theirs) as equal, count(*) filter (where ours <> theirs) as different
-from compared group by layer order by layer;
+\echo
+select layer, shapes, bad as "not valid or vanished", long as "refused (20)", otherwise as "refused otherwise", count(*) as pairs, count(*) filter (where far) as "told by summaries",
+    count(*) filter (where number = 19) as "off the grid (19)", count(*) filter (where number not in (0, 19)) as "with another refusal", count(*) filter (where ours = theirs) as equal, count(*) filter (where ours <> theirs) as different
+from compared join layers using (layer) group by layer, shapes, bad, long, otherwise order by layer;
+\echo
+select format('In all %s pairs: %s equal, %s off the grid, %s different', count(*), count(*) filter (where ours = theirs), count(*) filter (where number = 19), count(*) filter (where ours <> theirs)) as together from compared;
 
 \echo
 \echo 'Each difference:'
+\echo
 select c.layer, c.f, c.g, theirs, ours, left(ST_AsText(ff.g), 400) as f_shape, left(ST_AsText(gg.g), 400) as g_shape
 from compared as c join shape as ff on ff.id = c.f join shape as gg on gg.id = c.g where ours <> theirs order by 1, 2, 3 limit 40;
 
@@ -111,15 +111,17 @@ $$;
 
 \echo
 \echo 'Microseconds of processor time a pair, of pairs that meet, the row and fetching the values included:'
+\echo
 select layer, count(*) as pairs, round(avg(length(split) - 6) / 38) as segments, microseconds('ST_Relate(f_shape, g_shape)', layer) as "ST_Relate", microseconds('ST_Intersects(f_shape, g_shape)', layer) as "ST_Intersects",
-    microseconds('karvoiss_cells(split)', layer) as "cells, stored scene", microseconds('karvoiss_try_cells(karvoiss_scene(f, g))', layer) as "cells, two objects",
+    microseconds('karvoiss_cells(split)', layer) as "cells of a stored scene", microseconds('karvoiss_try_cells(karvoiss_scene(f, g))', layer) as "cells of two objects",
     microseconds('karvoiss_split(scene)', layer) as split, microseconds('karvoiss_far(f_summary, g_summary)', layer) as far, microseconds('bit_count(split)', layer) as "fetching a scene"
 from pair group by layer having count(*) >= 50 order by layer;
 
 \echo
 \echo 'Microseconds of processor time a call on one shape, the same included:'
-select layer, round(avg(length(f) - 3) / 38) as segments, microseconds('ST_AsBinary(f_shape)', layer) as "ST_AsBinary", microseconds('karvoiss_object(f_wkb)', layer) as object, microseconds('karvoiss_summary(f)', layer) as summary,
-    microseconds('karvoiss_box(f_summary)', layer) as box
+\echo
+select layer, round(avg(length(f) - 3) / 38) as segments, microseconds('ST_AsBinary(f_shape)', layer) as "ST_AsBinary", microseconds('karvoiss_object(f_wkb)', layer) as karvoiss_object, microseconds('karvoiss_summary(f)', layer) as karvoiss_summary,
+    microseconds('karvoiss_box(f_summary)', layer) as karvoiss_box
 from pair group by layer having count(*) >= 50 order by layer;
 
 -- COST: what a call takes in calls of a plain operator, by the Boston tracts
@@ -130,7 +132,7 @@ create function operator_nanoseconds() returns numeric language sql as $$
     select round((1e9 * (seconds(format('select count(*) from plain where %s', string_agg('n <> -' || k, ' and '))) - seconds('select count(*) from plain where n <> -1')) / 39 / 1e6)::numeric, 2) from generate_series(1, 40) as k
 $$;
 \echo
-select format('a plain operator: %s ns', operator_nanoseconds());
+select format('%s ns', operator_nanoseconds()) as "a plain operator";
 set enable_seqscan = off;
 select call, round(1000 * (microseconds(call, 'Boston tracts') - microseconds(fetching, 'Boston tracts')) / operator_nanoseconds()) as cost
 from (values ('karvoiss_object(f_wkb)', 'bit_count(f_wkb)'), ('karvoiss_summary(f)', 'bit_count(f)'), ('karvoiss_box(f_summary)', 'f_summary'), ('karvoiss_far(f_summary, g_summary)', 'f_summary'),
@@ -158,7 +160,8 @@ end $$;
 
 \echo
 \echo 'Joins, seconds of processor time:'
-select layer, asked, j.* from (values
+\echo
+select layer, asked, shapes, pairs, theirs_seconds as "PostGIS", ours_seconds as "the extension", boxes_theirs as "boxes, PostGIS", boxes_ours as "boxes, the extension" from (values
     ('made coverage', 'all nine cells', 'ST_Relate(f.g, g.g)', 'karvoiss_cells(karvoiss_scene(f.object, g.object))'),
     ('made coverage', 'do they touch?', 'nullif(ST_Touches(f.g, g.g), false)', 'nullif(karvoiss_touches(karvoiss_scene(f.object, g.object)), false)'),
     ('made coverage', 'all nine cells, from WKB', 'ST_Relate(f.g, g.g)', 'karvoiss_cells(karvoiss_scene(karvoiss_object(ST_AsBinary(f.g)), karvoiss_object(ST_AsBinary(g.g))))'),
