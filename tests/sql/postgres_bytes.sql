@@ -1,7 +1,7 @@
 -- Every function of the extension, as the server's own list has them, with any bytes: it answers or refuses with a number, and nothing else happens. Then null in each argument gives null.
 create function number_bytes(number integer) returns bytea language sql immutable as $$ select decode(lpad(to_hex(number), 8, '0'), 'hex') $$;
 
--- a line and a region that meet at an end, and each as well-known binary
+-- a line as well-known binary, as an object, its summary, and the scene of it beside itself
 create table good (scene bytea, wkb bytea, object bytea, summary bytea);
 insert into good (wkb) values ('\x0000000005000000010000000002000000023ff0000000000000400000000000000040080000000000004010000000000000');
 update good set object = karvoiss_object(wkb);
