@@ -1,7 +1,8 @@
 # make test: everything that the gate checks. make run: builds explore and answers the sample scenes; make run SCENE=file answers a file.
 # make install PREFIX=dir: header, archive and pkg-config file. make fuzz SECONDS=n: fresh scenes and inputs for so long.
+# make postgres: the extension for PostgreSQL, in target/postgres; make postgres-install puts it where the server finds it. make sql-setup: the packages for the databases.
 # make wrong: the wrong programs that the gate leaves out; make wrong CRATES="a b": those of these crates.
-.PHONY: test run archive install sqlite sql-setup fuzz wrong tools pictures bench fmt clean
+.PHONY: test run archive install sqlite postgres postgres-install sql-setup fuzz wrong tools pictures bench fmt clean
 
 test:
 	@bash tests/gate
@@ -42,6 +43,19 @@ sql-setup:
 SECONDS ?= 60
 fuzz: archive target/tools/scene
 	@tests/fuzz $(SECONDS)
+
+# The extensions for databases, over the archive; DESTDIR is put before the server's own folders
+sql-setup:
+	@sql/setup
+
+pgxs = $(MAKE) --no-print-directory -s -C target/postgres -f $(CURDIR)/sql/postgres/Makefile
+
+postgres: archive
+	@mkdir -p target/postgres
+	@$(pgxs)
+
+postgres-install: postgres
+	@$(pgxs) install
 
 CRATES ?=
 wrong:
