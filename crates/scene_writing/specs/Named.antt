@@ -1,6 +1,7 @@
 -- The halves of the segments in a row by name.
-use Rattle.std.specs.Prelude.{ℕ, zero, suc, ◌<◌, Bool, true, false, List, [], ◌∷◌, ◌++◌, length, get_or}
+use Rattle.std.specs.Prelude.{ℕ, zero, suc, ◌<◌, T, Bool, true, false, List, [], ◌∷◌, ◌++◌, length, get_or}
 use Rattle.whole.specs.Count.{◌∈◌}
+use Rattle.whole.proofs.Logic.{Sorted}
 use Rattle.plane.specs.declared.Halfsegment.{Halfsegment}
 use Rattle.plane.specs.Plane.{comes_before}
 use Rattle.scene_keys.specs.declared.Ends.{Ends}
@@ -26,6 +27,10 @@ module _ (row : List Ends) where
   -- these are halves of its segments
   abbrev pub AreHalves : List Half → Type 0
   AreHalves order = (h : Half) → h ∈ order → h.index < length row
+
+  -- each comes before all later ones
+  abbrev pub AreRising : List Half → Type 0
+  AreRising = Sorted (λ h j. T (earlier_in h j))
 
 -- what stands where no half does
 abbrev pub no_half : Half
