@@ -1,11 +1,11 @@
 // The halves of segments in order.
-ghost use Rattle.std.specs.Prelude.{ℕ, ◌≡◌, [], T, ◌+◌, ◌*◌, ◌<◌, ◌≤◌, length, get_or};
+ghost use Rattle.std.specs.Prelude.{ℕ, ◌≡◌, T, ◌+◌, ◌<◌, ◌≤◌, length, get_or};
 ghost use Rattle.plane.specs.Plane.{dominating};
 ghost use Rattle.scene_keys.specs.Keyed.{key};
 ghost use Rattle.arrayvec.specs.ArrayVec.{array_vec_len};
 ghost use Rattle.scene_writing.specs.Rows.{AreGood};
-ghost use Rattle.scene_writing.specs.Settled.{Stops, Between, sink, settle};
-ghost use Rattle.scene_writing.specs.Named.{half_in, earlier_in, AreHalves, AreRising, no_half, names_of};
+ghost use Rattle.scene_writing.specs.Settled.{Stops, Between, sink};
+ghost use Rattle.scene_writing.specs.Named.{half_in, earlier_in, AreHalves, AreRising, no_half, IsSettled};
 
 use arrayvec::ArrayVec;
 use plane::Halfsegment;
@@ -38,7 +38,7 @@ impl<'a> Row<'a> {
     }
 
     // The key of its dominating point.
-    fn key(self, h: Half) -> u64
+    pub fn key(self, h: Half) -> u64
         requires { h.index < length self.ends.now }
         ensures { result ≡ key (dominating (half_in self.entry.ends.now h)) }
     {
@@ -160,9 +160,7 @@ fn sink(row: Row<'_>, order: &mut ArrayVec<Half, 1024>, rises: bool, h: Half) ->
 
 // The halves of all the segments, in order.
 pub fn settled(row: Row<'_>) -> ArrayVec<Half, 1024>
-    ensures settled { result.items ≡ settle (earlier_in row.entry.ends.now) [] (names_of (length row.entry.ends.now)) }
-    ensures halves { AreHalves row.entry.ends.now result.items }
-    ensures many { array_vec_len result ≡ 2 * length row.entry.ends.now }
+    ensures { IsSettled row.entry.ends.now result.items }
 {
     let mut order = ArrayVec::new();
     let mut rises = true;

@@ -1,9 +1,9 @@
-use Rattle.std.proofs.Common.{List, length, ◌∙◌, sym, ap, subst, arith}
+use Rattle.std.proofs.Common.{◌≡◌, ℕ, [], List, length, ◌∙◌, sym, ap, subst, arith}
 use Rattle.whole.specs.Count.{◌∈◌}
 use Rattle.whole.proofs.Logic.{in_nil, sorted_nil}
 use Rattle.scene_writing.specs.declared.order.Half.{Half}
-use Rattle.scene_writing.specs.Settled.{sink}
-use Rattle.scene_writing.specs.Named.{earlier_in, AreRising}
+use Rattle.scene_writing.specs.Settled.{sink, settle}
+use Rattle.scene_writing.specs.Named.{earlier_in, AreRising, names_of}
 use Rattle.scene_writing.proofs.Items.{settle_next}
 use Rattle.scene_writing.proofs.order.settled.Goals as goal
 
@@ -26,4 +26,14 @@ loop-index-preserved c =
       halves = c.sink-rises-in-loop-index.ensures.still_in;
       rising = c.sink-rises-in-loop-index.ensures.still_rising;
       many = omega (arith, c.sink-rises.ensures.one_more, c.sink-rises-in-loop-index.ensures.one_more);
+    }
+
+pub returns : goal.returns
+returns c =
+    let row = c.args.row.ends.now in
+    let end = c.loop-index.invariant in
+    let all : c.loop-index.index ≡ length row = omega (arith, c.args.row.few) in record {
+      settled = end.so_far ∙ ap (λ (n : ℕ). settle (earlier_in row) [] (names_of n)) all;
+      halves = end.halves;
+      many = omega (arith, end.many, all);
     }
