@@ -1,10 +1,10 @@
 -- Elements in strict order, where the order is transitive: all from a place on come after one that comes before the one there, and it goes in there in order.
-use Rattle.std.proofs.Common.{◌≡◌, ℕ, zero, suc, ◌+◌, ◌<◌, ◌≤◌, Bool, true, List, [], ◌∷◌, ◌++◌, length, get_or, drop, T, refl, sym, subst, ◌⊎◌, inl, inr, ⊎_elim, arith}
+use Rattle.std.proofs.Common.{◌≡◌, ℕ, zero, suc, ◌+◌, ◌<◌, ◌≤◌, Bool, true, List, ◌∷◌, ◌++◌, length, get_or, drop, T, refl, sym, subst, ◌⊎◌, inl, inr, ⊎_elim, arith}
 use Rattle.std.specs.List.{insert}
 use lib.ListN.{take, take-append-drop}
 use native.Mathlib.Nat.{not-suc-le-zero, le_of_suc-le-suc}
 use Rattle.whole.specs.Count.{every, ◌∈◌, here, there}
-use Rattle.whole.proofs.Logic.{is_true, true_is, in_nil, in_cons, in_left, in_right, in_append, in_at, every_at, every_make, Sorted, sorted_nil, sorted_cons}
+use Rattle.whole.proofs.Logic.{is_true, true_is, in_cons, in_left, in_right, in_append, in_at, every_at, every_make, Sorted, sorted_nil, sorted_cons}
 use Rattle.scene_writing.specs.Settled.{Stops, Between}
 
 module _ {A : Type 0} where

@@ -1,7 +1,6 @@
 -- The answer by its cases: a fault of the file, too many elements, a refusal of 01's checks, and the buffer.
 use Rattle.std.proofs.Common.{Result, Ok, Err, ℕ, ◌≡◌, Bool, true, false, cond, List, length, ltb, refl, sym, ap, ◌∙◌}
 use Rattle.plane.specs.Plane.{Object}
-use Rattle.scene.specs.declared.Layout.{Layout}
 use Rattle.scene.specs.Read.{most, CheckedObject}
 use Rattle.scene.specs.Conditions.{check_object}
 use Rattle.wkb_grammar.specs.declared.Fault.{Fault}

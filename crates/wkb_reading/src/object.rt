@@ -51,9 +51,10 @@ fn points(wkb: &[u8]) -> Result<ObjectBytes, ReadFault>
     ensures { Makes (points (points_of (parts_of wkb.now))) (result_map_both (λ b. b.items) (λ e. e) result) }
 {
     let row = wkb_gathering::points::<1024>(wkb)?;
+    let keys = row.keys();
     let mut bytes = ObjectBytes::new();
-    scene_writing::write_points(&mut bytes, row.keys());
-    check(&mut bytes, Shape::Points, row.keys().len())?;
+    scene_writing::write_points(&mut bytes, keys);
+    check(&mut bytes, Shape::Points, keys.len())?;
     Ok(bytes)
 }
 
@@ -63,9 +64,10 @@ fn line(wkb: &[u8]) -> Result<ObjectBytes, ReadFault>
     ensures { Makes (line (segments_of (parts_of wkb.now))) (result_map_both (λ b. b.items) (λ e. e) result) }
 {
     let row = wkb_gathering::segments::<512>(wkb)?;
+    let ends = row.keys();
     let mut bytes = ObjectBytes::new();
-    scene_writing::write_line(&mut bytes, Row { ends: row.keys() });
-    check(&mut bytes, Shape::Line, 2 * row.keys().len())?;
+    scene_writing::write_line(&mut bytes, Row { ends });
+    check(&mut bytes, Shape::Line, 2 * ends.len())?;
     Ok(bytes)
 }
 

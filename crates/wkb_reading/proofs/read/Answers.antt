@@ -1,5 +1,5 @@
 -- The three steps, each of which may end it.
-use Rattle.std.proofs.Common.{◌∙◌, sym, ap}
+use Rattle.std.proofs.Common.{◌∙◌, sym}
 use Rattle.std.proofs.lemmas.Result.{err_from_is_err_and}
 use Rattle.wkb_reading.proofs.Answered.{reached, at_fault, given_up, handed_over}
 use Rattle.wkb_grammar.proofs.Taken.{taken_at_end}
