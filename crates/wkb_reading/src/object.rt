@@ -1,8 +1,7 @@
 // The object of a file that was accepted, as its bytes, which 01's checks accept.
-ghost use Rattle.std.specs.Prelude.{T, Ok, Err, ◌≡◌, ◌≢◌, ◌+◌, ◌*◌, ◌≤◌, length, MatchResult};
+ghost use Rattle.std.specs.Prelude.{T, Ok, Err, ◌≡◌, ◌≢◌, length, MatchResult};
 ghost use Rattle.std.specs.Result.{result_map_both};
 ghost use Rattle.plane.specs.Plane.{points, line, region};
-ghost use Rattle.arrayvec.specs.ArrayVec.{array_vec_len};
 ghost use Rattle.scene.specs.Read.{read_alone};
 ghost use Rattle.scene.specs.Conditions.{check_object};
 ghost use Rattle.scene.proofs.Taken.{layout};
@@ -34,15 +33,12 @@ fn check(bytes: &mut ObjectBytes, shape: Shape, count: usize) -> Result<(), Refu
     ensures checked { MatchResult result (λ _. check_object bytes.old.items ≡ Ok (layout shape 0 count)) (λ r. check_object bytes.old.items ≡ Err r) }
     ensures same { bytes.new.items ≡ bytes.old.items }
 {
-    let start = 0;
-    check_alone::verdict(
-        bytes,
-        Layout {
-            shape,
-            start,
-            count,
-        },
-    )
+    let layout = Layout {
+        shape,
+        start: 0,
+        count,
+    };
+    check_alone::verdict(bytes, layout)
 }
 
 // A MultiPoint, whose points are gathered by their keys.
