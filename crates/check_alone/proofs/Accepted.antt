@@ -37,7 +37,7 @@ indices_rise : (n j : ℕ) → Sorted ◌<◌ (indices n j)
 indices_rise zero j = sorted_nil
 indices_rise (suc n) j = sorted_cons (λ i m. (indices_in n (suc j) i m).0) (indices_rise n (suc j))
 
-map_twice : {A B C : Type 0} (f : A → B) (g : B → C) (l : List A) → map g (map f l) ≡ map (λ a. g (f a)) l
+pub map_twice : {A B C : Type 0} (f : A → B) (g : B → C) (l : List A) → map g (map f l) ≡ map (λ a. g (f a)) l
 map_twice f g [] = refl
 map_twice {C = C} f g (a ∷ l) = ap (λ (k : List C). g (f a) ∷ k) (map_twice f g l)
 

@@ -2,9 +2,10 @@
 #![tactic(auto)]
 
 ghost use Rattle.std.specs.Prelude.{◌≡◌, ◌++◌, ◌+◌, ◌≤◌, Ok};
-ghost use Rattle.scene.specs.Read.{read_alone};
+ghost use Rattle.whole.specs.Decides.{Decides};
+ghost use Rattle.scene.specs.Read.{IsScene, read_alone};
 ghost use Rattle.scene.specs.Conditions.{check_object};
-ghost use Rattle.check_verdict.specs.Refusals.{object_verdict};
+ghost use Rattle.check_verdict.specs.Refusals.{object_verdict, geometry_verdict};
 ghost use Rattle.check_verdict.specs.SharedPoints.{CheckedObjectMeans};
 ghost use Rattle.arrayvec.specs.ArrayVec.{array_vec_len};
 ghost use Rattle.check_alone.specs.Beside.{empty_of};
@@ -24,12 +25,13 @@ pub fn lay_empty<const ROOM: usize>(bytes: &mut ArrayVec<u8, ROOM>, k: Shape)
     scene_writing::append(bytes, &[84, u8::from(k), 69]);
 }
 
-// The first refusal under 10 to 14 of an object that was read from these bytes. They are given back as they were.
-pub fn verdict<const ROOM: usize>(bytes: &mut ArrayVec<u8, ROOM>, l: Layout) -> Result<(), Refusal>
+// The scene of an object that was read from these bytes and of an empty one, which is laid behind them.
+fn lay_beside<const ROOM: usize>(bytes: &mut ArrayVec<u8, ROOM>, l: Layout) -> Scene
     requires read { read_alone bytes.old.items ≡ Ok l }
     requires room { array_vec_len bytes.old + 3 ≤ ROOM }
-    ensures found { result ≡ object_verdict bytes.old.items l }
-    ensures same { bytes.new.items ≡ bytes.old.items }
+    ensures read { IsScene bytes.new.items result }
+    ensures alike { geometry_verdict bytes.new.items result ≡ object_verdict bytes.old.items l }
+    ensures laid { bytes.new.items ≡ bytes.old.items ++ empty_of l.shape }
 {
     let empty = Layout {
         shape: l.shape,
@@ -37,12 +39,41 @@ pub fn verdict<const ROOM: usize>(bytes: &mut ArrayVec<u8, ROOM>, l: Layout) -> 
         count: 0,
     };
     lay_empty(bytes, l.shape);
+    Scene::arranged(l, empty)
+}
+
+// The first refusal under 10 to 14 of an object that was read from these bytes. They are given back as they were.
+pub fn verdict<const ROOM: usize>(bytes: &mut ArrayVec<u8, ROOM>, l: Layout) -> Result<(), Refusal>
+    requires read { read_alone bytes.old.items ≡ Ok l }
+    requires room { array_vec_len bytes.old + 3 ≤ ROOM }
+    ensures found { result ≡ object_verdict bytes.old.items l }
+    ensures same { bytes.new.items ≡ bytes.old.items }
+{
+    let end = bytes.len();
+    let scene = lay_beside(bytes, l);
     let verdict = check_verdict::geometry_verdict(ReadScene {
         bytes: bytes.as_slice(),
-        scene: Scene::arranged(l, empty),
+        scene,
     });
-    bytes.truncate(empty.start);
+    bytes.truncate(end);
     verdict
+}
+
+// Is there none? Where there is one, it is not said which.
+pub fn is_sound<const ROOM: usize>(bytes: &mut ArrayVec<u8, ROOM>, l: Layout) -> bool
+    requires read { read_alone bytes.old.items ≡ Ok l }
+    requires room { array_vec_len bytes.old + 3 ≤ ROOM }
+    ensures decides { Decides (object_verdict bytes.old.items l ≡ Ok tt) result }
+    ensures same { bytes.new.items ≡ bytes.old.items }
+{
+    let end = bytes.len();
+    let scene = lay_beside(bytes, l);
+    let sound = check_verdict::is_sound(ReadScene {
+        bytes: bytes.as_slice(),
+        scene,
+    });
+    bytes.truncate(end);
+    sound
 }
 
 // One object's bytes alone, and what the verdict says of the points that its segments share.

@@ -104,6 +104,13 @@ pub fn noted_verdict(read: ReadScene<'_>, notes: &mut Notes) -> Result<(), Refus
     plain_verdict(read)
 }
 
+// Do 10 to 15 refuse nothing? Where they do, it is not said where.
+pub fn is_sound(read: ReadScene<'_>) -> bool
+    ensures { Decides (geometry_verdict read.entry.bytes.now read.entry.scene ≡ Ok tt) result }
+{
+    is_swept(read, &mut Notes::new())
+}
+
 // The verdict alone.
 pub fn geometry_verdict(read: ReadScene<'_>) -> Result<(), Refusal>
     ensures { result ≡ geometry_verdict read.entry.bytes.now read.entry.scene }

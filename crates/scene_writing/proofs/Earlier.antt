@@ -5,6 +5,7 @@ use Rattle.whole.proofs.Logic.{is_true, true_is, same_test, in_at}
 use Rattle.plane.specs.declared.Point.{Point}
 use Rattle.plane.specs.declared.Halfsegment.{Halfsegment}
 use Rattle.plane.specs.Plane.{in_range, segment_in_range, before, is_same_point, dominating, comes_before}
+use Rattle.plane.proofs.Order.{comes_trans}
 use Rattle.scene_keys.specs.declared.Ends.{Ends}
 use Rattle.scene_keys.specs.Keyed.{key}
 use Rattle.scene_keys.proofs.Keys.{same_key, key_less, less_key}
@@ -12,7 +13,7 @@ use Rattle.scene_keys.proofs.Elements.{dominating_in_range}
 use Rattle.scene_written.specs.Bytes.{GoodSegment}
 use Rattle.scene_writing.specs.declared.order.Half.{Half}
 use Rattle.scene_writing.specs.Rows.{AreGood}
-use Rattle.scene_writing.specs.Named.{no_ends, half_in}
+use Rattle.scene_writing.specs.Named.{no_ends, half_in, earlier_in}
 use Rattle.scene_writing.proofs.Rows.{good_segment}
 
 before_by_keys : (p q : Point) → T (in_range p) → T (in_range q) → ltb (key p) (key q) ≡ before p q
@@ -35,3 +36,9 @@ by_keys h k hr kr other =
 
 pub half_good : (row : List Ends) → AreGood row → (h : Half) → h.index < length row → GoodSegment (half_in row h).segment
 half_good row good h i = good_segment (get_or row h.index no_ends) (good (get_or row h.index no_ends) (in_at row no_ends h.index i))
+
+-- from one half to a later one
+pub earlier_trans : (row : List Ends) → AreGood row → (h j k : Half) → h.index < length row → j.index < length row → k.index < length row
+    → T (earlier_in row h j) → T (earlier_in row j k) → T (earlier_in row h k)
+earlier_trans row good h j k a b c =
+    comes_trans (half_in row h) (half_in row j) (half_in row k) (half_good row good h a).in_order (half_good row good j b).in_order (half_good row good k c).in_order

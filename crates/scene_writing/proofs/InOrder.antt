@@ -146,7 +146,7 @@ settled_line_sorted l ord across once =
 pub points_written : (l : List Point) → Sorted (λ p q. T (before p q)) l → bytes_of Points l ≡ object_bytes (points l)
 points_written l sorted = ap (bytes_of Points) (sym (points_as_given l sorted))
 
-edges_of_lem : (f : Segment → Bool) (l : List Segment) → map (λ h. record { half = h; ia = f h.segment }) (halves_of l) ≡ edges_of l (map f l)
+pub edges_of_lem : (f : Segment → Bool) (l : List Segment) → map (λ h. record { half = h; ia = f h.segment }) (halves_of l) ≡ edges_of l (map f l)
 edges_of_lem f [] = refl
 edges_of_lem f (t ∷ l) = ap (λ (r : List Edge). record { half = half_of true t; ia = f t } ∷ record { half = half_of false t; ia = f t } ∷ r) (edges_of_lem f l)
 

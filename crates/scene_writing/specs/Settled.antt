@@ -1,6 +1,6 @@
 -- The order in which the halves of segments are written: one after the other, each sinks from the back past those that it comes before. Two of which
 -- neither comes before the other stay side by side, and both are kept.
-use Rattle.std.specs.Prelude.{ℕ, ◌+◌, ◌≤◌, ◌≡◌, Bool, true, false, cond, List, [], ◌∷◌, length, get_or, drop}
+use Rattle.std.specs.Prelude.{ℕ, ◌+◌, ◌<◌, ◌≤◌, ◌≡◌, T, Bool, true, false, cond, List, [], ◌∷◌, length, get_or, drop}
 use Rattle.whole.specs.Count.{every}
 use Rattle.plane.specs.declared.Segment.{Segment}
 use Rattle.plane.specs.Plane.{comes_before}
@@ -20,6 +20,13 @@ module _ {A : Type 0} (less : A → A → Bool) where
     pub within : k ≤ length l
     pub past : every (less a) (drop k l) ≡ true
     pub stop : (i : ℕ) → i + 1 ≡ k → less a (get_or l i d) ≡ false
+
+  -- or after as many as low says, up to high: it comes before the one there, if there is one, and not before the one just below low
+  pub record Between (d a : A) (l : List A) (low high : ℕ) : Type 0 where
+    pub rises : low ≤ high
+    pub within : high ≤ length l
+    pub past : high < length l → T (less a (get_or l high d))
+    pub stop : (i : ℕ) → i + 1 ≡ low → less a (get_or l i d) ≡ false
 
   -- those of a second list, one after the other, among those of the first
   abbrev pub settle : List A → List A → List A

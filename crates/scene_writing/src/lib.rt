@@ -7,13 +7,14 @@ ghost use Rattle.scene.specs.declared.Shape.TheVariants.{Points, Line, Region};
 ghost use Rattle.scene_written.specs.Bytes.{bytes_of};
 ghost use Rattle.scene_writing.specs.Rows.{AreKeys, points_in, segments_in};
 ghost use Rattle.scene_writing.specs.Settled.{settled_items};
+ghost use Rattle.scene_writing.specs.Named.{IsSettled};
 
 use arrayvec::ArrayVec;
 
 mod order;
 pub mod records;
 
-pub use order::Row;
+pub use order::{Half, Row, settled};
 
 // The bytes fit: what is dropped is never an error.
 pub fn append<const ROOM: usize>(out: &mut ArrayVec<u8, ROOM>, bytes: &[u8])
@@ -42,7 +43,7 @@ pub fn write_line<const ROOM: usize>(out: &mut ArrayVec<u8, ROOM>, row: Row<'_>)
     ensures { out.new.items ≡ out.old.items ++ bytes_of Line (settled_items Line (segments_in row.entry.ends.now) []) }
 {
     append(out, &[84, 2]);
-    for h in order::settled(row).as_slice() {
+    for h in settled(row).as_slice() {
         append(out, &records::line_half(row.half(*h)));
     }
     out.push(69);
@@ -54,8 +55,23 @@ pub fn write_region<const ROOM: usize>(out: &mut ArrayVec<u8, ROOM>, row: Row<'_
     requires room { array_vec_len out.old + (38 * length row.ends.now + 3) ≤ ROOM }
     ensures { out.new.items ≡ out.old.items ++ bytes_of Region (settled_items Region (segments_in row.entry.ends.now) ia.now) }
 {
+    write_region_in(out, row, settled(row).as_slice(), ia);
+}
+
+// The same, where the order of the halves is known.
+pub fn write_region_in<const ROOM: usize>(
+    out: &mut ArrayVec<u8, ROOM>,
+    row: Row<'_>,
+    order: &[Half],
+    ia: &[bool],
+)
+    requires order { IsSettled row.ends.now order.now }
+    requires ia { length ia.now ≡ length row.ends.now }
+    requires room { array_vec_len out.old + (38 * length row.ends.now + 3) ≤ ROOM }
+    ensures { out.new.items ≡ out.old.items ++ bytes_of Region (settled_items Region (segments_in row.entry.ends.now) ia.now) }
+{
     append(out, &[84, 3]);
-    for h in order::settled(row).as_slice() {
+    for h in order {
         append(
             out,
             &records::region_half(row.half(*h), ia[h.index as usize]),

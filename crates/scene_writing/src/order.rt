@@ -1,11 +1,11 @@
 // The halves of segments in order.
-ghost use Rattle.std.specs.Prelude.{◌≡◌, [], ◌+◌, ◌*◌, ◌<◌, ◌≤◌, length};
+ghost use Rattle.std.specs.Prelude.{ℕ, ◌≡◌, T, ◌+◌, ◌<◌, ◌≤◌, length, get_or};
 ghost use Rattle.plane.specs.Plane.{dominating};
 ghost use Rattle.scene_keys.specs.Keyed.{key};
 ghost use Rattle.arrayvec.specs.ArrayVec.{array_vec_len};
 ghost use Rattle.scene_writing.specs.Rows.{AreGood};
-ghost use Rattle.scene_writing.specs.Settled.{Stops, sink, settle};
-ghost use Rattle.scene_writing.specs.Named.{half_in, earlier_in, AreHalves, no_half, names_of};
+ghost use Rattle.scene_writing.specs.Settled.{Stops, Between, sink};
+ghost use Rattle.scene_writing.specs.Named.{half_in, earlier_in, AreHalves, AreRising, no_half, IsSettled};
 
 use arrayvec::ArrayVec;
 use plane::Halfsegment;
@@ -38,7 +38,7 @@ impl<'a> Row<'a> {
     }
 
     // The key of its dominating point.
-    fn key(self, h: Half) -> u64
+    pub fn key(self, h: Half) -> u64
         requires { h.index < length self.ends.now }
         ensures { result ≡ key (dominating (half_in self.entry.ends.now h)) }
     {
@@ -61,8 +61,50 @@ impl<'a> Row<'a> {
     }
 }
 
-// How many of those in order stay before a half: up to the last that it does not come before.
-fn place(row: Row<'_>, order: &[Half], h: Half) -> usize
+// ---- how many of those in order stay before a half: up to the last that it does not come before
+
+// Where they rise, by halving: from low to high.
+fn halve(row: Row<'_>, order: &[Half], h: Half, from: usize, to: usize) -> usize
+    requires h_in { h.index < length row.ends.now }
+    requires order_in { AreHalves row.ends.now order.now }
+    requires between { Between (earlier_in row.ends.now) no_half h order.now from to }
+    ensures { Between (earlier_in row.entry.ends.now) no_half h order.now result result }
+{
+    let mut low = from;
+    let mut high = to;
+    while low < high {
+        let middle = low + (high - low) / 2;
+        if row.is_earlier(h, order[middle]) {
+            high = middle;
+        } else {
+            low = middle + 1;
+        }
+    }
+    high
+}
+
+// Looked for from the back in growing steps first: most halves pass only a few.
+fn search(row: Row<'_>, order: &[Half], h: Half) -> usize
+    requires h_in { h.index < length row.ends.now }
+    requires order_in { AreHalves row.ends.now order.now }
+    requires few { length order.now ≤ 1024 }
+    ensures { Between (earlier_in row.entry.ends.now) no_half h order.now result result }
+{
+    let mut high = order.len();
+    let mut step = 1;
+    while step <= high {
+        let k = high - step;
+        if !row.is_earlier(h, order[k]) {
+            return halve(row, order, h, k + 1, high);
+        }
+        high = k;
+        step *= 2;
+    }
+    halve(row, order, h, 0, high)
+}
+
+// Where they do not, one by one.
+fn scan(row: Row<'_>, order: &[Half], h: Half) -> usize
     requires h_in { h.index < length row.ends.now }
     requires order_in { AreHalves row.ends.now order.now }
     ensures { Stops (earlier_in row.entry.ends.now) no_half h order.now result }
@@ -75,38 +117,67 @@ fn place(row: Row<'_>, order: &[Half], h: Half) -> usize
     0
 }
 
-// A half goes in.
-fn sink(row: Row<'_>, order: &mut ArrayVec<Half, 1024>, h: Half)
+fn place(row: Row<'_>, order: &[Half], rises: bool, h: Half) -> usize
+    requires h_in { h.index < length row.ends.now }
+    requires order_in { AreHalves row.ends.now order.now }
+    requires few { length order.now ≤ 1024 }
+    requires rising { T rises → AreRising row.ends.now order.now }
+    ensures { Stops (earlier_in row.entry.ends.now) no_half h order.now result }
+{
+    if rises {
+        search(row, order, h)
+    } else {
+        scan(row, order, h)
+    }
+}
+
+// Does the one before a place come before a half?
+fn follows(row: Row<'_>, order: &[Half], k: usize, h: Half) -> bool
+    requires h_in { h.index < length row.ends.now }
+    requires order_in { AreHalves row.ends.now order.now }
+    requires within { k ≤ length order.now }
+    ensures { (i : ℕ) → i + 1 ≡ k → result ≡ earlier_in row.entry.ends.now (get_or order.now i no_half) h }
+{
+    k == 0 || row.is_earlier(order[k - 1], h)
+}
+
+// A half goes in. Do they still rise, if they did?
+fn sink(row: Row<'_>, order: &mut ArrayVec<Half, 1024>, rises: bool, h: Half) -> bool
     requires h_in { h.index < length row.ends.now }
     requires order_in { AreHalves row.ends.now order.old.items }
     requires room { array_vec_len order.old < 1024 }
+    requires rising { T rises → AreRising row.ends.now order.old.items }
     ensures sunk { order.new.items ≡ sink (earlier_in row.entry.ends.now) h order.old.items }
     ensures still_in { AreHalves row.entry.ends.now order.new.items }
     ensures one_more { array_vec_len order.new ≡ array_vec_len order.old + 1 }
+    ensures still_rising { T result → AreRising row.entry.ends.now order.new.items }
 {
-    let k = place(row, order.as_slice(), h);
+    let k = place(row, order.as_slice(), rises, h);
+    let still = rises && follows(row, order.as_slice(), k, h);
     order.insert(k, h);
+    still
 }
 
 // The halves of all the segments, in order.
 pub fn settled(row: Row<'_>) -> ArrayVec<Half, 1024>
-    ensures settled { result.items ≡ settle (earlier_in row.entry.ends.now) [] (names_of (length row.entry.ends.now)) }
-    ensures halves { AreHalves row.entry.ends.now result.items }
-    ensures many { array_vec_len result ≡ 2 * length row.entry.ends.now }
+    ensures { IsSettled row.entry.ends.now result.items }
 {
     let mut order = ArrayVec::new();
+    let mut rises = true;
     for index in 0..row.ends.len() as u16 {
-        sink(
+        rises = sink(
             row,
             &mut order,
+            rises,
             Half {
                 index,
                 is_left: true,
             },
         );
-        sink(
+        rises = sink(
             row,
             &mut order,
+            rises,
             Half {
                 index,
                 is_left: false,

@@ -47,7 +47,7 @@ abbrev pub Once : List Segment → Type 0
 Once l = (t : Segment) → t ∈ l → parity (is_same_segment t) l ≡ true
 
 -- two lists of the same segments, each an odd number of times, answer every question of parity alike
-same_parity : (l m : List Segment) → Once l → Once m → ((t : Segment) → t ∈ l → t ∈ m) → ((t : Segment) → t ∈ m → t ∈ l) → (f : Segment → Bool) → parity f l ≡ parity f m
+pub same_parity : (l m : List Segment) → Once l → Once m → ((t : Segment) → t ∈ l → t ∈ m) → ((t : Segment) → t ∈ m → t ∈ l) → (f : Segment → Bool) → parity f l ≡ parity f m
 same_parity l m once once' to from f = xor_none (parity f l) (parity f m) (sym (parity_append f l m) ∙ even_all is_same_segment same_segment_read same_segment_refl (l ++ m) twice f)
   where
     twice : (t : Segment) → t ∈ (l ++ m) → parity (is_same_segment t) (l ++ m) ≡ false

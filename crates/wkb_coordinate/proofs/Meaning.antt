@@ -1,12 +1,14 @@
 -- `coordinate_of` in other words: a float is taken for z exactly where it is finite, its value is z, and z is in range.
-use Rattle.std.proofs.Common.{◌≡◌, ℕ, ◌*◌, ◌/◌, ◌%◌, ◌≤◌, Bool, true, false, cond, ◌&&◌, T, eqb, leb, ℤ, nat_abs, sym, refl, ap, ◌∙◌, subst, ap₂, le_trans, le_of_eq, div-add-mod', mul-one, mul-div_cancel, arith, eqb→eq, leb→le, eq-eqb, le-leb}
-use native.Mathlib.Nat.{mul-mod_left}
-use lib.Ieee.{Float, nan, inf, fin, up, down}
+use Rattle.std.proofs.Common.{◌≡◌, ℕ, zero, suc, ◌<◌, ◌||◌, ⊎_elim, ◌*◌, ◌/◌, ◌%◌, ◌≤◌, Bool, true, false, cond, ◌&&◌, T, eqb, leb, ℤ, nat_abs, sym, refl, ap, ◌∙◌, subst, ap₂, le_trans, le_of_eq, div-add-mod', mul-one, mul-div_cancel, arith, eqb→eq, leb→le, eq-eqb, le-leb}
+use mathlib.Core.Bool.{beq}
+use native.Mathlib.Nat.{mul-mod_left, eq_of_mul-eq-mul_right, not-suc-le-zero}
+use lib.Ieee.{Float, nan, inf, fin, up, down, eq, of_int, binary64}
 use lib.Ieee.Exact.{HasValue}
 use lib.Ieee.Fits.{down_pos}
 use Rattle.plane.specs.Plane.{limit}
 use Rattle.floats.specs.Value.{with_sign, Whole}
-use Rattle.floats.proofs.Operations.{nat_abs_signed}
+use Rattle.whole.proofs.Logic.{is_true, and_left, and_right, or_cases, true_is, beq_same}
+use Rattle.floats.proofs.Operations.{of_int_whole, nat_abs_signed}
 use Rattle.wkb_coordinate.specs.declared.Coordinate.TheVariants.{Whole as WholeNumber, Other}
 use Rattle.wkb_coordinate.specs.Coordinate.{coordinate_of, TakenExactly}
 
@@ -51,3 +53,54 @@ value_of_taken (fin s m e) z k = go (eqb (m * up e % down e) 0) (leb (m * up e /
 
 pub taken_exactly : (x : Float) (z : ℤ) → TakenExactly x z
 taken_exactly x z = record { if_whole = taken_by_value x z; only_if = value_of_taken x z }
+
+-- ---- a float that equals a whole number in range has its value
+
+of_zero : (s t : Bool) → with_sign s 0 ≡ with_sign t 0
+of_zero true true = refl
+of_zero true false = refl
+of_zero false true = refl
+of_zero false false = refl
+
+pub equal_is_whole : (x : Float) (z : ℤ) → nat_abs z ≤ limit → eq (of_int binary64 z) x ≡ true → Whole x z
+unfolding eq
+equal_is_whole x z h q = let w = of_int_whole binary64 z (omega (arith, h)) in go (of_int binary64 z) x w.negative w.size w.value w.is q
+  where
+    go : (y x : Float) (t : Bool) (n : ℕ) → HasValue y t n 1 → with_sign t n ≡ z → eq y x ≡ true → Whole x z
+    go nan x t n v i q = absurd v
+    go (inf o) x t n v i q = absurd v
+    go (fin o a d) nan t n v i q = cc
+    go (fin o a d) (inf s) t n v i q = cc
+    go (fin o a d) (fin s m e) t n v i q = record { negative = s; size = n; value = (refl, value); is = sign }
+      where
+        both : T (eqb (a * up d * down e) (m * up e * down d) && (beq o s || eqb (a * up d * down e) 0))
+        both = is_true _ q
+
+        same : a * up d * down e ≡ m * up e * down d
+        same = eqb→eq (a * up d * down e) (m * up e * down d) (and_left (eqb (a * up d * down e) (m * up e * down d)) (beq o s || eqb (a * up d * down e) 0) both)
+
+        left : a * up d ≡ n * down d
+        left = sym (mul-one (a * up d)) ∙ v.1
+
+        value : m * up e * 1 ≡ n * down e
+        value = mul-one (m * up e) ∙ eq_of_mul-eq-mul_right (down d) (down_pos d) (m * up e) (n * down e) (sym same ∙ ap (λ (k : ℕ). k * down e) left ∙ swap n (down d) (down e))
+          where
+            swap : (n p r : ℕ) → n * p * r ≡ n * r * p
+            swap n p r = omega arith
+
+        sign : with_sign s n ≡ z
+        sign =
+            ⊎_elim (λ b. ap (λ (c : Bool). with_sign c n) (sym (beq_same o s (true_is (beq o s) b)) ∙ v.0) ∙ i) (λ b. ap (with_sign s) (none b) ∙ of_zero s t ∙ ap (with_sign t) (sym (none b)) ∙ i)
+            (or_cases (beq o s) (eqb (a * up d * down e) 0) (and_right (eqb (a * up d * down e) (m * up e * down d)) (beq o s || eqb (a * up d * down e) 0) both))
+          where
+            zero_of : (n p r : ℕ) → 0 < p → 0 < r → n * p * r ≡ 0 → n ≡ 0
+            zero_of zero p r k l f = refl
+            zero_of (suc n) zero r k l f = absurd (not-suc-le-zero k)
+            zero_of (suc n) (suc p) zero k l f = absurd (not-suc-le-zero l)
+            zero_of (suc n) (suc p) (suc r) k l f = absurd (omega (arith, f))
+
+            none : T (eqb (a * up d * down e) 0) → n ≡ 0
+            none b = zero_of n (down d) (down e) (down_pos d) (down_pos e) (ap (λ (k : ℕ). k * down e) (sym left) ∙ eqb→eq (a * up d * down e) 0 b)
+
+pub taken_where_equal : (x : Float) (z : ℤ) → eq (of_int binary64 z) x ≡ true → nat_abs z ≤ limit → coordinate_of x ≡ WholeNumber z
+taken_where_equal x z q h = taken_by_value x z (equal_is_whole x z h q) h

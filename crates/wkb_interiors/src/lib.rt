@@ -16,6 +16,8 @@ use plane::{Point, Segment};
 use scene_keys::{Ends, ROOM};
 use scene_writing::Row;
 
+pub mod guess;
+
 /// A segment, the doubled coordinates of its midpoint, and the least key of a point in the column that the midpoint is in; of two columns between which it lies,
 /// the left one.
 #[derive(Clone, Copy)]

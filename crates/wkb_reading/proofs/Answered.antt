@@ -1,9 +1,7 @@
 -- The answer by its cases: a fault of the file, too many elements, a refusal of 01's checks, and the buffer.
 use Rattle.std.proofs.Common.{Result, Ok, Err, ℕ, ◌≡◌, Bool, true, false, cond, List, length, ltb, refl, sym, ap, ◌∙◌}
 use Rattle.plane.specs.Plane.{Object}
-use Rattle.scene.specs.declared.Layout.{Layout}
-use Rattle.scene.specs.declared.Refusal.{Refusal}
-use Rattle.scene.specs.Read.{most}
+use Rattle.scene.specs.Read.{most, CheckedObject}
 use Rattle.scene.specs.Conditions.{check_object}
 use Rattle.wkb_grammar.specs.declared.Fault.{Fault}
 use Rattle.wkb_grammar.specs.Fields.{type_at}
@@ -11,7 +9,7 @@ use Rattle.wkb_grammar.specs.Grammar.{Read, got, bad, outcome, Row, file}
 use Rattle.wkb_gathering.specs.Gathers.{parts_of}
 use Rattle.wkb_reading.specs.declared.ReadFault.{ReadFault}
 use Rattle.wkb_reading.specs.declared.ReadFault.TheVariants.{Bytes, TooMany, Refused}
-use Rattle.wkb_reading.specs.Reading.{object_of, elements_in, bytes_in, Makes, ReadAnswer, handed, filled, file_bytes, read_object, read_file, buffer_after}
+use Rattle.wkb_reading.specs.Reading.{object_of, elements_in, bytes_in, checked_bytes, Makes, ReadAnswer, handed, fitted, filled, file_bytes, read_object, read_file, buffer_after}
 
 -- the answer, and the buffer after the call
 abbrev pub Answers : List ℕ → List ℕ → ReadAnswer → List ℕ → Type 0
@@ -47,39 +45,35 @@ module _ (s before : List ℕ) where
     bytes_are : file_bytes (type_at s 0) (file s) ≡ bytes_in o
     bytes_are = rw e
 
-    -- ---- 20
-    pub too_many : (f : ReadFault) → Makes o (Err f) → Answers s before (Err f) before
+    -- ---- 20, or a refusal of 01's checks
+    pub given_up : (f : ReadFault) → Makes o (Err f) → Answers s before (Err f) before
     unfolding read_object
-    too_many f m = refused (its_object ∙ go (ltb most (elements_in o)) refl m)
+    given_up f m = refused (its_object ∙ go (ltb most (elements_in o)) (check_object (bytes_in o)) m)
       where
-        go : (b : Bool) → ltb most (elements_in o) ≡ b → ◌≡◌ {A = Result (List ℕ) ReadFault} (Err f) (cond b (Err TooMany) (Ok (bytes_in o))) → read_object o (length before) ≡ Err f
-        go true q k = let same : f ≡ TooMany = cc in rw q (ap Err (sym same))
-        go false q k = cc
+        go : (b : Bool) (k : CheckedObject) → ◌≡◌ {A = Result (List ℕ) ReadFault} (Err f) (cond b (Err TooMany) (checked_bytes (bytes_in o) k))
+            → cond b (Err TooMany) (fitted (bytes_in o) (length before) k) ≡ Err f
+        go true k q = let same : f ≡ TooMany = cc in ap Err (sym same)
+        go false (Err r) q = let same : f ≡ Refused r.reason = cc in ap Err (sym same)
+        go false (Ok l) q = cc
 
-    -- ---- the bytes that were made
+    -- ---- 21, or the buffer is filled
     module _ (bytes : List ℕ) (m : Makes o (Ok bytes)) where
-      made : (ltb most (elements_in o) ≡ false) × (bytes ≡ bytes_in o)
-      made = go (ltb most (elements_in o)) refl m
-        where
-          go : (b : Bool) → ltb most (elements_in o) ≡ b → ◌≡◌ {A = Result (List ℕ) ReadFault} (Ok bytes) (cond b (Err TooMany) (Ok (bytes_in o))) → (ltb most (elements_in o) ≡ false) × (bytes ≡ bytes_in o)
-          go true q k = cc
-          go false q k = (q, cc)
-
-      -- ---- 10 to 14
-      pub unsound : (r : Refusal) → check_object bytes ≡ Err r → Answers s before (Err (Refused r.reason)) before
+      made : (bytes ≡ bytes_in o) × (read_object o (length before) ≡ handed (bytes_in o) (length before))
       unfolding read_object
-      unsound r k = refused (its_object ∙ go)
+      made = go (ltb most (elements_in o)) (check_object (bytes_in o)) m
         where
-          go : read_object o (length before) ≡ Err (Refused r.reason)
-          go = rw (made.0, ← made.1, k)
+          go : (b : Bool) (k : CheckedObject) → ◌≡◌ {A = Result (List ℕ) ReadFault} (Ok bytes) (cond b (Err TooMany) (checked_bytes (bytes_in o) k))
+              → (bytes ≡ bytes_in o) × (cond b (Err TooMany) (fitted (bytes_in o) (length before) k) ≡ handed (bytes_in o) (length before))
+          go true k q = cc
+          go false (Err r) q = cc
+          go false (Ok l) q = (cc, refl)
 
-      -- ---- 21, or the buffer is filled
-      pub handed_over : (l : Layout) (r : ReadAnswer) (after : List ℕ) → check_object bytes ≡ Ok l → r ≡ handed bytes (length before) → after ≡ filled bytes r before → Answers s before r after
-      unfolding read_object buffer_after
-      handed_over l r after k q w = (q ∙ sym is, w ∙ ap (λ x. filled bytes x before) (q ∙ sym is) ∙ sym buffer_is)
+      pub handed_over : (r : ReadAnswer) (after : List ℕ) → r ≡ handed bytes (length before) → after ≡ filled bytes r before → Answers s before r after
+      unfolding buffer_after
+      handed_over r after q w = (q ∙ sym is, w ∙ ap (λ x. filled bytes x before) (q ∙ sym is) ∙ sym buffer_is)
         where
           is : read_file s (length before) ≡ handed bytes (length before)
-          is = its_object ∙ rw (made.0, ← made.1, k)
+          is = its_object ∙ made.1 ∙ ap (λ (b : List ℕ). handed b (length before)) (sym made.0)
 
           buffer_is : buffer_after s before ≡ filled bytes (read_file s (length before)) before
-          buffer_is = ap (λ (b : List ℕ). filled b (read_file s (length before)) before) (bytes_are ∙ sym made.1)
+          buffer_is = ap (λ (b : List ℕ). filled b (read_file s (length before)) before) (bytes_are ∙ sym made.0)

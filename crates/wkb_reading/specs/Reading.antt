@@ -48,9 +48,14 @@ ReadAsWritten s = (parts : List (List Row)) (end : ℕ) → file s ≡ got parts
 
 -- ---- the answer
 
--- what was made of an object: its bytes, or "20 at the type record of the first object that would pass 1,024 elements"
+-- bytes, after 01's checks of them
+abbrev pub checked_bytes : List ℕ → CheckedObject → Result (List ℕ) ReadFault
+checked_bytes bytes (Err r) = Err (Refused r.reason)
+checked_bytes bytes (Ok l) = Ok bytes
+
+-- what was made of an object: its bytes, or "20 at the type record of the first object that would pass 1,024 elements", or what 01's checks refuse
 abbrev pub Makes : Object → Result (List ℕ) ReadFault → Type 0
-Makes o made = made ≡ cond (ltb most (elements_in o)) (Err TooMany) (Ok (bytes_in o))
+Makes o made = made ≡ cond (ltb most (elements_in o)) (Err TooMany) (checked_bytes (bytes_in o) (check_object (bytes_in o)))
 
 -- the length of what was written, or what is wrong
 abbrev pub ReadAnswer : Type 0

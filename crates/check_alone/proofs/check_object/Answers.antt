@@ -1,22 +1,12 @@
 -- Reading, then 10 to 14, each of which may refuse.
-use Rattle.std.proofs.Common.{◌≡◌, ◌∙◌, sym, ap, ℕ, List, ◌++◌, length, Ok, Err, arith}
-use Rattle.scene.specs.declared.Layout.{Layout}
-use Rattle.scene.specs.declared.Refusal.{Refusal}
+use Rattle.std.proofs.Common.{◌≡◌, ◌∙◌, sym, ap, ℕ, List, ◌++◌, length, Ok, arith}
 use Rattle.scene.specs.Read.{read_alone}
-use Rattle.scene.specs.Conditions.{check_object}
 use Rattle.scene.proofs.Outcomes.{handed_on}
 use Rattle.check_verdict.specs.Refusals.{object_verdict}
-use Rattle.check_verdict.proofs.Verdicts.{object_refused, object_read}
+use Rattle.check_verdict.proofs.Verdicts.{object_refused}
 use Rattle.check_verdict.proofs.CheckedMeans.{object_with_meaning}
-use Rattle.check_alone.proofs.Alone.{short}
+use Rattle.check_alone.proofs.Alone.{short, at_fault, taken}
 use Rattle.check_alone.proofs.check_object.Goals as goal
-
-module _ (s : List ℕ) (l : Layout) (e : read_alone s ≡ Ok l) where
-  at_fault : (r : Refusal) → object_verdict s l ≡ Err r → check_object s ≡ Err r
-  at_fault r q = rw (object_read s l e, q)
-
-  taken : object_verdict s l ≡ Ok tt → check_object s ≡ Ok l
-  taken q = rw (object_read s l e, q)
 
 pub returns-in_err-layout : goal.returns-in_err-layout
 returns-in_err-layout c =

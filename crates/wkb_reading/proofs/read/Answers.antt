@@ -1,8 +1,7 @@
--- The four steps, each of which may end it.
-use Rattle.std.proofs.Common.{◌∙◌, sym, ap}
+-- The three steps, each of which may end it.
+use Rattle.std.proofs.Common.{◌∙◌, sym}
 use Rattle.std.proofs.lemmas.Result.{err_from_is_err_and}
-use Rattle.scene.specs.Conditions.{check_object}
-use Rattle.wkb_reading.proofs.Answered.{reached, at_fault, too_many, unsound, handed_over}
+use Rattle.wkb_reading.proofs.Answered.{reached, at_fault, given_up, handed_over}
 use Rattle.wkb_grammar.proofs.Taken.{taken_at_end}
 use Rattle.wkb_grammar.specs.Grammar.{file}
 use Rattle.wkb_reading.proofs.read.Goals as goal
@@ -12,29 +11,19 @@ returns-in_err-scan c =
     let p = err_from_is_err_and c.from_residual.result c.from_residual.ensures.1 in
     rw (p.1, p.2) (at_fault c.args.wkb.now c.args.object.now c.in_err-scan.field-0.0 (sym c.scan.ensures ∙ c.in_err-scan.was))
 
-pub returns-in_err-made : goal.returns-in_err-made
-returns-in_err-made c =
-    let p = err_from_is_err_and c.from_residual-in_err-made.result c.from_residual-in_err-made.ensures.1 in
+pub returns-in_err-bytes : goal.returns-in_err-bytes
+returns-in_err-bytes c =
+    let p = err_from_is_err_and c.from_residual-in_err-bytes.result c.from_residual-in_err-bytes.ensures.1 in
     let q = reached (file c.args.wkb.now) (sym c.scan.ensures ∙ c.in_ok-scan.was) in
     let m = c.of_file.ensures in
-    rw (p.1, p.2) (too_many c.args.wkb.now c.args.object.now q.0 _ q.1 c.in_err-made.field-0.0 (rw c.in_err-made.was at m))
-
-pub returns-in_err-check_object : goal.returns-in_err-check_object
-returns-in_err-check_object c =
-    let p = err_from_is_err_and c.from_residual-in_err-check_object.result c.from_residual-in_err-check_object.ensures.1 in
-    let q = reached (file c.args.wkb.now) (sym c.scan.ensures ∙ c.in_ok-scan.was) in
-    let m = c.of_file.ensures in
-    rw (p.1, p.2)
-    (unsound c.args.wkb.now c.args.object.now q.0 _ q.1 c.in_ok-made.made.items (rw c.in_ok-made.was at m) c.in_err-check_object.field-0.0
-    (ap check_object (sym c.as_slice-bytes.ensures.value) ∙ sym c.check_object.ensures.0 ∙ c.in_err-check_object.was))
+    rw (p.1, p.2) (given_up c.args.wkb.now c.args.object.now q.0 _ q.1 c.in_err-bytes.field-0.0 (rw c.in_err-bytes.was at m))
 
 pub returns : goal.returns
 returns c =
     let q = reached (file c.args.wkb.now) (sym c.scan.ensures ∙ c.in_ok-scan.was) in
     let m = c.of_file.ensures in
-    let value = c.as_slice-bytes.ensures.value in
-    handed_over c.args.wkb.now c.args.object.now q.0 _ q.1 c.in_ok-made.made.items (rw c.in_ok-made.was at m) c.in_ok-check_object.field-0 c.hand_over.result c.hand_over.new.object
-    (ap check_object (sym value) ∙ sym c.check_object.ensures.0 ∙ c.in_ok-check_object.was)
+    let value = c.as_slice.ensures.value in
+    handed_over c.args.wkb.now c.args.object.now q.0 _ q.1 c.in_ok-bytes.bytes.items (rw c.in_ok-bytes.was at m) c.hand_over.result c.hand_over.new.object
     (rw value at c.hand_over.ensures.0) (rw value at c.hand_over.ensures.1)
 
 pub of_file-requires : goal.of_file-requires
