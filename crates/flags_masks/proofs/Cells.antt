@@ -9,19 +9,20 @@ use lib.Bits.{bit_and}
 use lib.Dec.{T, eqb, eqb→eq}
 use lib.ListN.{get_or}
 use borrow.Author.Tests.{eq-eqb}
-use Rattle.whole.specs.Count.{every}
-use Rattle.whole.proofs.Logic.{and_left, and_right, and_follows, some_find, some_make, true_is}
+use Rattle.whole.specs.Count.{every, odd}
+use Rattle.whole.proofs.Logic.{is_true, and_left, and_right, and_follows, some_find, some_make, true_is}
 use Rattle.scene.specs.declared.Shape.{Shape}
 use Rattle.scene.specs.declared.Shape.TheVariants.{Points, Line, Region}
 use Rattle.scene.specs.declared.Scene.{Scene}
-use Rattle.scene.specs.Read.{shape_number}
+use Rattle.scene.specs.Read.{shape_number, turned}
 use Rattle.scene.specs.Conditions.{indices}
 use Rattle.scene.proofs.Indices.{in_indices}
 use Rattle.flags.specs.Flags.{has_bit}
 use Rattle.flags.proofs.Bits.{and_bit, same_number}
 use Rattle.flags.proofs.Marks.{gather, gather_bit}
+use Rattle.flags_masks.specs.declared.FlagMasks.{FlagMasks}
 use Rattle.flags_masks.specs.declared.Wanted.{Wanted}
-use Rattle.flags_masks.specs.Wanted.{mask_of_f, mask_of_g, cell_masks, cell_place, cell_masks_of, wanted_for_f, wanted_for_g, masks_for, has_stray, any_stray}
+use Rattle.flags_masks.specs.Wanted.{mask_of_f, mask_of_g, cell_masks, place_in, cell_place, is_nothing, cell_masks_of, wanted_for_f, wanted_for_g, masks_for, has_stray, any_stray}
 
 -- ---- the table has flags of the pair alone
 
@@ -56,6 +57,57 @@ every_get_d ok d t (a ∷ l) e (suc i) = every_get_d ok d t l (and_right (ok a) 
 
 none_part : (f g : Shape) → T (is_part f g (0, 0))
 none_part f g = tt
+
+-- ---- all nine cells have all of them, in either order of the objects, and nothing wanted has none
+
+every_cell : (turned : Bool) (f g : Shape)
+    → (gather (λ at. cond (has_bit 511 at) (get_or (row f g) (place_in turned at) (0, 0)).0 0) (indices 9 0) ≡ all_f f g)
+    × (gather (λ at. cond (has_bit 511 at) (get_or (row f g) (place_in turned at) (0, 0)).1 0) (indices 9 0) ≡ all_g f g)
+unfolding has_bit odd
+every_cell true Points Points = (refl, refl)
+every_cell true Points Line = (refl, refl)
+every_cell true Points Region = (refl, refl)
+every_cell true Line Points = (refl, refl)
+every_cell true Line Line = (refl, refl)
+every_cell true Line Region = (refl, refl)
+every_cell true Region Points = (refl, refl)
+every_cell true Region Line = (refl, refl)
+every_cell true Region Region = (refl, refl)
+every_cell false Points Points = (refl, refl)
+every_cell false Points Line = (refl, refl)
+every_cell false Points Region = (refl, refl)
+every_cell false Line Points = (refl, refl)
+every_cell false Line Line = (refl, refl)
+every_cell false Line Region = (refl, refl)
+every_cell false Region Points = (refl, refl)
+every_cell false Region Line = (refl, refl)
+every_cell false Region Region = (refl, refl)
+
+abbrev pub of_both : ℕ → ℕ → FlagMasks
+of_both f g = record { f = f; g = g }
+
+pub every_cell_is_all : (sc : Scene) → masks_for Wanted.All sc ≡ masks_for (Wanted.Cells 511) sc
+unfolding masks_for
+every_cell_is_all sc =
+    let e = every_cell (turned sc) sc.f.shape sc.g.shape in
+    sym (ap₂ of_both e.0 e.1)
+
+in_either_order : (turned : Bool) → of_both (cond turned 0 0) (cond turned 0 0) ≡ of_both 0 0
+in_either_order true = refl
+in_either_order false = refl
+
+no_number : (n : ℕ) → T (eqb n 0) → n ≡ 0
+no_number n = eqb→eq n 0
+
+pub none_wanted : (wanted : Wanted) → is_nothing wanted ≡ true → (sc : Scene) → masks_for wanted sc ≡ of_both 0 0
+unfolding masks_for has_bit odd
+none_wanted (Wanted.These masks) e sc =
+    let none = is_true (eqb masks.f 0 && eqb masks.g 0) e in
+    ap₂ (λ f g. of_both (cond (turned sc) g f) (cond (turned sc) f g)) (no_number masks.f (and_left (eqb masks.f 0) (eqb masks.g 0) none)) (no_number masks.g (and_right (eqb masks.f 0) (eqb masks.g 0) none))
+    ∙ in_either_order (turned sc)
+none_wanted Wanted.All e sc = absurd (subst T (sym e) tt)
+none_wanted (Wanted.Cells cells) e sc =
+    ap (λ c. of_both (gather (wanted_for_f sc c) (indices 9 0)) (gather (wanted_for_g sc c) (indices 9 0))) (no_number cells (is_true (eqb cells 0) e))
 
 -- ---- what some cells want
 

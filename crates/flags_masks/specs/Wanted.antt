@@ -1,6 +1,6 @@
 -- The wanted masks of the vectors question: which flags a pair of types has, which of them are wanted, and whether a wanted bit has no flag; and the flags that
 -- a cell of the matrix is read off.
-use Rattle.std.specs.Prelude.{ℕ, ◌+◌, ◌-◌, ◌*◌, ◌/◌, ◌%◌, ◌≤◌, Bool, not, ◌||◌, cond, List, [], ◌∷◌, T, eqb, length, get_or}
+use Rattle.std.specs.Prelude.{ℕ, ◌+◌, ◌-◌, ◌*◌, ◌/◌, ◌%◌, ◌≤◌, Bool, false, not, ◌&&◌, ◌||◌, cond, List, [], ◌∷◌, T, eqb, length, get_or}
 use Rattle.std.specs.Int.Bits.{bit_and}
 use Rattle.scene.specs.declared.Scene.{Scene}
 use Rattle.scene.specs.Read.{shape_number, turned, as_given}
@@ -83,6 +83,12 @@ masks_for Wanted.All sc =
       g = mask_of_g (shape_number sc.f.shape) (shape_number sc.g.shape);
     }
 masks_for (Wanted.Cells cells) sc = record { f = gather (wanted_for_f sc cells) (indices 9 0); g = gather (wanted_for_g sc cells) (indices 9 0) }
+
+-- is none wanted, whatever the scene?
+abbrev pub is_nothing : Wanted → Bool
+is_nothing (Wanted.These masks) = eqb masks.f 0 && eqb masks.g 0
+is_nothing Wanted.All = false
+is_nothing (Wanted.Cells cells) = eqb cells 0
 
 -- "A flag not wanted is 0."
 abbrev pub only : ℕ → ℕ → ℕ

@@ -3,7 +3,7 @@
 
 ghost use Rattle.std.specs.Prelude.{◌≡◌, cond, map, ◌<◌, get_or};
 ghost use Rattle.scene.specs.Read.{shape_number};
-ghost use Rattle.flags_masks.specs.Wanted.{mask_of_f, mask_of_g, entry_of, place_in, cell_masks_in, masks_for, any_stray, exceeds, meets};
+ghost use Rattle.flags_masks.specs.Wanted.{mask_of_f, mask_of_g, entry_of, place_in, cell_masks_in, is_nothing, masks_for, any_stray, exceeds, meets};
 
 use scene::{Scene, Shape};
 
@@ -42,6 +42,22 @@ pub enum Wanted {
     These(FlagMasks),
     All,
     Cells(u16),
+}
+
+// All nine cells.
+const EVERY_CELL: u16 = 511;
+
+impl Wanted {
+    // Is no flag wanted, whatever the pair of types?
+    pub fn is_nothing(self) -> bool
+        ensures { result ≡ is_nothing self }
+    {
+        match self {
+            Wanted::These(masks) => masks.f == 0 && masks.g == 0,
+            Wanted::All => false,
+            Wanted::Cells(cells) => cells == 0,
+        }
+    }
 }
 
 // The flags that each pair of types has. F's type is never above G's.
@@ -146,10 +162,13 @@ fn cell_place(turned: bool, at: usize) -> usize
     if turned { at % 3 * 3 + at / 3 } else { at }
 }
 
-// The flags that some cells are read off.
+// The flags that some cells are read off: of all nine all that the pair of types has, and then no cell is looked up.
 fn masks_of_cells(cells: u16, scene: Scene) -> FlagMasks
     ensures { result ≡ masks_for (Wanted.Cells cells) scene }
 {
+    if cells == EVERY_CELL {
+        return masks_of(scene.f.shape, scene.g.shape);
+    }
     let row = cell_masks(scene);
     let turned = scene.is_turned();
     let mut f: u16 = 0;

@@ -2,15 +2,16 @@
 use Rattle.scene.specs.declared.Reason.TheVariants.{StrayFlag}
 use Rattle.std.specs.Prelude.{Err, Ok}
 use Prim.Native.Nat.{ℕ}
-use mathlib.Core.Path.{◌≡◌, refl, sym, ap, ◌∙◌}
-use mathlib.Core.Bool.{true, false}
+use mathlib.Core.Path.{◌≡◌, refl, sym, ap, ap₂, ◌∙◌}
+use mathlib.Core.Bool.{Bool, true, false, not, ◌||◌, cond}
 use mathlib.Core.List.{List, [], ◌∷◌}
-use lib.Dec.{T}
+use lib.Bits.{and_zero_r, and_zero_l}
+use lib.Dec.{T, eqb}
 use Rattle.whole.proofs.Logic.{is_true, or_left, or_right}
 use Rattle.scene.specs.declared.Shape.{Shape}
 use Rattle.scene.specs.declared.Scene.{Scene}
 use Rattle.scene.specs.declared.Refusal.{Refusal}
-use Rattle.scene.specs.Read.{CheckedScene, read_scene, IsScene}
+use Rattle.scene.specs.Read.{CheckedScene, read_scene, IsScene, shape_number, turned}
 use Rattle.scene.specs.Conditions.{rule, scene_rules, check_scene_by, check_scene}
 use Rattle.check_verdict.specs.Refusals.{geometry_verdict}
 use Rattle.check_verdict.proofs.Laws.{SoundScene, sound_scene}
@@ -19,7 +20,8 @@ use Rattle.flags_vectors.specs.declared.Vectors.{Vectors}
 use Rattle.flags_vectors.specs.declared.SceneVectors.{SceneVectors}
 use Rattle.scene.proofs.Outcomes.{never_taken, same_taken, same_refusal}
 use Rattle.sweep_laws.specs.Noted.{Noted}
-use Rattle.flags.specs.Flags.{pack}
+use Rattle.flags.specs.Elements.{elements_of}
+use Rattle.flags.specs.Flags.{pack, flags_of_f, flags_of_g}
 use Rattle.flags_meetings.specs.declared.Meetings.{Meetings}
 use Rattle.flags_meetings.specs.Met.{meetings}
 use Rattle.flags_classes.specs.declared.Classes.{Classes}
@@ -30,7 +32,8 @@ use Rattle.flags_table.proofs.Theorem.{flags_of_f_lem, flags_of_g_lem}
 use Rattle.flags_table.proofs.ReadOff.{wanted_of_f, wanted_of_g}
 use Rattle.flags_masks.specs.declared.FlagMasks.{FlagMasks}
 use Rattle.flags_masks.specs.declared.Wanted.{Wanted}
-use Rattle.flags_masks.specs.Wanted.{masks_for, only, vector_of_f, vector_of_g}
+use Rattle.flags_masks.specs.Wanted.{mask_of_f, mask_of_g, is_nothing, masks_for, only, has_stray, vector_of_f, vector_of_g}
+use Rattle.flags_masks.proofs.Cells.{none_wanted}
 use Rattle.flags_masks.proofs.Masks.{none_stray}
 use Rattle.flags_vectors.specs.declared.question.MaskedScene.{MaskedScene}
 use Rattle.flags_vectors.specs.Vectors.{SceneAnswer, with_vectors, scene_vectors, given_vectors, vectors_in, asked, asked_of, stray_in, stray_wanted, vectors_rules, check_vectors, answered, answer_of}
@@ -160,3 +163,40 @@ module _ (wanted : Wanted) (tidy : (sc : Scene) → stray_in sc (masks_for wante
             let x : k ≡ sc = ap (λ (a : SceneVectors). a.scene) q in
             let y : vectors_in s k wanted ≡ v = ap (λ (a : SceneVectors). a.vectors) q in
             (ap Ok x, sym y ∙ ap (λ (k : Scene). vectors_in s k wanted) x)
+
+-- ---- where nothing is wanted: 9 finds nothing, and no flag is set
+
+unwanted : (all : ℕ) → has_stray all 0 ≡ false
+unfolding has_stray
+unwanted all = ap (λ v. not (eqb v 0)) (and_zero_l all)
+
+abbrev with_either : Bool → Vectors
+with_either b = record { f = cond b 0 0; g = cond b 0 0 }
+
+given_none : (sc : Scene) (f g : ℕ) → f ≡ 0 → g ≡ 0 → given_vectors sc (record { f = f; g = g }) ≡ record { f = 0; g = 0 }
+given_none sc f g e h = ap₂ (λ v w. given_vectors sc (record { f = v; g = w })) e h ∙ either (turned sc)
+  where
+    either : (b : Bool) → with_either b ≡ record { f = 0; g = 0 }
+    either true = refl
+    either false = refl
+
+module _ (wanted : Wanted) (none : is_nothing wanted ≡ true) where
+  none_tidy : (sc : Scene) → stray_in sc (masks_for wanted sc) ≡ false
+  none_tidy sc =
+      ap (stray_in sc) (none_wanted wanted none sc)
+      ∙ ap₂ ◌||◌ (unwanted (mask_of_f (shape_number sc.f.shape) (shape_number sc.g.shape))) (unwanted (mask_of_g (shape_number sc.f.shape) (shape_number sc.g.shape)))
+
+  module _ (s : List ℕ) where
+    unmasked : (sc : Scene) → vectors_in s sc wanted ≡ record { f = 0; g = 0 }
+    unfolding vector_of_f vector_of_g
+    unmasked sc =
+        ap (λ (m : FlagMasks). given_vectors sc (scene_vectors s sc m)) (none_wanted wanted none sc)
+        ∙ given_none sc _ _ (and_zero_r (pack (flags_of_f (elements_of s sc.f) (elements_of s sc.g)))) (and_zero_r (pack (flags_of_g (elements_of s sc.f) (elements_of s sc.g))))
+
+    pub none_refused : (r : Refusal) → check_scene s ≡ Err r → answer_of s wanted ≡ Err r
+    unfolding answer_of
+    none_refused r e = ap (answered s wanted) (never_nine wanted none_tidy s ∙ e)
+
+    pub none_taken : (sc : Scene) → check_scene s ≡ Ok sc → answer_of s wanted ≡ Ok (with_vectors sc (record { f = 0; g = 0 }))
+    unfolding answer_of
+    none_taken sc e = ap (answered s wanted) (never_nine wanted none_tidy s ∙ e) ∙ ap (λ (v : Vectors). Ok (with_vectors sc v)) (unmasked sc)

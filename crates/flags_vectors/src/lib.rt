@@ -10,6 +10,11 @@ pub struct Vectors {
     pub g: u16,
 }
 
+impl Vectors {
+    // No flag of either object.
+    pub const NONE: Vectors = Vectors { f: 0, g: 0 };
+}
+
 // With the scene that was read.
 #[derive(Clone, Copy)]
 pub struct SceneVectors {

@@ -1,12 +1,13 @@
 // The vectors question.
-ghost use Rattle.std.specs.Prelude.{◌≡◌, T, Ok, IfOk};
+ghost use Rattle.std.specs.Prelude.{◌≡◌, true, T, Ok, IfOk};
 ghost use Rattle.scene.specs.Conditions.{check_scene};
 ghost use Rattle.sweep_laws.specs.Noted.{Noted};
 ghost use Rattle.check_verdict.specs.SharedPoints.{CheckedMeans};
 ghost use Rattle.flags_meetings.specs.Met.{meetings};
 ghost use Rattle.flags_classes.specs.Classed.{classes_of_f, classes_of_g};
 ghost use Rattle.flags.specs.Flags.{pack};
-ghost use Rattle.flags_masks.specs.Wanted.{only};
+ghost use Rattle.flags_masks.specs.declared.Wanted.{Wanted};
+ghost use Rattle.flags_masks.specs.Wanted.{only, is_nothing};
 ghost use Rattle.flags_table.specs.Table.{flags_of_f_by, flags_of_g_by};
 ghost use Rattle.flags_table.specs.Walks.{reads_meetings, reads_classes};
 ghost use Rattle.flags_vectors.specs.Vectors.{scene_vectors, given_vectors, these, check_vectors, asked_of, answer_of, vectors_of, vectors_values, NoFlagWrong};
@@ -110,8 +111,21 @@ pub fn asked(s: &[u8], wanted: Wanted, notes: &mut Notes) -> Result<MaskedScene,
     Ok(MaskedScene { scene, masks })
 }
 
-// A scene and what is wanted: taken, with the scene and a vector for each object, or refused.
-pub fn answer(s: &[u8], wanted: Wanted) -> Result<SceneVectors, Refusal>
+// Where no flag is wanted: the scene's check, since 9 then finds nothing, and two vectors with no flag.
+fn unflagged(s: &[u8]) -> Result<SceneVectors, Refusal>
+    ensures { (wanted : Wanted) → is_nothing wanted ≡ true → result ≡ answer_of s.now wanted }
+{
+    let scene = check_verdict::check_scene(s)?;
+    Ok(SceneVectors {
+        scene,
+        vectors: Vectors::NONE,
+    })
+}
+
+// The answer where some flag is wanted.
+// Kept out of its caller: what it keeps of its walks on the stack is not laid out where none is walked.
+#[inline(never)]
+fn flagged(s: &[u8], wanted: Wanted) -> Result<SceneVectors, Refusal>
     ensures { result ≡ answer_of s.now wanted }
 {
     let mut notes = Notes::new();
@@ -123,6 +137,17 @@ pub fn answer(s: &[u8], wanted: Wanted) -> Result<SceneVectors, Refusal>
     };
     let vectors = as_given(scene, swept_vectors(noted, masks));
     Ok(SceneVectors { scene, vectors })
+}
+
+// A scene and what is wanted: taken, with the scene and a vector for each object, or refused.
+pub fn answer(s: &[u8], wanted: Wanted) -> Result<SceneVectors, Refusal>
+    ensures { result ≡ answer_of s.now wanted }
+{
+    if wanted.is_nothing() {
+        unflagged(s)
+    } else {
+        flagged(s, wanted)
+    }
 }
 
 // The vectors question: no flag is wrong, and what the verdict says in points.

@@ -181,6 +181,8 @@ pub fn beside_box(a: Point, b: Point, c: Point) -> Option<Turn>
 }
 
 // The turn where c may be one of the two.
+// Kept out of its callers, and the look at the box drawn into them: a turn that the box tells then costs no call, and few are not told by it.
+#[inline(never)]
 fn turn_by_ends(a: Point, b: Point, c: Point) -> Turn
     requires { InDoubledRange a b c }
     ensures { result ≡ turn a b c }
@@ -200,6 +202,7 @@ fn turn_by_ends(a: Point, b: Point, c: Point) -> Turn
 }
 
 // The turn at b of the path from a through b to c.
+#[inline(always)]
 pub fn turn_from(a: Point, b: Point, c: Point) -> Turn
     requires { InDoubledRange a b c }
     ensures { result ≡ turn a b c }
@@ -208,6 +211,7 @@ pub fn turn_from(a: Point, b: Point, c: Point) -> Turn
 }
 
 // Does it turn that way there?
+#[inline(always)]
 pub fn turns(a: Point, b: Point, c: Point, way: Turn) -> bool
     requires { InDoubledRange a b c }
     ensures { result ≡ turned way (side a b c) }

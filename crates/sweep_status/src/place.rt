@@ -32,40 +32,37 @@ fn is_over(u: Segment, p: Point) -> bool
     plane::turns(u.left, u.right, p, Turn::Right)
 }
 
-// Does it begin with t, and turn left into it?
-#[tactic(auto, using(plane::proofs::Compared::same_points))]
-fn is_turning(u: Segment, t: Segment) -> bool
-    requires { T (segment_in_range u) × T (segment_in_range t) }
-    ensures { result ≡ (is_same_point u.left t.left && passes_under u t.right) }
-{
-    u.left == t.left && is_under(u, t.right)
-}
-
-// Does it belong under t, which begins? Own: it is of the same object.
-#[tactic(auto, using(plane::proofs::Compared::same_segments))]
-fn is_under_beginning(u: Segment, t: Segment, own: bool) -> bool
-    requires { T (segment_in_range u) × T (segment_in_range t) }
-    ensures { result ≡ (passes_under u t.left || (is_same_point u.left t.left && passes_under u t.right) || (is_same_segment u t && not own)) }
-{
-    if is_under(u, t.left) {
-        return true;
-    }
-    if is_turning(u, t) {
-        return true;
-    }
-    u == t && !own
-}
-
 // Is it the lower of itself and t at the right?
+// Asked first is the one whose end lies within the width of the other: the box tells that, and of entries in order the answer is yes at once.
 #[tactic(auto, using(plane::proofs::Compared::same_points))]
 fn is_lower(u: Segment, t: Segment) -> bool
     requires { T (segment_in_range u) × T (segment_in_range t) }
     ensures { result ≡ lower_at_right u t }
 {
-    if is_under(u, t.right) {
+    if u.right == t.right {
         return true;
     }
-    is_over(t, u.right) || u.right == t.right
+    if t.right.x <= u.right.x {
+        is_under(u, t.right) || is_over(t, u.right)
+    } else {
+        is_over(t, u.right) || is_under(u, t.right)
+    }
+}
+
+// Does it belong under t, which begins, and is it the lower of the two at the right? Own: it is of the same object.
+// With a common left end one turn tells both.
+#[tactic(auto, using(plane::proofs::Compared::same_points, plane::proofs::Compared::same_segments))]
+fn is_lower_beginning(u: Segment, t: Segment, own: bool) -> bool
+    requires { T (segment_in_range u) × T (segment_in_range t) }
+    ensures { result ≡ ((passes_under u t.left || (is_same_point u.left t.left && passes_under u t.right) || (is_same_segment u t && not own)) && lower_at_right u t) }
+{
+    if u.left == t.left {
+        if u.right == t.right {
+            return !own;
+        }
+        return is_under(u, t.right);
+    }
+    is_under(u, t.left) && is_lower(u, t)
 }
 
 // ---- the entries
@@ -180,7 +177,7 @@ impl<'a> Entries<'a> {
         let own = first == owner::is_first(scene, self.offsets[k - 1] as usize);
         let u = self.segment(k - 1);
         let t = bytes::segment(self.bytes, at);
-        is_under_beginning(u, t, own) && is_lower(u, t)
+        is_lower_beginning(u, t, own)
     }
 
     // Is the segment that begins the lower of itself and the entry at place k at the right?

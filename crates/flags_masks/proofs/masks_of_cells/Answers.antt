@@ -5,8 +5,10 @@ use Rattle.scene.specs.declared.Scene.{Scene}
 use Rattle.scene.specs.Read.{turned}
 use Rattle.flags.proofs.Marks.{gathered_one, gathered_all}
 use Rattle.flags_masks.specs.declared.FlagMasks.{FlagMasks}
+use Rattle.flags_masks.specs.declared.Wanted.{Wanted}
 use Rattle.flags_masks.specs.Wanted.{entry_of, place_in, cell_masks_in, cell_masks_of, wanted_for_f, wanted_for_g, masks_for}
 use Rattle.std.proofs.Math.ListN.{get_or-map}
+use Rattle.flags_masks.proofs.Cells.{of_both, every_cell_is_all}
 use Rattle.flags_masks.proofs.masks_of_cells.Goals as goal
 use Rattle.flags_masks.proofs.masks_of_cells.Goals.{then-has_bit, else-has_bit}
 
@@ -39,6 +41,13 @@ loop-at-preserved c =
             g_is = gathered_one (wanted_for_g sc cells) 9 h.g_is c.loop-at-test.true (sym (ap (λ b. cond b (cell_masks_of sc at).1 0) not_asked)) (w.g-is ∙ sym (or_zero_r c.loop-at.g));
           }
     ]
+
+pub returns-then-cells-eq-EVERY_CELL : goal.returns-then-cells-eq-EVERY_CELL
+unfolding masks_for
+returns-then-cells-eq-EVERY_CELL c =
+    ap₂ of_both c.masks_of.ensures.0 c.masks_of.ensures.1
+    ∙ every_cell_is_all c.args.scene
+    ∙ ap (λ cells. masks_for (Wanted.Cells cells) c.args.scene) (sym c.if-cells-eq-EVERY_CELL.true)
 
 pub returns : goal.returns
 unfolding masks_for

@@ -3,7 +3,7 @@ use Rattle.std.proofs.Common.{◌∙◌, sym, ap}
 use Rattle.scene.proofs.Outcomes.{handed_on}
 use Rattle.flags_vectors.specs.Vectors.{given_vectors}
 use Rattle.flags_vectors.proofs.Answered.{refused, told}
-use Rattle.flags_vectors.proofs.question.answer.Goals as goal
+use Rattle.flags_vectors.proofs.question.flagged.Goals as goal
 
 pub returns-in_err-scene : goal.returns-in_err-scene
 returns-in_err-scene c =
