@@ -8,13 +8,13 @@ ghost use Rattle.split_cuts.specs.Split.{crosses_off, off_grid};
 use crate::{Segments, cuts};
 use plane::Segment;
 use scene_segments::Object;
-use split_crossing::Crossing;
+use split_crossing::{Crossing, Stepped};
 
-fn crosses_off(t: Segment, u: Segment) -> bool
-    requires { T (segment_in_range t) × T (ordered t) × T (segment_in_range u) × T (ordered u) }
-    ensures { result ≡ crosses_off t u }
+fn crosses_off(t: Stepped, u: Segment) -> bool
+    requires { T (ordered t.segment) × T (segment_in_range u) × T (ordered u) }
+    ensures { result ≡ crosses_off t.segment u }
 {
-    !cuts::are_clear(t, u) && split_crossing::crossing_of(t, u) == Crossing::OffGrid
+    !cuts::are_clear(t.segment, u) && t.crossing_of(u) == Crossing::OffGrid
 }
 
 impl<'a> Segments<'a> {
@@ -23,8 +23,9 @@ impl<'a> Segments<'a> {
         requires { T (segment_in_range t) × T (ordered t) }
         ensures { result ≡ some (crosses_off t) (segments_of self.entry.list.now) }
     {
+        let steps = Stepped::of(t);
         for &u in self.list {
-            if crosses_off(t, u.segment) {
+            if crosses_off(steps, u.segment) {
                 return true;
             }
         }
