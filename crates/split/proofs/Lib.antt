@@ -7,3 +7,4 @@ pub mod Judged
 pub mod Cutting
 pub mod Pieces
 pub mod Answered
+pub mod Joined

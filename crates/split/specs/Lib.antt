@@ -3,3 +3,4 @@ pub mod Split
 pub mod Cut
 pub mod Promised
 pub mod Examples
+pub mod Joined
