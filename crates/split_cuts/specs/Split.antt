@@ -16,10 +16,6 @@ use Rattle.split_cuts.specs.declared.Piece.{Piece}
 
 -- ---- the pieces
 
--- c, if it comes after p and before q, or q
-abbrev pub closer : Point → Point → Point → Point
-closer c p q = cond (before p c && before c q) c q
-
 abbrev pub with_ia : Bool → List Segment → List Piece
 with_ia ia = map (λ t. record { segment = t; ia = ia })
 

@@ -1,7 +1,8 @@
 // The cuts of a segment by the segments of another object: their ends strictly inside it, and where they cross it.
-ghost use Rattle.std.specs.Prelude.{◌≡◌, ◌+◌, ◌≤◌, true, false, ◌++◌, T};
+ghost use Rattle.std.specs.Prelude.{◌≡◌, ◌+◌, ◌≤◌, ◌&&◌, ◌||◌, true, [], ◌++◌, T, pos};
+ghost use Rattle.std.specs.Int.Signed.{lt_z};
 ghost use Rattle.arrayvec.specs.ArrayVec.{array_vec_len};
-ghost use Rattle.plane.specs.Plane.{in_range, segment_in_range, ordered, end_within, touch};
+ghost use Rattle.plane.specs.Plane.{in_range, segment_in_range, ordered, end_within};
 ghost use Rattle.split_crossing.specs.Crossing.{crossing_of};
 ghost use Rattle.split_crossing.specs.Cuts.{point_if, crossing_point, cuts_by, cuts};
 ghost use Rattle.split_cuts.specs.Listed.{segments_of};
@@ -44,21 +45,31 @@ fn put_crossing(found: &mut Cuts, t: Stepped, u: Segment)
     }
 }
 
-// Does one of them end left of where the other begins?
-pub fn are_clear(t: Segment, u: Segment) -> bool
-    requires { T (ordered t) × T (ordered u) }
-    ensures { result ≡ true → touch t u ≡ false }
+// Are both below zero, or both above?
+fn are_alike(a: i64, b: i64) -> bool
+    ensures { result ≡ ((lt_z a (pos 0) && lt_z b (pos 0)) || (lt_z (pos 0) a && lt_z (pos 0) b)) }
 {
-    t.right.x < u.left.x || u.right.x < t.left.x
+    (a < 0 && b < 0) || (0 < a && 0 < b)
+}
+
+// Do both ends of u lie strictly on one side of the line of t?
+fn is_beside(t: Segment, u: Segment) -> bool
+    requires { T (segment_in_range t) × T (segment_in_range u) }
+    ensures { result ≡ true → cuts_by t u ≡ [] }
+{
+    are_alike(
+        plane::side(t.left, t.right, u.left),
+        plane::side(t.left, t.right, u.right),
+    )
 }
 
 // Puts all cuts of t by u to them.
 #[tactic(auto, unfolding(split_crossing::specs::Cuts::cuts_by), using(crate::proofs::Steps::three_lists))]
 fn put_cuts(found: &mut Cuts, t: Stepped, u: Segment)
-    requires { T (ordered t.segment) × T (segment_in_range u) × T (ordered u) × (array_vec_len found.old + 3 ≤ 3072) }
+    requires { T (segment_in_range u) × (array_vec_len found.old + 3 ≤ 3072) }
     ensures { found.new.items ≡ found.old.items ++ cuts_by t.segment u }
 {
-    if are_clear(t.segment, u) {
+    if is_beside(t.segment, u) {
         return;
     }
     put_end(found, t.segment, u.left);

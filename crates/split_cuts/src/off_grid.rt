@@ -5,16 +5,16 @@ ghost use Rattle.plane.specs.Plane.{segment_in_range, ordered};
 ghost use Rattle.split_cuts.specs.Listed.{segments_of};
 ghost use Rattle.split_cuts.specs.Split.{crosses_off, off_grid};
 
-use crate::{Segments, cuts};
+use crate::Segments;
 use plane::Segment;
 use scene_segments::Object;
 use split_crossing::{Crossing, Stepped};
 
 fn crosses_off(t: Stepped, u: Segment) -> bool
-    requires { T (ordered t.segment) × T (segment_in_range u) × T (ordered u) }
+    requires { T (segment_in_range u) }
     ensures { result ≡ crosses_off t.segment u }
 {
-    !cuts::are_clear(t.segment, u) && t.crossing_of(u) == Crossing::OffGrid
+    t.crossing_of(u) == Crossing::OffGrid
 }
 
 impl<'a> Segments<'a> {
