@@ -1,9 +1,10 @@
 -- A point strictly inside a segment is on its line, after its left end and before its right; so a segment beside that line cuts nowhere.
 use mathlib.Core.Path.{◌≡◌, refl, sym, ap, ap₂, ◌∙◌, subst}
 use Prim.Native.Nat.{zero, suc, ◌+◌}
-use Rattle.std.proofs.Common.{rules}
+use Rattle.std.proofs.Common.{rules, append_assoc}
+use Rattle.std.proofs.lemmas.List.{append-nil}
 use mathlib.Core.Bool.{Bool, true, false, not, ◌&&◌, ◌||◌, cond, false≢true}
-use mathlib.Core.List.{[], ◌++◌}
+use mathlib.Core.List.{List, [], ◌++◌}
 use mathlib.Core.Logic.{◌⊎◌, inl, inr}
 use lib.Dec.{T}
 use lib.IntN.{ℤ, pos, negsuc}
@@ -75,14 +76,41 @@ same (negsuc m) (pos zero) e = absurd (false≢true (search rules))
 same (negsuc m) (pos (suc n)) e = absurd (false≢true (search rules))
 same (negsuc m) (negsuc n) e = record { first = search rules; second = search rules; together = search rules }
 
+off : (t : Segment) (c : Point) → eq_z (side t.left t.right c) (pos 0) ≡ false → end_within t c ≡ false
+off t c f = sym (inside_is t c) ∙ ap (λ b. b && before t.left c && before c t.right) f
+
 pub beside_no_cuts : (t u : Segment) → alike (side t.left t.right u.left) (side t.left t.right u.right) ≡ true → cuts_by t u ≡ []
 unfolding cuts_by crossing_of cross
 beside_no_cuts t u e =
-    ap₂ (λ a b. point_if a u.left ++ b) (off u.left w.first)
-    (ap₂ (λ a c. point_if a u.right ++ crossing_point (cond (c && opposite (side u.left u.right t.left) (side u.left u.right t.right)) (crossing_of_point (placed_on t (size_left t u) (size_left t u + size_right t u))) Apart)) (off u.right w.second) w.together)
+    ap₂ (λ a b. point_if a u.left ++ b) (off t u.left w.first)
+    (ap₂ (λ a c. point_if a u.right ++ crossing_point (cond (c && opposite (side u.left u.right t.left) (side u.left u.right t.right)) (crossing_of_point (placed_on t (size_left t u) (size_left t u + size_right t u))) Apart)) (off t u.right w.second) w.together)
   where
     w : Same (side t.left t.right u.left) (side t.left t.right u.right)
     w = same (side t.left t.right u.left) (side t.left t.right u.right) e
 
-    off : (c : Point) → eq_z (side t.left t.right c) (pos 0) ≡ false → end_within t c ≡ false
-    off c f = sym (inside_is t c) ∙ ap (λ b. b && before t.left c && before c t.right) f
+-- ---- on both sides, or neither
+
+-- neither is zero
+apart_of : (a b : ℤ) → opposite a b ≡ true → (eq_z a (pos 0) ≡ false) × (eq_z b (pos 0) ≡ false)
+unfolding opposite
+apart_of (pos zero) b e = absurd (false≢true (search rules))
+apart_of (pos (suc m)) (pos n) e = absurd (false≢true (search rules))
+apart_of (pos (suc m)) (negsuc n) e = (search rules, search rules)
+apart_of (negsuc m) (pos zero) e = absurd (false≢true (search rules))
+apart_of (negsuc m) (pos (suc n)) e = (search rules, search rules)
+apart_of (negsuc m) (negsuc n) e = absurd (false≢true (search rules))
+
+pub across_cuts : (t u : Segment) → opposite (side t.left t.right u.left) (side t.left t.right u.right) ≡ true → cuts_by t u ≡ crossing_point (crossing_of t u)
+unfolding cuts_by
+across_cuts t u e =
+    let w = apart_of (side t.left t.right u.left) (side t.left t.right u.right) e in
+    ap₂ (λ a b. point_if a u.left ++ (point_if b u.right ++ crossing_point (crossing_of t u))) (off t u.left w.0) (off t u.right w.1)
+
+pub level_cuts : (t u : Segment) → opposite (side t.left t.right u.left) (side t.left t.right u.right) ≡ false
+    → (before : List Point) → (before ++ point_if (end_within t u.left) u.left) ++ point_if (end_within t u.right) u.right ≡ before ++ cuts_by t u
+unfolding cuts_by crossing_of cross
+level_cuts t u e before =
+    append_assoc before (point_if (end_within t u.left) u.left) (point_if (end_within t u.right) u.right)
+    ∙ ap (λ l. before ++ (point_if (end_within t u.left) u.left ++ l))
+    (sym (append-nil (point_if (end_within t u.right) u.right))
+    ∙ ap (λ c. point_if (end_within t u.right) u.right ++ crossing_point (cond (c && opposite (side u.left u.right t.left) (side u.left u.right t.right)) (crossing_of_point (placed_on t (size_left t u) (size_left t u + size_right t u))) Apart)) (sym e))

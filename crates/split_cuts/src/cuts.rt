@@ -63,8 +63,7 @@ fn is_beside(t: Segment, u: Segment) -> bool
     )
 }
 
-// Puts all cuts of t by u to them.
-#[tactic(auto, unfolding(split_crossing::specs::Cuts::cuts_by), using(crate::proofs::Steps::three_lists))]
+// Puts all cuts of t by u to them: none where u is beside t, where they cross if its ends are on both sides, and else an end on the line of t.
 fn put_cuts(found: &mut Cuts, t: Stepped, u: Segment)
     requires { T (segment_in_range u) × (array_vec_len found.old + 3 ≤ 3072) }
     ensures { found.new.items ≡ found.old.items ++ cuts_by t.segment u }
@@ -72,9 +71,12 @@ fn put_cuts(found: &mut Cuts, t: Stepped, u: Segment)
     if is_beside(t.segment, u) {
         return;
     }
-    put_end(found, t.segment, u.left);
-    put_end(found, t.segment, u.right);
-    put_crossing(found, t, u);
+    if split_crossing::separates(t.segment, u.left, u.right) {
+        put_crossing(found, t, u);
+    } else {
+        put_end(found, t.segment, u.left);
+        put_end(found, t.segment, u.right);
+    }
 }
 
 impl<'a> Segments<'a> {
