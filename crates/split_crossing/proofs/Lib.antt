@@ -3,6 +3,7 @@ pub mod Proportion
 pub mod Crossings
 pub mod Divided
 pub mod Stepping
+pub mod Reached
 pub mod Cutting
 pub mod Range
 pub mod SplitWell

@@ -4,7 +4,7 @@
 ghost use Rattle.std.specs.Prelude.{◌≡◌, ◌*◌, ◌≤◌, T, ℕ, pos, nat_abs, ◌+ℤ◌, ◌-ℤ◌, ◌*ℤ◌};
 ghost use Rattle.std.specs.Int.{IsGcd};
 ghost use Rattle.plane.specs.Plane.{limit, in_range, segment_in_range, ordered, side, opposite, cross};
-ghost use Rattle.split_crossing.specs.Crossing.{steps_from, crossing_of, CrossingMeans};
+ghost use Rattle.split_crossing.specs.Crossing.{steps_from, crossing_of, crosses_off, CrossingMeans};
 ghost use Rattle.split_crossing.specs.Steps.{InSteps, reached};
 
 use plane::{Point, Segment};
@@ -149,5 +149,17 @@ impl Stepped {
             return Crossing::OffGrid;
         }
         Crossing::At(self.reached((before / change) as u32))
+    }
+    // Does it cross t off the grid?
+    // Kept beside `crossing_of`, which says where: this is asked of each pair of two objects, and stands in that loop with no call and no point.
+    pub fn crosses_off(self, t: Segment) -> bool
+        requires { T (segment_in_range t) }
+        ensures { result ≡ crosses_off self.segment t }
+    {
+        if !crosses(self.segment, t) {
+            return false;
+        }
+        let before = side_size(t, self.segment.left);
+        before % side_change(t, self.segment.left, self.next) != 0
     }
 }

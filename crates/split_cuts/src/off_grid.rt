@@ -8,14 +8,7 @@ ghost use Rattle.split_cuts.specs.Split.{crosses_off, off_grid};
 use crate::Segments;
 use plane::Segment;
 use scene_segments::Object;
-use split_crossing::{Crossing, Stepped};
-
-fn crosses_off(t: Stepped, u: Segment) -> bool
-    requires { T (segment_in_range u) }
-    ensures { result ≡ crosses_off t.segment u }
-{
-    t.crossing_of(u) == Crossing::OffGrid
-}
+use split_crossing::Stepped;
 
 impl<'a> Segments<'a> {
     // Does t cross one of them off the grid?
@@ -25,7 +18,7 @@ impl<'a> Segments<'a> {
     {
         let steps = Stepped::of(t);
         for &u in self.list {
-            if crosses_off(steps, u.segment) {
+            if steps.crosses_off(u.segment) {
                 return true;
             }
         }
