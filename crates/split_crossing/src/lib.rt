@@ -74,7 +74,7 @@ fn are_opposite(a: i64, b: i64) -> bool
 
 // Does the line of t have p and q strictly on opposite sides?
 // Kept beside `crosses` of `plane_segments`, whose turns are of 32-bit products: here the side values themselves are wanted, and most pairs are told apart by two of them.
-pub fn separates(t: Segment, p: Point, q: Point) -> bool
+fn separates(t: Segment, p: Point, q: Point) -> bool
     requires { T (segment_in_range t) × T (in_range p) × T (in_range q) }
     ensures { result ≡ opposite (side t.left t.right p) (side t.left t.right q) }
 {

@@ -19,6 +19,9 @@ use Rattle.split_cuts.specs.Listed.{segments_of}
 use Rattle.split_cuts.specs.Split.{with_ia, split_pieces, most_pieces}
 use Rattle.split_cuts.proofs.Listing.{no_piece}
 
+pub three_lists : {A : Type 0} (a b c d : List A) → ((a ++ b) ++ c) ++ d ≡ a ++ (b ++ (c ++ d))
+three_lists a b c d = append_assoc (a ++ b) c d ∙ append_assoc a b (c ++ d)
+
 -- ---- three cuts at most by one segment
 
 one_point : (b : Bool) (p : Point) → length (point_if b p) ≤ 1

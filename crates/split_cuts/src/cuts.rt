@@ -1,6 +1,5 @@
 // The cuts of a segment by the segments of another object: their ends strictly inside it, and where they cross it.
-ghost use Rattle.std.specs.Prelude.{◌≡◌, ◌+◌, ◌≤◌, ◌&&◌, ◌||◌, true, [], ◌++◌, T, pos};
-ghost use Rattle.std.specs.Int.Signed.{lt_z};
+ghost use Rattle.std.specs.Prelude.{◌≡◌, ◌+◌, ◌≤◌, ◌++◌, T};
 ghost use Rattle.arrayvec.specs.ArrayVec.{array_vec_len};
 ghost use Rattle.plane.specs.Plane.{in_range, segment_in_range, ordered, end_within};
 ghost use Rattle.split_crossing.specs.Crossing.{crossing_of};
@@ -45,38 +44,16 @@ fn put_crossing(found: &mut Cuts, t: Stepped, u: Segment)
     }
 }
 
-// Are both below zero, or both above?
-fn are_alike(a: i64, b: i64) -> bool
-    ensures { result ≡ ((lt_z a (pos 0) && lt_z b (pos 0)) || (lt_z (pos 0) a && lt_z (pos 0) b)) }
-{
-    (a < 0 && b < 0) || (0 < a && 0 < b)
-}
-
-// Do both ends of u lie strictly on one side of the line of t?
-fn is_beside(t: Segment, u: Segment) -> bool
-    requires { T (segment_in_range t) × T (segment_in_range u) }
-    ensures { result ≡ true → cuts_by t u ≡ [] }
-{
-    are_alike(
-        plane::side(t.left, t.right, u.left),
-        plane::side(t.left, t.right, u.right),
-    )
-}
-
-// Puts all cuts of t by u to them: none where u is beside t, where they cross if its ends are on both sides, and else an end on the line of t.
+// Puts all cuts of t by u to them.
+// Kept with no quick test before: for nearly all pairs the two side values of put_end say it, and with one more test the loop was slower.
+#[tactic(auto, unfolding(split_crossing::specs::Cuts::cuts_by), using(crate::proofs::Steps::three_lists))]
 fn put_cuts(found: &mut Cuts, t: Stepped, u: Segment)
     requires { T (segment_in_range u) × (array_vec_len found.old + 3 ≤ 3072) }
     ensures { found.new.items ≡ found.old.items ++ cuts_by t.segment u }
 {
-    if is_beside(t.segment, u) {
-        return;
-    }
-    if split_crossing::separates(t.segment, u.left, u.right) {
-        put_crossing(found, t, u);
-    } else {
-        put_end(found, t.segment, u.left);
-        put_end(found, t.segment, u.right);
-    }
+    put_end(found, t.segment, u.left);
+    put_end(found, t.segment, u.right);
+    put_crossing(found, t, u);
 }
 
 impl<'a> Segments<'a> {
