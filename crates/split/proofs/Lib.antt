@@ -8,3 +8,5 @@ pub mod Cutting
 pub mod Pieces
 pub mod Answered
 pub mod Joined
+pub mod CrossedRecords
+pub mod Nineteen
