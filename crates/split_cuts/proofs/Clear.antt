@@ -7,7 +7,7 @@ use mathlib.Core.List.{[], ◌++◌}
 use lib.Dec.{T, T_not}
 use Rattle.std.specs.Int.Signed.{lt_z}
 use Rattle.whole.proofs.Logic.{and_right, and_make, is_true, refute}
-use Rattle.whole.proofs.Sign.{one_pos}
+use Rattle.whole.proofs.Sign.{one_pos, lt_z_pos}
 use Rattle.plane.specs.declared.Point.{Point}
 use Rattle.plane.specs.declared.Segment.{Segment}
 use Rattle.plane.specs.Plane.{HPoint, SharePoint, fractions, ordered, cross, end_within, touch, grid, is_end, on}
@@ -17,7 +17,7 @@ use Rattle.plane.proofs.Scale.{fractions_pos}
 use Rattle.plane.proofs.Touch.{opposite_differ, cross_read, cross_shares}
 use Rattle.plane.proofs.AlongSegment.{Apart}
 use Rattle.plane.proofs.Accepted.{apart_from_touch}
-use Rattle.scene_segments.proofs.Parted.{left_line, right_line}
+use Rattle.scene_segments.proofs.Parted.{left_line, right_line, parted_across}
 use Rattle.split_pieces.specs.Pieces.{EndPoint}
 use Rattle.split_pieces.proofs.Chain.{inside_along}
 use Rattle.split_pieces.proofs.Pair.{end_of, end_on_it}
@@ -74,3 +74,11 @@ module _ (t u : Segment) (o : T (ordered t)) (v : T (ordered u)) (f : touch t u 
 
   pub not_off : crosses_off t u ≡ false
   not_off = ap is_off apart
+
+-- t ends left of where u begins
+pub beyond_clear : (t u : Segment) → T (ordered t) → T (ordered u) → lt_z t.right.x u.left.x ≡ true → touch t u ≡ false
+beyond_clear t u o v e = (parted_across t u o v (lt_z_pos t.right.x u.left.x (is_true (lt_z t.right.x u.left.x) e))).0
+
+-- t begins right of where u ends
+pub before_clear : (t u : Segment) → T (ordered t) → T (ordered u) → lt_z u.right.x t.left.x ≡ true → touch t u ≡ false
+before_clear t u o v e = (parted_across u t v o (lt_z_pos u.right.x t.left.x (is_true (lt_z u.right.x t.left.x) e))).1

@@ -1,7 +1,7 @@
 // The cuts of a segment by the segments of another object: their ends strictly inside it, and where they cross it.
-ghost use Rattle.std.specs.Prelude.{◌≡◌, ◌+◌, ◌≤◌, ◌++◌, T};
+ghost use Rattle.std.specs.Prelude.{◌≡◌, ◌+◌, ◌≤◌, true, false, ◌++◌, T};
 ghost use Rattle.arrayvec.specs.ArrayVec.{array_vec_len};
-ghost use Rattle.plane.specs.Plane.{in_range, segment_in_range, ordered, end_within};
+ghost use Rattle.plane.specs.Plane.{in_range, segment_in_range, ordered, end_within, touch};
 ghost use Rattle.split_crossing.specs.Crossing.{crossing_of};
 ghost use Rattle.split_crossing.specs.Cuts.{point_if, crossing_point, cuts_by, cuts};
 ghost use Rattle.split_cuts.specs.Listed.{segments_of};
@@ -44,13 +44,24 @@ fn put_crossing(found: &mut Cuts, t: Stepped, u: Segment)
     }
 }
 
+// Does one of them end left of where the other begins?
+fn are_clear(t: Segment, u: Segment) -> bool
+    requires { T (ordered t) × T (ordered u) }
+    ensures { result ≡ true → touch t u ≡ false }
+{
+    t.right.x < u.left.x || u.right.x < t.left.x
+}
+
 // Puts all cuts of t by u to them.
-// Kept with no quick test before: for nearly all pairs the two side values of put_end say it, and with one more test the loop was slower.
+// Kept with no other quick test before: of the pairs that are not clear, the two side values of put_end tell nearly all, and with one more test the loop was slower.
 #[tactic(auto, unfolding(split_crossing::specs::Cuts::cuts_by), using(crate::proofs::Steps::three_lists))]
 fn put_cuts(found: &mut Cuts, t: Stepped, u: Segment)
-    requires { T (segment_in_range u) × (array_vec_len found.old + 3 ≤ 3072) }
+    requires { T (ordered t.segment) × T (segment_in_range u) × T (ordered u) × (array_vec_len found.old + 3 ≤ 3072) }
     ensures { found.new.items ≡ found.old.items ++ cuts_by t.segment u }
 {
+    if are_clear(t.segment, u) {
+        return;
+    }
     put_end(found, t.segment, u.left);
     put_end(found, t.segment, u.right);
     put_crossing(found, t, u);

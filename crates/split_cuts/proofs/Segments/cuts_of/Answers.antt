@@ -1,4 +1,5 @@
-use Rattle.std.proofs.Common.{arith, ap, ◌∙◌, ◌++◌, ◌+◌, drop, length, length-append, get_or}
+use Rattle.std.proofs.Common.{arith, ap, sym, subst, T, ◌∙◌, ◌++◌, ◌+◌, drop, length, length-append, get_or}
+use Rattle.plane.specs.Plane.{ordered}
 use Rattle.split_crossing.specs.Cuts.{cuts_by, cuts}
 use Rattle.split_cuts.specs.Listed.{segments_of}
 use Rattle.split_cuts.proofs.Listing.{no_piece, good_at}
@@ -8,7 +9,7 @@ use Rattle.split_cuts.proofs.Segments.cuts_of.Goals as goal
 pub put_cuts-requires : goal.put_cuts-requires
 put_cuts-requires c =
     let g = good_at c.args.self.list.now c.args.self.good c.loop-u.u-index c.loop-u-test.true in
-    (g.0, omega (arith, c.loop-u.invariant.room, c.args.self.few))
+    (subst (λ t. T (ordered t)) (sym c.of-steps.ensures) c.requires.1, g.0, g.1, omega (arith, c.loop-u.invariant.room, c.args.self.few))
 
 pub loop-u-preserved : goal.loop-u-preserved
 loop-u-preserved c =
