@@ -1,27 +1,25 @@
 -- 19 in points: the earliest record by the test on whole numbers is the earliest whose segment crosses at a point off the grid.
-use Rattle.std.specs.Prelude.{Err, None, Ok, Some}
-use Rattle.scene.specs.Read.{Fault}
+use Rattle.std.specs.Prelude.{None, Some}
 use Prim.Native.Nat.{ℕ, zero, suc, ◌+◌, ◌<◌, ◌≤◌}
 use native.Mathlib.Nat.{eq-or-lt_of_le}
 use native.Mathlib.Omega.{arith}
 use mathlib.Core.Path.{◌≡◌, refl, sym, ap, subst, ◌∙◌}
 use mathlib.Core.Logic.{⊎_elim}
-use mathlib.Core.Bool.{Bool, true, false, not, ◌&&◌, cond, true≢false}
+use mathlib.Core.Bool.{Bool, true, false, not, cond, true≢false}
 use mathlib.Core.List.{List}
 use lib.Dec.{T, T_not, not_T}
 use Rattle.whole.specs.Count.{◌∈◌, some}
 use Rattle.whole.proofs.Logic.{and_left, and_right, and_make, is_true, true_is, some_find, some_make}
-use Rattle.plane.specs.declared.Point.{Point}
 use Rattle.plane.specs.declared.Segment.{Segment}
-use Rattle.plane.specs.Plane.{HPoint, SharePoint, fractions, grid, on, is_at, is_end, cross, ordered}
-use Rattle.plane.proofs.OnSegment.{Ordered, ordered_read, on_along, on_line}
+use Rattle.plane.specs.Plane.{HPoint, SharePoint, fractions, on, is_end, cross, ordered}
+use Rattle.plane.proofs.OnSegment.{ordered_read, on_along, on_line}
 use Rattle.plane.proofs.Means.{end_read}
 use Rattle.plane.proofs.Scale.{on_scale, fractions_pos}
 use Rattle.plane.proofs.Touch.{at_grid, cross_read, cross_shares}
 use Rattle.split_pieces.proofs.Pair.{off_ends}
 use Rattle.scene.specs.declared.Layout.{Layout}
 use Rattle.scene.specs.Read.{place}
-use Rattle.scene.specs.Conditions.{indices, elements, has_segments, half, left_test, segments, earliest}
+use Rattle.scene.specs.Conditions.{indices, has_segments, half, left_test, earliest}
 use Rattle.scene.proofs.Indices.{not_nothing, none_wrong}
 use Rattle.scene_segments.proofs.Elements.{half_good}
 use Rattle.scene_segments.proofs.Partners.{partner_there}
@@ -32,7 +30,7 @@ use Rattle.split_crossing.specs.declared.Crossing.TheVariants.{Apart, OffGrid, A
 use Rattle.split_crossing.specs.Crossing.{crossing_of, is_off, crosses_off, CrossOffGrid, CrossingMeans}
 use Rattle.split_crossing.proofs.Crossings.{crossing_means}
 use Rattle.split_cuts.specs.Split.{is_off_grid, off_grid}
-use Rattle.split.specs.OffGrid.{CrossAtFraction, CrossedAtFraction, CrossedRecord, EarliestCrossed, NoneCrossed}
+use Rattle.split.specs.OffGrid.{CrossAtFraction, CrossedRecord, EarliestCrossed, NoneCrossed}
 
 -- ---- two segments
 

@@ -10,7 +10,6 @@ use mathlib.Core.List.{List, [], ◌∷◌, ◌++◌, map}
 use Rattle.std.proofs.Common.{take, drop}
 use Rattle.std.proofs.lemmas.List.{take-append-drop, length-take-le}
 use lib.ListN.{length, length-append}
-use lib.Dec.{ltb}
 use borrow.Author.Tests.{lt-ltb, le-ltb}
 use Rattle.whole.specs.Count.{◌∈◌, here, there}
 use Rattle.scene.specs.declared.Layout.{Layout}
@@ -18,7 +17,7 @@ use Rattle.scene.specs.declared.Scene.{Scene}
 use Rattle.scene.specs.declared.Refusal.{Refusal}
 use Rattle.scene.specs.declared.Reason.TheVariants.{Flawed}
 use Rattle.scene.specs.declared.Flaw.TheVariants.{Misplaced, Unpaired, Touching, OddEnd, WrongIa}
-use Rattle.scene.specs.Read.{place, size, after, number_of, decide, given_first, given_second, read_object, read_alone, read_scene}
+use Rattle.scene.specs.Read.{place, number_of, decide, given_first, given_second, read_object, read_alone, read_scene}
 use Rattle.scene.specs.Conditions.{Rule, rule, conditions, object_rules, or_else, over_both, elements, earliest, out_of_order, unpaired, touching, touching_itself, odd_end, wrong_ia, check_object}
 use Rattle.scene.proofs.Taken.{TakenScene, taken_alone, taken_scene}
 use Rattle.scene.proofs.Moved.{moved, moved_fault, unmoved_fault, room_for}

@@ -10,12 +10,12 @@ use mathlib.Core.List.{List}
 use Rattle.whole.proofs.Logic.{true_is}
 use Rattle.scene.specs.declared.Scene.{Scene}
 use Rattle.scene.specs.declared.Reason.TheVariants.{OffGrid, TooManyElements, NoRoom}
-use Rattle.scene.specs.Read.{CheckedScene, decide, judge, given_first, given_second}
-use Rattle.scene.specs.Conditions.{has_segments, segments, conditions}
+use Rattle.scene.specs.Read.{decide, given_first, given_second}
+use Rattle.scene.specs.Conditions.{has_segments, segments}
 use Rattle.sweep_laws.proofs.SoundObject.{SoundObject, all_ordered}
 use Rattle.split_cuts.specs.Split.{off_grid}
-use Rattle.split.specs.Split.{is_copied, are_too_many, is_too_short, own_rules, check_raw, check_split}
-use Rattle.split.specs.OffGrid.{CrossedRecord, NoneOff, OffGridSays, OffGridMeans}
+use Rattle.split.specs.Split.{is_copied, are_too_many, is_too_short, check_raw}
+use Rattle.split.specs.OffGrid.{NoneOff, OffGridSays, OffGridMeans}
 use Rattle.split.proofs.Given.{both_sound, one_false, none_in}
 use Rattle.split.proofs.Judged.{with_own, split_after}
 use Rattle.split.proofs.CrossedRecords.{none_crossed, earliest_crossed}

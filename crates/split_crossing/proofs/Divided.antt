@@ -1,9 +1,8 @@
 -- A segment in as many steps as the greatest common divisor of the way across and the way up: each is a whole way, and so each end of one a grid point.
-use Prim.Native.Nat.{ℕ, zero, suc, ◌+◌, ◌*◌, ◌/◌, ◌%◌, ◌<◌, ◌≤◌, ◌∣◌}
+use Prim.Native.Nat.{ℕ, zero, suc, ◌*◌, ◌/◌, ◌<◌, ◌≤◌, ◌∣◌}
 use native.Mathlib.Omega.{arith}
 use native.Mathlib.Nat.{mul-one, div-add-mod', div-le_self, le_of_dvd, dvd_of_mod-eq-zero, mod-eq-zero_of_dvd}
-use mathlib.Core.Path.{◌≡◌, refl, sym, ap, ap₂, ◌∙◌, subst}
-use mathlib.Core.Logic.{◌⊎◌, inl, inr}
+use mathlib.Core.Path.{◌≡◌, sym, ap, ap₂, ◌∙◌, subst}
 use mathlib.Core.List.{[], ◌∷◌}
 use lib.Dec.{T}
 use lib.IntN.{ℤ, pos, nat_abs, ◌+ℤ◌, ◌-ℤ◌, ◌*ℤ◌}
@@ -11,9 +10,8 @@ use Rattle.std.specs.Int.{IsGcd}
 use Rattle.whole.proofs.Balance.{pos_P, pos_N}
 use Rattle.whole.proofs.Solver.{var, con, ◌:+◌, ◌:-◌, ◌:*◌, solve}
 use Rattle.whole.proofs.Sign.{Pos, lit_pos, lit_nonneg}
-use Rattle.plane.specs.declared.Point.{Point}
 use Rattle.plane.specs.declared.Segment.{Segment}
-use Rattle.plane.specs.Plane.{limit, in_range, segment_in_range, ordered}
+use Rattle.plane.specs.Plane.{limit, segment_in_range, ordered}
 use Rattle.plane.proofs.Machine.{nat_abs_difference, within_x, within_y, is_within, left_in_range, right_in_range}
 use Rattle.plane.proofs.OnSegment.{Ordered, slanting, upright, ordered_read}
 use Rattle.split_crossing.specs.Crossing.{steps_from}

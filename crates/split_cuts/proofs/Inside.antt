@@ -1,5 +1,5 @@
 -- A point strictly inside a segment is on its line, after its left end and before its right.
-use mathlib.Core.Path.{◌≡◌, refl, sym, ap, ap₂, ◌∙◌, subst}
+use mathlib.Core.Path.{◌≡◌, refl, sym, ap₂, ◌∙◌, subst}
 use mathlib.Core.Bool.{Bool, true, false, not, ◌&&◌, ◌||◌}
 use mathlib.Core.Logic.{◌⊎◌, inl, inr}
 use lib.Dec.{T}
@@ -8,7 +8,7 @@ use Rattle.whole.specs.Count.{eq_z}
 use Rattle.whole.proofs.Logic.{true_is, refute}
 use Rattle.plane.specs.declared.Point.{Point}
 use Rattle.plane.specs.declared.Segment.{Segment}
-use Rattle.plane.specs.Plane.{grid, before, is_same_point, side, on, is_end, end_within}
+use Rattle.plane.specs.Plane.{before, is_same_point, side, end_within}
 use Rattle.plane.proofs.Grid.{on_by_side, end_grid}
 use Rattle.plane.proofs.Order.{before_irreflexive, before_trans, before_cases}
 use Rattle.plane.proofs.Equal.{same_point_read, same_point_refl}

@@ -1,5 +1,4 @@
-use Rattle.std.proofs.Common.{ℕ, ◌*◌, ◌≡◌, arith, subst}
-use Rattle.std.specs.Int.{IsGcd}
+use Rattle.std.proofs.Common.{◌*◌, arith}
 use Rattle.std.proofs.lemmas.Nat.Gcd.{IsGcd-from_zero}
 use Rattle.split_crossing.proofs.Stepping.{divisor_step, times_none}
 use Rattle.split_crossing.proofs.common_divisor.Goals as goal

@@ -1,10 +1,7 @@
 -- The second object begins where the first one's bytes end.
-use Rattle.std.proofs.Common.{◌≡◌, ◌∙◌, ◌≤◌, ◌<◌, ◌+◌, ◌-◌, ℕ, List, sym, ap, ap₂, subst, length, take, drop, arith, Err}
+use Rattle.std.proofs.Common.{◌≡◌, ◌∙◌, ◌≤◌, ◌-◌, ℕ, List, sym, ap, ap₂, subst, length, take, drop, arith}
 use Rattle.std.proofs.lemmas.List.{length-take-le, length-drop}
 use Rattle.std.proofs.Math.Seq.{take-length}
-use Rattle.scene.specs.declared.Refusal.{Refusal}
-use Rattle.scene.specs.declared.Scene.{Scene}
-use Rattle.scene.specs.Read.{given_second, read_scene}
 use Rattle.scene.specs.Conditions.{check_object}
 use Rattle.scene.proofs.Taken.{taken_scene, scene_short}
 use Rattle.split.proofs.Joined.{at_small, first_small, second_small, objects_joined}

@@ -1,4 +1,4 @@
-use Rattle.std.proofs.Common.{◌∙◌, arith, ap}
+use Rattle.std.proofs.Common.{arith}
 use Rattle.split_crossing.specs.Crossing.{crossing_of}
 use Rattle.split_crossing.proofs.Reached.{above, rest_off}
 use Rattle.split_crossing.proofs.Stepped.crosses_off.Goals as goal

@@ -1,6 +1,5 @@
 -- So many steps are no longer than all of them, which lead to the right end.
 use Rattle.std.proofs.Common.{arith}
-use Rattle.std.proofs.lemmas.Int.{ints}
 use mir.Facts.{to_z-of_z}
 use Rattle.plane.specs.Plane.{limit}
 use Rattle.plane.proofs.Machine.{near_fits, within_x, within_y, left_in_range}
