@@ -15,6 +15,7 @@ mod report;
 mod results;
 mod rows;
 mod shapes;
+mod slow_pairs;
 
 // the reference's modules, as they stand
 #[allow(dead_code)]
@@ -98,6 +99,7 @@ const USAGE: &str = "usage: bench compare           GEOS's cells against ours; f
        bench areas              GEOS's areas of two regions against ours within its rounding, and times of both
        bench wkb                shapes through GEOS's well-known binary and ours, and times of reading, ours and GEOS's
        bench split              raw pairs in GEOS against the same split, and times of splitting, ours and GEOS's noding
+       bench slow-pairs         our times for raw pairs that take long to split; fails if one takes more than 5 ms
        bench slowest            our times for scenes with a fault, and the slowest of many random scenes
        bench make DIR           writes the scenes of full size, a file each
        bench count ours FILE..  asks for the cells of each scene once, for callgrind
@@ -140,6 +142,7 @@ fn main() {
             println!("version {}", Geos::version());
             noding::run(&Geos::new())
         }
+        ["slow-pairs"] => slow_pairs::run(),
         ["slowest"] => slowest(),
         ["make", directory] => make(directory),
         ["count", who, ref files @ ..] => count(who, files),

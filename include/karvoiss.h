@@ -125,7 +125,7 @@ extern "C" {
  * to need about 6,000 bytes, karvoiss_summary 25,520, since it copies its object,
  * karvoiss_far 160, karvoiss_estimate 40 and karvoiss_in_window 216;
  * karvoiss_read_wkb 166,552 and karvoiss_write_wkb 26,792, since they build and
- * check an object, and karvoiss_split 306,008; the numbers leave room for other
+ * check an object, and karvoiss_split 305,896; the numbers leave room for other
  * compilers.
  */
 #define KARVOISS_VECTORS_STACK 11200
@@ -539,8 +539,8 @@ karvoiss_write_wkb_t karvoiss_write_wkb(const uint8_t *object, size_t length,
  * points, which have nothing to cut.
  *
  * Every segment of the one is held against every segment of the other: two objects of
- * full size take a few milliseconds, and up to a tenth of a second where all of their
- * segments cross.
+ * full size take two to five milliseconds, the most where all of their segments cross or
+ * start from one point.
  *
  * Refused are what karvoiss_cells refuses, but for 15, with the same number and place; then
  *

@@ -22,6 +22,7 @@ ghost use Rattle.wkb_writing.specs.Writing.{write_of, written_buffer};
 ghost use Rattle.wkb_round_trip.specs.RoundTrip.{RoundTrip};
 ghost use Rattle.split.specs.Split.{split_answer, split_buffer};
 ghost use Rattle.split.specs.Promised.{Promised};
+ghost use Rattle.split.specs.OffGrid.{OffGridMeans};
 
 use areas::sums::Sums;
 use cells::Explored;
@@ -480,12 +481,14 @@ impl From<Result<Splitted, Refusal>> for KarvoissSplit {
     }
 }
 
-// A pair split on the grid, into a lent buffer: for every byte string and every buffer the whole answer and the buffer after it, and what is promised of a pair that is taken.
+// A pair split on the grid, into a lent buffer: for every byte string and every buffer the whole answer and the buffer after it, what is promised of a pair that is taken, and what an answer
+// says of crossings off the grid.
 #[unsafe(no_mangle)]
 pub extern "C" fn karvoiss_split(scene: &[u8], split: &mut [u8]) -> KarvoissSplit
     ensures { (result ≡ split_for_c (split_answer scene.now split.old))
         × (split.new ≡ split_buffer scene.now split.old)
-        × Promised scene.now (length split.old) }
+        × Promised scene.now (length split.old)
+        × OffGridMeans scene.now (length split.old) }
 {
     split::split(scene, split).into()
 }

@@ -7,3 +7,6 @@ pub mod Judged
 pub mod Cutting
 pub mod Pieces
 pub mod Answered
+pub mod Joined
+pub mod CrossedRecords
+pub mod Nineteen

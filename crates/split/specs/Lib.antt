@@ -2,4 +2,6 @@
 pub mod Split
 pub mod Cut
 pub mod Promised
+pub mod OffGrid
 pub mod Examples
+pub mod Joined

@@ -5,6 +5,7 @@ ghost use Rattle.std.specs.Prelude.{◌≡◌, not, ◌&&◌, length};
 ghost use Rattle.scene.specs.Conditions.{has_segments};
 ghost use Rattle.split.specs.Split.{split_answer, split_buffer};
 ghost use Rattle.split.specs.Promised.{Promised};
+ghost use Rattle.split.specs.OffGrid.{OffGridMeans};
 
 use scene::Refusal;
 use scene_segments::{Pair, ReadScene};
@@ -33,6 +34,7 @@ pub fn split(scene: &[u8], out: &mut [u8]) -> Result<Splitted, Refusal>
     ensures is { result ≡ split_answer scene.now out.old }
     ensures buffer { out.new ≡ split_buffer scene.now out.old }
     ensures promised { Promised scene.now (length out.old) }
+    ensures off_grid { OffGridMeans scene.now (length out.old) }
 {
     let checked = raw::check(scene)?;
     let pair = ReadScene {

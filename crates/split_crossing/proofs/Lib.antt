@@ -1,9 +1,11 @@
 -- The laws of crossings: where a line parts a segment, what a crossing is in points, what the cuts are, and what two objects become that are split by each other.
 pub mod Proportion
 pub mod Crossings
+pub mod Divided
+pub mod Stepping
+pub mod Reached
 pub mod Cutting
 pub mod Range
 pub mod SplitWell
--- and the numbers on the way: a long division, and how large a side value is
-pub mod Digits
+-- and the numbers on the way: how large a side value is
 pub mod Sizes

@@ -41,7 +41,7 @@ size_neg (negsuc n) h = refl
 pub pos_size : {z : ℤ} → Pos z → pos (nat_abs z) ≡ z
 pos_size {z} h = size_pos z h
 
-neg_size : {z : ℤ} → Neg z → pos (nat_abs z) ≡ neg_ℤ z
+pub neg_size : {z : ℤ} → Neg z → pos (nat_abs z) ≡ neg_ℤ z
 neg_size {z} h = size_neg z h
 
 same_by : {k : ℤ} (x y : ℤ) → Pos k → k *ℤ x ≡ k *ℤ y → x ≡ y
@@ -184,7 +184,7 @@ module _ (m n : ℤ) (num den : ℕ) where
   way = nat_abs (n -ℤ m)
 
   -- so many steps from m are num of den parts of the way
-  steps_parted : (q : ℕ) → q * den ≡ way * num → (steps_from m n q -ℤ m) *ℤ pos den ≡ (n -ℤ m) *ℤ pos num
+  pub steps_parted : (q : ℕ) → q * den ≡ way * num → (steps_from m n q -ℤ m) *ℤ pos den ≡ (n -ℤ m) *ℤ pos num
   unfolding steps_from
   steps_parted q exact = go (lt_z n m) refl
     where

@@ -19,7 +19,7 @@ use Rattle.plane.proofs.OnSegment.{Ordered, Along, on_along}
 use Rattle.split_crossing.proofs.Proportion.{pos_size, nonneg_size}
 
 -- a mean of numbers within n
-mean_within : (n : ℕ) (k a b x l r : ℤ) → Pos k → NonNeg a → NonNeg b → k *ℤ x ≡ a *ℤ l +ℤ b *ℤ r → k ≡ a +ℤ b → nat_abs l ≤ n → nat_abs r ≤ n → nat_abs x ≤ n
+pub mean_within : (n : ℕ) (k a b x l r : ℤ) → Pos k → NonNeg a → NonNeg b → k *ℤ x ≡ a *ℤ l +ℤ b *ℤ r → k ≡ a +ℤ b → nat_abs l ≤ n → nat_abs r ≤ n → nat_abs x ≤ n
 mean_within n k a b x l r k_pos a_least b_least e whole hl hr = le_of_mul-le-mul_left wide above
   where
     sizes : nat_abs k * nat_abs x ≤ nat_abs a * n + nat_abs b * n

@@ -1,4 +1,4 @@
--- How large a side value is, and that its size is read from its bits.
+-- How large a side value is, and that it is read from its bits.
 use Prim.Native.Nat.{◌*◌, ◌≤◌}
 use native.Mathlib.Nat.{mul-le-mul}
 use native.Mathlib.Omega.{arith}
@@ -29,5 +29,5 @@ side_small a b c ha hb hc =
       product_small b.y a.y c.x a.x (within_y limit b hb) (within_y limit a ha) (within_x limit c hc) (within_x limit a ha),
     )
 
-pub size_read : {z v : ℤ} → z ≡ v → nat_abs v ≤ 8 * (limit * limit) → nat_abs (to_z w64 (of_z w64 z)) ≡ nat_abs v
-size_read {z} {v} e h = ap (λ r. nat_abs (to_z w64 (of_z w64 r))) e ∙ ap nat_abs (to_z-of_z (small_fits v (omega arith)))
+pub side_back : {z v : ℤ} → z ≡ v → nat_abs v ≤ 8 * (limit * limit) → to_z w64 (of_z w64 z) ≡ v
+side_back {z} {v} e h = ap (λ r. to_z w64 (of_z w64 r)) e ∙ to_z-of_z (small_fits v (omega arith))

@@ -1,5 +1,5 @@
 -- Where two segments cross. A crossing is a point strictly inside both; it has fraction coordinates, and may lie off the grid.
-use Rattle.std.specs.Prelude.{ℕ, ◌+◌, ◌*◌, ◌/◌, ◌%◌, ◌≡◌, not, cond, Option, Some, None, option_map, T, eqb, ℤ, pos, nat_abs, ◌+ℤ◌, ◌-ℤ◌}
+use Rattle.std.specs.Prelude.{ℕ, ◌+◌, ◌*◌, ◌/◌, ◌%◌, ◌≡◌, Bool, true, false, not, cond, Option, Some, None, option_map, T, eqb, ℤ, pos, nat_abs, ◌+ℤ◌, ◌-ℤ◌}
 use Rattle.std.specs.Int.Signed.{lt_z}
 use Rattle.plane.specs.declared.Point.{Point}
 use Rattle.plane.specs.declared.Segment.{Segment}
@@ -43,6 +43,15 @@ crossing_of_point None = OffGrid
 -- where s and t cross
 unfoldable pub crossing_of : Segment → Segment → Crossing
 crossing_of s t = cond (cross s t) (crossing_of_point (placed_on s (size_left s t) (size_left s t + size_right s t))) Apart
+
+-- whether that is off the grid
+abbrev pub is_off : Crossing → Bool
+is_off Apart = false
+is_off OffGrid = true
+is_off (At c) = false
+
+abbrev pub crosses_off : Segment → Segment → Bool
+crosses_off s t = is_off (crossing_of s t)
 
 -- "crosses at a point off the grid": they cross, and no grid point lies on both
 pub record CrossOffGrid (s t : Segment) : Type 0 where

@@ -78,3 +78,7 @@ module _ (t u : Segment) (o : T (ordered t)) (v : T (ordered u)) (f : touch t u 
 -- t ends left of where u begins
 pub beyond_clear : (t u : Segment) → T (ordered t) → T (ordered u) → lt_z t.right.x u.left.x ≡ true → touch t u ≡ false
 beyond_clear t u o v e = (parted_across t u o v (lt_z_pos t.right.x u.left.x (is_true (lt_z t.right.x u.left.x) e))).0
+
+-- t begins right of where u ends
+pub before_clear : (t u : Segment) → T (ordered t) → T (ordered u) → lt_z u.right.x t.left.x ≡ true → touch t u ≡ false
+before_clear t u o v e = (parted_across u t v o (lt_z_pos u.right.x t.left.x (is_true (lt_z u.right.x t.left.x) e))).1

@@ -2,3 +2,4 @@
 pub mod Clear
 pub mod Listing
 pub mod Steps
+pub mod Inside

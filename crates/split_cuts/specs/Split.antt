@@ -1,24 +1,16 @@
 -- The pieces of an object that is split by another, each with the ia of its segment; and the fault of 19.
-use Rattle.std.specs.Prelude.{ℕ, Bool, true, false, ◌&&◌, cond, List, [], ◌∷◌, ◌++◌, map}
+use Rattle.std.specs.Prelude.{ℕ, Bool, ◌&&◌, List, [], ◌∷◌, ◌++◌, map}
 use Rattle.whole.specs.Count.{some}
-use Rattle.plane.specs.declared.Point.{Point}
 use Rattle.plane.specs.declared.Segment.{Segment}
-use Rattle.plane.specs.Plane.{before}
 use Rattle.scene.specs.declared.Layout.{Layout}
 use Rattle.scene.specs.Read.{Fault}
 use Rattle.scene.specs.Conditions.{elements, half, left_test, earliest}
 use Rattle.split_pieces.specs.Pieces.{pieces}
-use Rattle.split_crossing.specs.declared.Crossing.{Crossing}
-use Rattle.split_crossing.specs.declared.Crossing.TheVariants.{Apart, OffGrid, At}
-use Rattle.split_crossing.specs.Crossing.{crossing_of}
+pub use Rattle.split_crossing.specs.Crossing.{is_off, crosses_off}
 use Rattle.split_crossing.specs.Cuts.{cuts}
 use Rattle.split_cuts.specs.declared.Piece.{Piece}
 
 -- ---- the pieces
-
--- c, if it comes after p and before q, or q
-abbrev pub closer : Point → Point → Point → Point
-closer c p q = cond (before p c && before c q) c q
 
 abbrev pub with_ia : Bool → List Segment → List Piece
 with_ia ia = map (λ t. record { segment = t; ia = ia })
@@ -32,14 +24,6 @@ abbrev pub most_pieces : ℕ
 most_pieces = 512
 
 -- ---- 19, "at the earliest record of F that crosses at a point off the grid": of a segment's two records the left one comes first
-
-abbrev pub is_off : Crossing → Bool
-is_off Apart = false
-is_off OffGrid = true
-is_off (At c) = false
-
-abbrev pub crosses_off : Segment → Segment → Bool
-crosses_off t u = is_off (crossing_of t u)
 
 module _ (s : List ℕ) (l : Layout) (other : List Segment) where
   abbrev pub is_off_grid : ℕ → Bool

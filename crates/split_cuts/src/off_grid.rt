@@ -5,17 +5,10 @@ ghost use Rattle.plane.specs.Plane.{segment_in_range, ordered};
 ghost use Rattle.split_cuts.specs.Listed.{segments_of};
 ghost use Rattle.split_cuts.specs.Split.{crosses_off, off_grid};
 
-use crate::{Segments, cuts};
+use crate::Segments;
 use plane::Segment;
 use scene_segments::Object;
-use split_crossing::Crossing;
-
-fn crosses_off(t: Segment, u: Segment) -> bool
-    requires { T (segment_in_range t) × T (ordered t) × T (segment_in_range u) × T (ordered u) }
-    ensures { result ≡ crosses_off t u }
-{
-    !cuts::are_clear(t, u) && split_crossing::crossing_of(t, u) == Crossing::OffGrid
-}
+use split_crossing::Stepped;
 
 impl<'a> Segments<'a> {
     // Does t cross one of them off the grid?
@@ -23,8 +16,9 @@ impl<'a> Segments<'a> {
         requires { T (segment_in_range t) × T (ordered t) }
         ensures { result ≡ some (crosses_off t) (segments_of self.entry.list.now) }
     {
+        let steps = Stepped::of(t);
         for &u in self.list {
-            if crosses_off(t, u.segment) {
+            if steps.crosses_off(u.segment) {
                 return true;
             }
         }

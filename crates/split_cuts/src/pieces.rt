@@ -1,9 +1,10 @@
 // The pieces of an object's segments, one after the other, each from a cut to the next.
-ghost use Rattle.std.specs.Prelude.{◌≡◌, ◌<◌, ◌≤◌, [], ◌∷◌, ◌++◌, ◌+◌, length, MatchResult};
+ghost use Rattle.std.specs.Prelude.{◌&&◌, ◌≡◌, ◌<◌, ◌≤◌, [], ◌∷◌, ◌++◌, ◌+◌, length, MatchResult};
 ghost use Rattle.arrayvec.specs.ArrayVec.{array_vec_len};
+ghost use Rattle.plane.specs.Plane.{before};
 ghost use Rattle.split_pieces.specs.Pieces.{between, next_cut, pieces_from};
 ghost use Rattle.split_cuts.specs.Listed.{segments_of};
-ghost use Rattle.split_cuts.specs.Split.{closer, with_ia, split_pieces, most_pieces};
+ghost use Rattle.split_cuts.specs.Split.{with_ia, split_pieces, most_pieces};
 
 use crate::cuts::Cuts;
 use crate::{Piece, Segments};
@@ -19,12 +20,12 @@ pub type Pieces = ArrayVec<Piece, MOST>;
 #[derive(Clone, Copy)]
 pub struct TooMany;
 
-// c, if it comes after p and before q, or q.
+// Does c come after p and before q?
 #[tactic(auto, unfolding(plane::specs::Plane::before))]
-fn closer(c: Point, p: Point, q: Point) -> Point
-    ensures { result ≡ closer c p q }
+fn is_between(c: Point, p: Point, q: Point) -> bool
+    ensures { result ≡ (before p c && before c q) }
 {
-    if p < c && c < q { c } else { q }
+    p < c && c < q
 }
 
 // The first cut after p, or r if none comes before r.
@@ -33,7 +34,9 @@ fn next_cut(cuts: &[Point], p: Point, r: Point) -> Point
 {
     let mut q = r;
     for &c in cuts {
-        q = closer(c, p, q);
+        if is_between(c, p, q) {
+            q = c;
+        }
     }
     q
 }

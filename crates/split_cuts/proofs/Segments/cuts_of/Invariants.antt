@@ -7,6 +7,6 @@ use Rattle.split_cuts.proofs.Segments.cuts_of.Given as goal
 
 abbrev pub invariant-loop-u : goal.invariant-loop-u
 invariant-loop-u l = record {
-  all : cuts (segments_of l.self.list.now) l.t ≡ l.found.items ++ cuts (segments_of (drop l.u-index l.self.list.now)) l.t;
+  all : cuts (segments_of l.self.list.now) l.fn.t ≡ l.found.items ++ cuts (segments_of (drop l.u-index l.self.list.now)) l.fn.t;
   room : array_vec_len l.found ≤ 3 * l.u-index;
 }

@@ -6,4 +6,4 @@ use Rattle.split_cuts.specs.Split.{crosses_off}
 use Rattle.split_cuts.proofs.Segments.is_crossed_off.Given as goal
 
 abbrev pub invariant-loop-u : goal.invariant-loop-u
-invariant-loop-u l = some (crosses_off l.t) (segments_of l.self.list.now) ≡ some (crosses_off l.t) (segments_of (drop l.u-index l.self.list.now))
+invariant-loop-u l = some (crosses_off l.fn.t) (segments_of l.self.list.now) ≡ some (crosses_off l.fn.t) (segments_of (drop l.u-index l.self.list.now))

@@ -6,5 +6,5 @@ use Rattle.split_cuts.proofs.cuts.put_cuts.Goals as goal
 
 pub returns-then-are_clear : goal.returns-then-are_clear
 returns-then-are_clear c =
-    let none = no_cuts c.args.t c.args.u c.requires.1 c.requires.3 (c.are_clear.ensures c.if-are_clear.true) in
+    let none = no_cuts c.args.t.segment c.args.u c.requires.0 c.requires.2 (c.are_clear.ensures c.if-are_clear.true) in
     rw none (sym (append-nil c.args.found.now.items))

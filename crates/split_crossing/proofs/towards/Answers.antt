@@ -2,7 +2,7 @@
 use Rattle.std.proofs.Common.{arith}
 use Rattle.std.proofs.lemmas.Int.{ints}
 use Rattle.split_crossing.specs.Crossing.{steps_from}
-use Rattle.split_crossing.proofs.stepped.Goals as goal
+use Rattle.split_crossing.proofs.towards.Goals as goal
 
 pub returns-then-n-m : goal.returns-then-n-m
 unfolding steps_from
