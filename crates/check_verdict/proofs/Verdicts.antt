@@ -16,7 +16,7 @@ use Rattle.scene.specs.declared.Reason.TheVariants.{Flawed}
 use Rattle.scene.specs.Read.{Condition, condition, decide, judge, given_first, given_second, read_scene, read_alone, IsObject, IsScene}
 use Rattle.scene.specs.Conditions.{out_of_order, unpaired, touching_itself, odd_end, wrong_ia, or_else, touching_across, Rule, conditions, scene_rules, checked_scene, check_scene_by, checked_object, check_object, object_rules}
 use Rattle.sweep_laws.specs.Swept.{object_of, InOrder, Passes}
-use Rattle.check_verdict.specs.Refusals.{fault_in_either, scene_fault_under, flawed, object_flaws, scene_flaws, Verdict, verdict, settle, object_verdict, objects_verdict, geometry_rules, geometry_verdict}
+use Rattle.check_verdict.specs.Refusals.{scene_fault_under, flawed, scene_flaws, Verdict, verdict, settle, object_verdict, geometry_rules, geometry_verdict}
 use Rattle.scene.proofs.Outcomes.{never_taken}
 use Rattle.scene.proofs.Taken.{both_of_given, given_of_both}
 use Rattle.scene.proofs.Given.{neither}
@@ -40,18 +40,6 @@ decide_alike n f g a b e then = go f refl ∙ ap (λ (h : Fault). decide Err n h
     go None q = then q
 
 -- each test rests on the conditions before it
-pub objects_flawed : (s : List ℕ) (sc : Scene) → IsObject s (given_first sc) → IsObject s (given_second sc)
-    → objects_verdict s sc ≡ verdict (flawed (fault_in_either s sc) object_flaws)
-unfolding objects_verdict out_of_order
-objects_flawed s sc is_first_lem is_second =
-    decide_alike (Flawed Misplaced) (or_else (out_of_order s (given_first sc)) (out_of_order s (given_second sc))) (fault_in_either s sc Misplaced) _ _ refl (λ order.
-    let o = neither (out_of_order s (given_first sc)) (out_of_order s (given_second sc)) order in
-    decide_alike (Flawed Unpaired) (or_else (unpaired s (given_first sc)) (unpaired s (given_second sc))) (fault_in_either s sc Unpaired) _ _ (ap₂ or_else (sym (fault_11 s (given_first sc) is_first_lem o.0)) (sym (fault_11 s (given_second sc) is_second o.1))) (λ paired.
-    let p = neither (unpaired s (given_first sc)) (unpaired s (given_second sc)) paired in
-    decide_alike (Flawed Touching) (or_else (touching_itself s (given_first sc)) (touching_itself s (given_second sc))) (fault_in_either s sc Touching) _ _ (ap₂ or_else (sym (fault_12 s (given_first sc) is_first_lem o.0)) (sym (fault_12 s (given_second sc) is_second o.1))) (λ _.
-    decide_alike (Flawed OddEnd) (or_else (odd_end s (given_first sc)) (odd_end s (given_second sc))) (fault_in_either s sc OddEnd) _ _ (ap₂ or_else (sym (fault_13 s (given_first sc))) (sym (fault_13 s (given_second sc)))) (λ _.
-    decide_alike (Flawed WrongIa) (or_else (wrong_ia s (given_first sc)) (wrong_ia s (given_second sc))) (fault_in_either s sc WrongIa) _ _ (ap₂ or_else (sym (fault_14 s (given_first sc) is_first_lem o.0 p.0)) (sym (fault_14 s (given_second sc) is_second o.1 p.1))) (λ _. refl)))))
-
 pub geometry_flawed : (s : List ℕ) (sc : Scene) → IsObject s (given_first sc) → IsObject s (given_second sc)
     → geometry_verdict s sc ≡ verdict (flawed (scene_fault_under s sc) scene_flaws)
 unfolding geometry_verdict out_of_order

@@ -36,10 +36,7 @@ Finds Answers found = (f : Flaw) (o : Fault) → Answers f o → o ≡ found f
 abbrev pub flawed : (Flaw → Fault) → List Flaw → List Condition
 flawed found flaws = map (λ (f : Flaw). condition (Flawed f) (found f)) flaws
 
--- in the order of the conditions: those that each object can have by itself, and those of a scene
-abbrev pub object_flaws : List Flaw
-object_flaws = Misplaced ∷ Unpaired ∷ Touching ∷ OddEnd ∷ WrongIa ∷ []
-
+-- in the order of the conditions
 abbrev pub scene_flaws : List Flaw
 scene_flaws = Misplaced ∷ Unpaired ∷ Touching ∷ OddEnd ∷ WrongIa ∷ TouchingAcross ∷ []
 

@@ -10,7 +10,7 @@ ghost use Rattle.scene.specs.Conditions.{or_else, check_scene};
 ghost use Rattle.check_conditions.specs.Faults.{fault_under};
 ghost use Rattle.sweep_laws.specs.Swept.{InOrder};
 ghost use Rattle.sweep_laws.specs.Noted.{Noted};
-ghost use Rattle.check_verdict.specs.Refusals.{scene_fault_under, flawed, verdict, Finds, objects_verdict, geometry_verdict};
+ghost use Rattle.check_verdict.specs.Refusals.{scene_fault_under, flawed, verdict, Finds, geometry_verdict};
 ghost use Rattle.check_verdict.specs.SharedPoints.{CheckedMeans};
 
 use scene::{Flaw, Reason, Refusal, Scene};
@@ -62,14 +62,6 @@ fn first_refusal<F: Fn(Flaw) -> Option<usize>>(flaws: &[Flaw], fault: F) -> Resu
         }
     }
     Ok(())
-}
-
-// The first refusal under 10 to 14 of the two objects of a scene, each by itself: whether they cross is not asked.
-pub fn objects_verdict(read: ReadScene<'_>) -> Result<(), Refusal>
-    ensures { result ≡ objects_verdict read.entry.bytes.now read.entry.scene }
-{
-    let pair = read.as_given();
-    first_refusal(&SCENE_FLAWS[..5], |flaw| fault_in_either(pair, flaw))
 }
 
 // The first refusal under 10 to 15 of a scene, condition by condition.

@@ -119,7 +119,7 @@ fn separates(s: Segment, p: Point, q: Point) -> bool
 }
 
 #[tactic(auto, unfolding(plane::specs::Plane::cross))]
-pub fn crosses(s: Segment, t: Segment) -> bool
+fn crosses(s: Segment, t: Segment) -> bool
     requires { T (segment_in_range s) × T (segment_in_range t) }
     ensures { result ≡ cross s t }
 {
@@ -128,7 +128,7 @@ pub fn crosses(s: Segment, t: Segment) -> bool
 
 // Is p on s and no end of it?
 #[tactic(auto, unfolding(plane::specs::Plane::end_within))]
-pub fn has_within(s: Segment, p: Point) -> bool
+fn has_within(s: Segment, p: Point) -> bool
     requires { T (segment_in_range s) × T (in_range p) }
     ensures { result ≡ end_within s p }
 {
