@@ -112,6 +112,8 @@ pub fn asked(s: &[u8], wanted: Wanted, notes: &mut Notes) -> Result<MaskedScene,
 }
 
 // Where no flag is wanted: the scene's check, since 9 then finds nothing, and two vectors with no flag.
+// Kept out of its caller, as the other one is: what the two keep on the stack does not add up.
+#[inline(never)]
 fn unflagged(s: &[u8]) -> Result<SceneVectors, Refusal>
     ensures { (wanted : Wanted) → is_nothing wanted ≡ true → result ≡ answer_of s.now wanted }
 {
