@@ -1,5 +1,5 @@
 # make test: everything that the gate checks. make run: builds explore and answers the sample scenes; make run SCENE=file answers a file.
-# make install PREFIX=dir: header, archive and pkg-config file. make fuzz SECONDS=n: fresh scenes and inputs for so long.
+# make install PREFIX=dir: the command, its man page and completion, header, archive and pkg-config file. make fuzz SECONDS=n: fresh scenes and inputs for so long.
 # make wrong: the wrong programs that the gate leaves out; make wrong CRATES="a b": those of these crates.
 .PHONY: test run archive install fuzz wrong tools pictures bench fmt clean
 
@@ -17,18 +17,21 @@ archive: target/staticlib/libkarvoiss.a
 target/staticlib/libkarvoiss.a: $(sources)
 	@tools/prove karvoiss
 
-# Where a C build finds them; DESTDIR is put before PREFIX for packages
+# Where a shell, man and a C build find them; DESTDIR is put before PREFIX for packages
 PREFIX ?= /usr/local
 prefix := $(abspath $(PREFIX))
 
-install: archive
+install: archive target/tools/karvoiss
 	@install -d $(DESTDIR)$(prefix)/include $(DESTDIR)$(prefix)/lib/pkgconfig
+	@install -D -m 755 target/tools/karvoiss $(DESTDIR)$(prefix)/bin/karvoiss
+	@install -D -m 644 docs/karvoiss.1 $(DESTDIR)$(prefix)/share/man/man1/karvoiss.1
+	@install -D -m 644 tools/karvoiss/completion.bash $(DESTDIR)$(prefix)/share/bash-completion/completions/karvoiss
 	@install -m 644 include/karvoiss.h $(DESTDIR)$(prefix)/include
 	@install -m 644 target/staticlib/libkarvoiss.a $(DESTDIR)$(prefix)/lib
 	@sed 's|@PREFIX@|$(prefix)|' include/karvoiss.pc.in > $(DESTDIR)$(prefix)/lib/pkgconfig/karvoiss.pc
 
 SECONDS ?= 60
-fuzz: archive target/tools/scene
+fuzz: archive target/tools/karvoiss
 	@tests/fuzz $(SECONDS)
 
 CRATES ?=
@@ -39,24 +42,26 @@ ifdef SCENE
 run: target/bin/explore
 	@target/bin/explore < $(SCENE)
 else
-run: target/bin/explore target/tools/scene
-	@for text in scenes/[a-l].wkt; do \
-	    printf '%s ' "$$(basename $$text .wkt)"; \
-	    target/tools/scene make --beyond $$text | target/bin/explore; \
+run: target/bin/explore target/tools/karvoiss
+	@for sample in scenes/[a-l].*; do \
+	    printf '%.1s ' "$$(basename $$sample)"; \
+	    target/tools/karvoiss make $$sample | target/bin/explore; \
 	done
 endif
 
-# The companion tool, outside the proved crates: scenes as text, listings, pictures; with the archive well-known binary and splitting too
-tools: archive target/bin/explore
+# The command, outside the proved crates, linked with the archive
+tools: target/tools/karvoiss
+
+target/tools/karvoiss: $(shell find tools -type f) docs/karvoiss.1 target/staticlib/libkarvoiss.a
 	@tools/build
 
-target/tools/scene: $(shell find tools -type f) $(wildcard target/staticlib/libkarvoiss.a)
-	@tools/build
-
-pictures: $(patsubst scenes/%.wkt,docs/scenes/%.svg,$(wildcard scenes/*.wkt))
-
-docs/scenes/%.svg: scenes/%.wkt target/tools/scene target/bin/explore
-	@target/tools/scene make --beyond $< | target/tools/scene draw -o $@
+samples := $(wildcard scenes/*.wkt scenes/*.records)
+# of the bytes as they are: a sample that is refused is drawn with the record at fault
+pictures: target/tools/karvoiss
+	@for sample in $(samples); do \
+	    name=$$(basename $$sample); \
+	    target/tools/karvoiss make $$sample | target/tools/karvoiss draw -o docs/scenes/$${name%.*}.svg || true; \
+	done
 
 # Times beside GEOS, after bench/setup: the measured part of docs/BENCH.md, and docs/bench.svg. Then the two calls for map viewers
 bench: archive

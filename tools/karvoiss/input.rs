@@ -1,0 +1,314 @@
+//! What a command is given: files, standard input or well-known text on the command line. What they are is told by what they begin with and by the name's ending; the shapes in them
+//! come out by name, each an object or a refusal.
+
+use crate::grid::Grid;
+use crate::library::{self, No};
+use crate::pair::Object;
+use crate::refusals::{self, Refused};
+use crate::shape::{Fault, Item, line_and_column};
+use crate::{bytes, csv, geojson, records, wkb, wkt};
+use std::fs::File;
+use std::io::Read;
+use std::path::Path;
+
+/// A shape by name. What makes it none is said with its place in the file.
+pub struct Named {
+    pub name: String,
+    pub object: Result<Object, Refused>,
+}
+
+pub enum Held {
+    /// Two objects' bytes, or what is meant to be, as they are.
+    Scene(Vec<u8>),
+    Shapes(Vec<Named>),
+}
+
+/// How files are read: onto which grid, and which column or property has the shapes and their names.
+pub struct Reading {
+    pub grid: Grid,
+    pub column: Option<String>,
+    pub name: Option<String>,
+}
+
+/// As much as is read of one file. The shapes of a larger one are not kept in memory by accident.
+const MOST: u64 = 64 << 20;
+
+/// What of a file is looked at before the rest is read.
+const HEAD: usize = 4096;
+
+#[derive(Clone, Copy, PartialEq, Debug)]
+enum Form {
+    Scene,
+    Wkb,
+    Text,
+}
+
+struct Source {
+    /// What messages call it.
+    label: String,
+    /// What its shapes are called, if it has no names for them.
+    stem: String,
+    ending: String,
+    form: Form,
+    bytes: Vec<u8>,
+}
+
+/// All that an argument holds. `FILE#NAME` is one shape of a file, by its name or its number from 1.
+pub fn held(argument: &str, reading: &mut Reading) -> Result<Held, String> {
+    let (source, chosen) = source(argument)?;
+    let held = source.held(reading)?;
+    match (held, chosen) {
+        (held, None) => Ok(held),
+        (Held::Shapes(shapes), Some(name)) => chosen_of(shapes, name, &source.label).map(|shape| Held::Shapes(vec![shape])),
+        (Held::Scene(_), Some(_)) => Err(format!("{}: a scene's objects have no names", source.label)),
+    }
+}
+
+fn source(argument: &str) -> Result<(Source, Option<&str>), String> {
+    if argument == "-" {
+        return Ok((Source::read(std::io::stdin().lock(), "standard input", "shape", "", None)?, None));
+    }
+    if Path::new(argument).exists() {
+        return Ok((file(argument)?, None));
+    }
+    if let Some((path, name)) = argument.rsplit_once('#').filter(|(path, _)| Path::new(path).exists()) {
+        return Ok((file(path)?, Some(name)));
+    }
+    let word = argument.trim_start().split(|c: char| !c.is_ascii_alphabetic()).next().unwrap_or("");
+    if argument.contains(['(', ' ']) && wkt::is_kind(word) {
+        let name: String = argument.chars().take(30).collect();
+        let stem = if name.len() < argument.len() { format!("{name}..") } else { name };
+        return Ok((Source::read(argument.as_bytes(), "the text on the command line", &stem, "wkt", None)?, None));
+    }
+    file(argument).map(|source| (source, None))
+}
+
+fn file(path: &str) -> Result<Source, String> {
+    let failed = |error: std::io::Error| format!("{path}: {}", plain(&error));
+    let about = std::fs::metadata(path).map_err(failed)?;
+    if about.is_dir() {
+        return Err(format!("{path} is a directory: name the files in it"));
+    }
+    let file = File::open(path).map_err(failed)?;
+    let part = |part: Option<&std::ffi::OsStr>| part.map(|part| part.to_string_lossy().into_owned()).unwrap_or_default();
+    let (stem, ending) = (part(Path::new(path).file_stem()), part(Path::new(path).extension()).to_ascii_lowercase());
+    Source::read(file, path, &stem, &ending, about.is_file().then_some(about.len()))
+}
+
+/// An error of the system without its number.
+fn plain(error: &std::io::Error) -> String {
+    let text = error.to_string();
+    let text = text.split(" (os error").next().unwrap_or("");
+    text[..1].to_lowercase() + &text[1..]
+}
+
+impl Source {
+    fn read(mut from: impl Read, label: &str, stem: &str, ending: &str, length: Option<u64>) -> Result<Source, String> {
+        let failed = |error: std::io::Error| format!("{label}: {}", plain(&error));
+        let mut bytes = Vec::new();
+        from.by_ref().take(HEAD as u64).read_to_end(&mut bytes).map_err(failed)?;
+        let form = form(&bytes, ending).map_err(|why| format!("{label} {why}"))?;
+        let too_large = |length: String| format!("{label} is larger than {} MB{length}: split it into several files", MOST >> 20);
+        if let Some(length) = length.filter(|length| *length > MOST) {
+            return Err(too_large(format!(", it has {} MB", length >> 20)));
+        }
+        from.take(MOST + 1 - bytes.len() as u64).read_to_end(&mut bytes).map_err(failed)?;
+        if bytes.len() as u64 > MOST {
+            return Err(too_large(String::new()));
+        }
+        Ok(Source { label: label.to_string(), stem: stem.to_string(), ending: ending.to_string(), form, bytes })
+    }
+
+    fn held(&self, reading: &mut Reading) -> Result<Held, String> {
+        match self.form {
+            Form::Scene => Ok(scene_or_object(&self.bytes)),
+            Form::Wkb => Ok(Held::Shapes(vec![self.binary(&self.bytes, self.stem.clone(), &mut reading.grid)])),
+            Form::Text => self.text(reading),
+        }
+    }
+
+    fn binary(&self, wkb: &[u8], name: String, grid: &mut Grid) -> Named {
+        let object = wkb::object(wkb, grid).and_then(accepted).map_err(|no| self.told(no, |at| format!("byte {at}")));
+        Named { name, object }
+    }
+
+    fn text(&self, reading: &mut Reading) -> Result<Held, String> {
+        let text = std::str::from_utf8(&self.bytes).map_err(|error| self.no_text(error.valid_up_to()))?;
+        let plain = text.trim_start_matches('\u{feff}').trim_start();
+        if records::is_listing(plain) {
+            return records::read(text).map(|bytes| scene_or_object(&bytes)).map_err(|fault| self.fault(text, fault));
+        }
+        if let Some(shapes) = self.hexadecimal(text, &mut reading.grid) {
+            return Ok(Held::Shapes(shapes));
+        }
+        let items = self.items(text, plain, reading)?.map_err(|fault| self.fault(text, fault))?;
+        if items.is_empty() {
+            return Err(format!("{} holds no shape", self.label));
+        }
+        Ok(Held::Shapes(self.named(text, items)))
+    }
+
+    /// Shapes by the name's ending, else by what the text begins with.
+    fn items(&self, text: &str, plain: &str, reading: &mut Reading) -> Result<Result<Vec<Item>, Fault>, String> {
+        let Reading { grid, column, name } = reading;
+        let word: String = plain.chars().take_while(char::is_ascii_alphanumeric).collect();
+        let json = plain.starts_with(['{', '[', '\u{1e}']);
+        let table = csv::is_heading(plain.lines().next().unwrap_or("")) || column.is_some();
+        match self.ending.as_str() {
+            "geojson" | "json" | "geojsonl" | "geojsons" | "ndjson" => Ok(geojson::read(text, name.as_deref(), grid)),
+            "csv" | "tsv" => Ok(csv::read(text, column.as_deref(), name.as_deref(), grid)),
+            _ if json => Ok(geojson::read(text, name.as_deref(), grid)),
+            "wkt" => Ok(wkt::read(text, grid)),
+            _ if wkt::is_kind(&word) || plain.starts_with('#') || plain.is_empty() => Ok(wkt::read(text, grid)),
+            _ if table => Ok(csv::read(text, column.as_deref(), name.as_deref(), grid)),
+            _ => {
+                let start: String = plain.chars().take(20).map(|c| if c.is_control() { ' ' } else { c }).collect();
+                Err(format!("{}: nothing that is read: it begins with \"{}\"; {READ}", self.label, start.trim_end()))
+            }
+        }
+    }
+
+    /// Well-known binary in hexadecimal, a shape to a line.
+    fn hexadecimal(&self, text: &str, grid: &mut Grid) -> Option<Vec<Named>> {
+        let lines: Vec<&str> = text.lines().map(str::trim).filter(|line| !line.is_empty()).collect();
+        if lines.is_empty() || !lines.iter().all(|line| line.bytes().all(|b| b.is_ascii_hexdigit() || b == b' ')) {
+            return None;
+        }
+        // one shape may also go on from line to line
+        let each: Option<Vec<Vec<u8>>> = lines.iter().map(|line| wkb::unspelt(line.replace(' ', "").as_bytes())).collect();
+        let each =
+            each.filter(|each| each.iter().all(|wkb| wkb::begins(wkb))).unwrap_or(vec![wkb::unspelt(lines.concat().replace(' ', "").as_bytes())?]);
+        let name = |at: usize| if each.len() == 1 { self.stem.clone() } else { format!("{} {}", self.stem, at + 1) };
+        Some(each.iter().enumerate().map(|(at, wkb)| self.binary(wkb, name(at), grid)).collect())
+    }
+
+    fn named(&self, text: &str, items: Vec<Item>) -> Vec<Named> {
+        let many = items.len() > 1;
+        let given = |at: usize| if many { format!("{} {}", self.stem, at + 1) } else { self.stem.clone() };
+        let place = |at: usize| {
+            let (line, column) = line_and_column(text, at);
+            format!("line {line}, column {column}")
+        };
+        let named = |(at, item): (usize, Item)| {
+            let object = item.object.and_then(accepted).map_err(|no| self.told(Refused { at: no.at.or(Some(item.at)), ..no }, place));
+            Named { name: item.name.unwrap_or_else(|| given(at)), object }
+        };
+        items.into_iter().enumerate().map(named).collect()
+    }
+
+    /// A refusal with its place in words.
+    fn told(&self, no: Refused, place: impl Fn(usize) -> String) -> Refused {
+        let at = no.at.map(|at| format!(", {}", place(at))).unwrap_or_default();
+        Refused { says: format!("{}{at}: {}", self.label, no.says), ..no }
+    }
+
+    fn fault(&self, text: &str, fault: Fault) -> String {
+        let (line, column) = line_and_column(text, fault.at);
+        format!("{}, line {line}, column {column}: {}{}", self.label, fault.message, excerpt(text, line, column))
+    }
+
+    fn no_text(&self, at: usize) -> String {
+        format!("{}: byte {at} is no text: save the file as UTF-8", self.label)
+    }
+}
+
+const READ: &str = "read are well-known text, well-known binary, GeoJSON, and CSV with a column called wkt or geom (or --column)";
+
+/// What the bytes are, by their first; or why they are nothing that is read.
+fn form(head: &[u8], ending: &str) -> Result<Form, String> {
+    if head.is_empty() {
+        return Err("is empty".to_string());
+    }
+    if let Some(other) = foreign(head) {
+        return Err(format!("is {other}"));
+    }
+    if head[0] == b'T' && head.get(1).is_some_and(|b| *b < b' ') {
+        return Ok(Form::Scene);
+    }
+    let text = !head.iter().any(|b| *b < b' ' && !b.is_ascii_whitespace() && *b != 0x1e);
+    match text {
+        true => Ok(Form::Text),
+        false if wkb::begins(head) || ending == "wkb" => Ok(Form::Wkb),
+        false if ending == "scene" => Ok(Form::Scene),
+        false => Err(format!("is nothing that is read; {READ}")),
+    }
+}
+
+/// Files of other programs, with the way from them.
+fn foreign(head: &[u8]) -> Option<&'static str> {
+    const WAY: [(&[u8], &str); 6] = [
+        (b"\x00\x00\x27\x0a", "a shapefile: `ogr2ogr -f GeoJSON out.geojson in.shp` makes GeoJSON of it, which is read"),
+        (
+            b"SQLite format 3\0",
+            "a GeoPackage or another SQLite file: `ogr2ogr -f GeoJSON out.geojson in.gpkg LAYER` makes GeoJSON of it, which is read",
+        ),
+        (b"PK\x03\x04", "a zip archive: unpack it first"),
+        (b"\x1f\x8b", "compressed: `gzip -dc` makes of it what it was, and - reads standard input"),
+        (b"<", "XML (KML, GML, SVG?): `ogr2ogr -f GeoJSON out.geojson IN` makes GeoJSON of the first two, which is read"),
+        (b"%PDF", "a PDF"),
+    ];
+    WAY.iter().find(|(begins, _)| head.starts_with(begins)).map(|(_, what)| *what)
+}
+
+/// Two objects are a scene, and so is what cannot be told; one object alone is a shape.
+fn scene_or_object(found: &[u8]) -> Held {
+    let alone = bytes::second(found) == found.len();
+    match Object::of(found.to_vec()) {
+        Ok(object) if alone => Held::Shapes(vec![Named { name: "shape".to_string(), object: Ok(object) }]),
+        _ => Held::Scene(found.to_vec()),
+    }
+}
+
+fn accepted(object: Vec<u8>) -> Result<Object, Refused> {
+    Object::of(object).map_err(|No { number, .. }| Refused { number, at: None, says: refusals::of(number).says.to_string() })
+}
+
+/// The two objects of a scene as shapes of a register.
+pub fn objects_of(scene: &[u8]) -> Vec<Named> {
+    let second = bytes::second(scene);
+    let named = |name: &str, bytes: &[u8]| {
+        let object = Object::of(bytes.to_vec());
+        let object = object.map_err(|No { number, place }| Refused { number, at: Some(place), says: refusals::of(number).says.to_string() });
+        Named { name: name.to_string(), object }
+    };
+    vec![named("F", &scene[..second]), named("G", &scene[second..])]
+}
+
+fn chosen_of(shapes: Vec<Named>, name: &str, label: &str) -> Result<Named, String> {
+    let by_name = shapes.iter().position(|shape| shape.name == name);
+    let by_number = || name.parse::<usize>().ok().filter(|number| (1..=shapes.len()).contains(number)).map(|number| number - 1);
+    match by_name.or_else(by_number) {
+        Some(at) => shapes.into_iter().nth(at).ok_or_else(String::new),
+        None => Err(format!("{label} has no shape called \"{name}\": {}", some_names(&shapes))),
+    }
+}
+
+/// The first names of a file, for messages.
+pub fn some_names(shapes: &[Named]) -> String {
+    let first: Vec<String> = shapes.iter().take(5).map(|shape| format!("\"{}\"", shape.name)).collect();
+    let more = if shapes.len() > 5 { format!(" and {} more", shapes.len() - 5) } else { String::new() };
+    format!("it has {}{more}", first.join(", "))
+}
+
+/// The line at fault with a sign under the column, cut to what a terminal shows.
+fn excerpt(text: &str, line: usize, column: usize) -> String {
+    let Some(found) = text.lines().nth(line - 1).filter(|line| !line.trim().is_empty()) else {
+        return String::new();
+    };
+    let start = (column - 1).saturating_sub(50);
+    let shown: String = found.chars().skip(start).take(72).map(|c| if c.is_whitespace() || c.is_control() { ' ' } else { c }).collect();
+    format!("\n  {}\n  {}^", shown.trim_end(), " ".repeat(column - 1 - start))
+}
+
+/// One object as well-known binary, by its name in a scene.
+pub fn written(scene: &[u8], which: usize) -> Result<Vec<u8>, String> {
+    let second = bytes::second(scene);
+    let (start, object) = if which == 0 { (0, &scene[..second]) } else { (second, &scene[second..]) };
+    library::write_wkb(object).map_err(|no| match no.number {
+        24 => " is a region: well-known binary is written of points and lines".to_string(),
+        number => {
+            let words = refusals::of(number);
+            format!(", byte {}: {} (number {number}). {}", start + no.place, words.says, words.advice)
+        }
+    })
+}
