@@ -5,7 +5,7 @@ use crate::grid::Grid;
 use crate::library::{self, No};
 use crate::pair::Object;
 use crate::refusals::{self, Refused};
-use crate::shape::{Fault, Item, line_and_column};
+use crate::shape::{Fault, Item, Lines};
 use crate::{bytes, csv, geojson, records, wkb, wkt};
 use std::fs::File;
 use std::io::Read;
@@ -185,8 +185,9 @@ impl Source {
     fn named(&self, text: &str, items: Vec<Item>) -> Vec<Named> {
         let many = items.len() > 1;
         let given = |at: usize| if many { format!("{} {}", self.stem, at + 1) } else { self.stem.clone() };
+        let lines = Lines::of(text);
         let place = |at: usize| {
-            let (line, column) = line_and_column(text, at);
+            let (line, column) = lines.place(at);
             format!("line {line}, column {column}")
         };
         let named = |(at, item): (usize, Item)| {
@@ -203,7 +204,7 @@ impl Source {
     }
 
     fn fault(&self, text: &str, fault: Fault) -> String {
-        let (line, column) = line_and_column(text, fault.at);
+        let (line, column) = Lines::of(text).place(fault.at);
         format!("{}, line {line}, column {column}: {}{}", self.label, fault.message, excerpt(text, line, column))
     }
 

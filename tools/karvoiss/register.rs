@@ -11,6 +11,7 @@ use crate::library::{self, Areas};
 use crate::pair::{self, Object};
 use crate::refusals::Refused;
 use crate::{csv, predicate, relate};
+use std::borrow::Cow;
 use std::collections::BTreeMap;
 use std::fmt::Write;
 use std::sync::atomic::{AtomicUsize, Ordering};
@@ -177,7 +178,7 @@ impl Register<'_> {
     }
 
     fn line(&self, rows: &mut String, f: &str, g: &str, matrix: &str, relation: &str, areas: Option<[String; 3]>) -> std::fmt::Result {
-        let w = self.width;
+        let (f, g, w) = (on_one_line(f), on_one_line(g), self.width);
         write!(rows, "{f:w$}  {g:w$}  {matrix}  ")?;
         match areas {
             Some([both, f_only, g_only]) => writeln!(rows, "{relation:10}{both:>16}{f_only:>16}{g_only:>16}"),
@@ -190,7 +191,7 @@ impl Register<'_> {
         let g = g.map_or("", |g| &self.shapes[g].name);
         let w = self.width;
         let written = match self.form {
-            Form::Table => writeln!(rows, "{f:w$}  {g:w$}  refused, {}: {}", no.number, no.says),
+            Form::Table => writeln!(rows, "{:w$}  {:w$}  refused, {}: {}", on_one_line(f), on_one_line(g), no.number, no.says),
             Form::Csv => {
                 let areas = if self.areas.is_some() { ",,," } else { "" };
                 writeln!(rows, "{},{},,{areas},{},{}", csv::quoted(f), csv::quoted(g), no.number, csv::quoted(&no.says))
@@ -202,6 +203,11 @@ impl Register<'_> {
         };
         debug_assert!(written.is_ok());
     }
+}
+
+/// A name without what would move the cursor of a terminal.
+fn on_one_line(name: &str) -> Cow<'_, str> {
+    if name.contains(char::is_control) { Cow::Owned(name.replace(char::is_control, " ")) } else { Cow::Borrowed(name) }
 }
 
 /// Twice a region's own area.

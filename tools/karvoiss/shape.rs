@@ -98,9 +98,33 @@ fn coordinate(wkb: &mut Vec<u8>, value: f64, at: usize, made: &mut impl FnMut(us
     wkb.extend(value.to_le_bytes());
 }
 
-/// Line and column of a place in a text, counted from 1, columns in characters.
-pub fn line_and_column(text: &str, at: usize) -> (usize, usize) {
-    let before = &text[..(0..=at.min(text.len())).rev().find(|at| text.is_char_boundary(*at)).unwrap_or(0)];
-    let line = before.rsplit('\n').next().unwrap_or("");
-    (before.matches('\n').count() + 1, line.chars().count() + 1)
+/// Where the lines of a text begin, so that places can be told by line and column however many there are.
+pub struct Lines<'a> {
+    text: &'a str,
+    starts: Vec<usize>,
+}
+
+impl<'a> Lines<'a> {
+    pub fn of(text: &'a str) -> Lines<'a> {
+        let starts = std::iter::once(0).chain(text.match_indices('\n').map(|(at, _)| at + 1)).collect();
+        Lines { text, starts }
+    }
+
+    /// Both counted from 1, columns in characters.
+    pub fn place(&self, at: usize) -> (usize, usize) {
+        let at = (0..=at.min(self.text.len())).rev().find(|at| self.text.is_char_boundary(*at)).unwrap_or(0);
+        let line = self.starts.partition_point(|start| *start <= at);
+        (line, self.text[self.starts[line - 1]..at].chars().count() + 1)
+    }
+}
+
+#[cfg(test)]
+mod tests {
+    use super::*;
+
+    #[test]
+    fn places() {
+        let lines = Lines::of("ab\né\n\n");
+        assert_eq!([0, 2, 3, 5, 6, 7, 99].map(|at| lines.place(at)), [(1, 1), (1, 3), (2, 1), (2, 2), (3, 1), (4, 1), (4, 1)]);
+    }
 }
