@@ -1,7 +1,7 @@
 # make test: everything that the gate checks. make run: builds explore and answers the sample scenes; make run SCENE=file answers a file.
 # make install PREFIX=dir: the command, its man page and completion, header, archive and pkg-config file. make fuzz SECONDS=n: fresh scenes and inputs for so long.
 # make wrong: the wrong programs that the gate leaves out; make wrong CRATES="a b": those of these crates.
-.PHONY: test run archive install fuzz wrong tools pictures bench fmt clean
+.PHONY: test run archive install fuzz wrong tools pictures bench registers fmt clean
 
 test:
 	@bash tests/gate
@@ -68,6 +68,10 @@ bench: archive
 	@bench/run
 	@bench/sides
 	@bench/window
+
+# Registers of real and of made data beside GEOS, after bench/setup: what docs/REGISTER.md has
+registers: archive
+	@bench/registers
 
 fmt:
 	@for crate in crates/*/; do (cd $$crate && rt fmt) || exit 1; done

@@ -79,6 +79,7 @@ fn object(geometry: &Value, grid: &mut Grid) -> Result<Result<Vec<u8>, Refused>,
         return Ok(Err(other(geometry, "this feature has no geometry".to_string())));
     }
     let kind = kind(geometry)?;
+    let placed = grid.placed();
     let mut reader = Reader { grid, refused: None };
     let parts = match kind {
         "Point" | "MultiPoint" | "LineString" | "MultiLineString" | "Polygon" | "MultiPolygon" => {
@@ -91,7 +92,7 @@ fn object(geometry: &Value, grid: &mut Grid) -> Result<Result<Vec<u8>, Refused>,
     let shape = Shape { kind: [Kind::Points, Kind::Line, Kind::Region][["Point", "LineString"].iter().position(|k| *k == of).unwrap_or(2)], parts };
     Ok(match reader.refused {
         Some(refused) => Err(refused),
-        None => shape.object(),
+        None => shape.object().inspect(|object| reader.grid.note(placed, object)),
     })
 }
 

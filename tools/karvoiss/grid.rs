@@ -10,11 +10,12 @@ pub struct Grid {
     placed: u64,
     moved: u64,
     furthest: f64,
+    vanished: u64,
 }
 
 impl Grid {
     pub fn new(scale: Decimal, origin: [Decimal; 2], round: bool) -> Grid {
-        Grid { scale, origin, round, placed: 0, moved: 0, furthest: 0.0 }
+        Grid { scale, origin, round, placed: 0, moved: 0, furthest: 0.0, vanished: 0 }
     }
 
     /// Coordinates are whole numbers as they stand.
@@ -51,6 +52,17 @@ impl Grid {
         Ok(whole)
     }
 
+    /// Coordinates that were placed so far.
+    pub fn placed(&self) -> u64 {
+        self.placed
+    }
+
+    /// An object that has no element, of coordinates that were placed since: rounding has put all its points together.
+    pub fn note(&mut self, placed_before: u64, object: &[u8]) {
+        let is_empty = object.len() == EMPTY;
+        self.vanished += (self.round && is_empty && self.placed > placed_before) as u64;
+    }
+
     fn exact(&self, word: &str, axis: usize) -> Result<Decimal, Fault> {
         Decimal::read(word)?.less(self.origin[axis])?.times(self.scale)
     }
@@ -60,7 +72,7 @@ impl Grid {
         if self.moves() {
             format!("{axis} {word} comes to {place} on the grid, which is not a whole number: enlarge --scale, or round with --round")
         } else {
-            format!("{axis} {word} is not a whole number: enlarge with --scale, or round with --round")
+            format!("{axis} {}", not_whole(word))
         }
     }
 
@@ -84,9 +96,22 @@ impl Grid {
             return Some(format!("rounded {of}"));
         }
         let distance = if self.moves() { format!(", {} in the file's unit", short(self.furthest / self.scale.to_float())) } else { String::new() };
-        Some(format!("rounded {of}, by {} of a grid step at most{distance}", short(self.furthest)))
+        let vanished = match self.vanished {
+            0 => String::new(),
+            1 => "; 1 shape vanished, all of whose points fell together".to_string(),
+            n => format!("; {} shapes vanished, all of whose points fell together", thousands(n)),
+        };
+        Some(format!("rounded {of}, by {} of a grid step at most{distance}{vanished}", short(self.furthest)))
     }
 }
+
+/// What is wrong with a number that is not on the grid as it stands.
+pub fn not_whole(word: &str) -> String {
+    format!("{word} is not a whole number: enlarge with --scale, or round with --round")
+}
+
+/// As many bytes as an object without elements has.
+const EMPTY: usize = 3;
 
 /// A number with commas between its thousands.
 pub fn thousands(number: u64) -> String {
@@ -125,6 +150,14 @@ mod tests {
         let mut grid = grid("10", ["0", "0"], true);
         assert_eq!(["0.1", "0.12", "0.15"].map(|word| grid.place(word, 0)), [Ok(1.0), Ok(1.0), Ok(2.0)]);
         assert_eq!(grid.report().unwrap(), "rounded 2 of 3 coordinates, by 0.5 of a grid step at most, 0.05 in the file's unit");
+    }
+
+    #[test]
+    fn shapes_that_vanish() {
+        let mut grid = grid("1", ["0", "0"], true);
+        let read = crate::wkt::read("LINESTRING (0.1 0, 0 0.2) LINESTRING EMPTY LINESTRING (0.1 0, 3 0)", &mut grid).unwrap();
+        assert_eq!(read.len(), 3);
+        assert!(grid.report().unwrap().ends_with("; 1 shape vanished, all of whose points fell together"));
     }
 
     #[test]

@@ -99,7 +99,8 @@ fn file(path: &str) -> Result<Source, String> {
 fn plain(error: &std::io::Error) -> String {
     let text = error.to_string();
     let text = text.split(" (os error").next().unwrap_or("");
-    text[..1].to_lowercase() + &text[1..]
+    let mut letters = text.chars();
+    letters.next().into_iter().flat_map(char::to_lowercase).chain(letters).collect()
 }
 
 impl Source {
@@ -312,4 +313,71 @@ pub fn written(scene: &[u8], which: usize) -> Result<Vec<u8>, String> {
             format!(", byte {}: {} (number {number}). {}", start + no.place, words.says, words.advice)
         }
     })
+}
+
+#[cfg(test)]
+mod tests {
+    use super::*;
+    use crate::decimal::Decimal;
+
+    fn read(bytes: &[u8], ending: &str, round: bool) -> Result<Held, String> {
+        let grid = Grid::new(Decimal::ONE, [Decimal::ZERO; 2], round);
+        Source::read(bytes, "file", "file", ending, None)?.held(&mut Reading { grid, column: None, name: None })
+    }
+
+    fn shapes(bytes: &[u8], ending: &str) -> usize {
+        match read(bytes, ending, false) {
+            Ok(Held::Shapes(shapes)) => shapes.iter().filter(|shape| shape.object.is_ok()).count(),
+            _ => 0,
+        }
+    }
+
+    const SQUARE: &str = "POLYGON ((0 0, 4 0, 4 4, 0 4, 0 0), (1 1, 2 1, 2 2, 1 1))";
+
+    fn files() -> Vec<(Vec<u8>, &'static str)> {
+        let hex = "01050000000100000001020000000200000000000000000000000000000000000000000000000000f03f000000000000f0bf";
+        let geojson =
+            "{\"type\": \"FeatureCollection\", \"features\": [{\"type\": \"Feature\", \"id\": 3, \"properties\": {\"name\": \"\u{e9}\\u00e9\"},
+            \"geometry\": {\"type\": \"MultiPolygon\", \"coordinates\": [[[[0, 0], [4.0, 0], [4e0, 4], [0, 0]]]]}}]}";
+        let scene = ["POINT (1 1)", SQUARE].map(|text| wkt::read(text, &mut Grid::as_it_stands()).unwrap().remove(0).object.unwrap()).concat();
+        vec![
+            (format!("# a\n{SQUARE}\nSRID=4;MULTIPOINT ((0 0), EMPTY, 1 1);\nMULTILINESTRING ((0 0, 1 1))\n").into_bytes(), ""),
+            (geojson.as_bytes().to_vec(), ""),
+            (format!("id;name;wkt\n1;\"a \"\"b\"\"\";\"{SQUARE}\"\n2;;{hex}\n").into_bytes(), ""),
+            (format!("{hex}\n{hex}\n").into_bytes(), ""),
+            (wkb::unspelt(hex.as_bytes()).unwrap(), ""),
+            (scene.clone(), ""),
+            (crate::show::all(&scene).into_bytes(), ""),
+        ]
+    }
+
+    #[test]
+    fn told_by_their_first_bytes() {
+        let found: Vec<usize> = files().iter().map(|(bytes, ending)| shapes(bytes, ending)).collect();
+        assert_eq!(found, [3, 1, 2, 2, 1, 0, 0]);
+        assert_eq!(shapes(b"POINT (0 0)", "wkt"), 1);
+        assert!(files()[5..].iter().all(|(bytes, ending)| matches!(read(bytes, ending, false), Ok(Held::Scene(_)))));
+    }
+
+    /// Files cut at each byte, and with each byte changed, are read or refused, and bring nothing down.
+    #[test]
+    fn any_file() {
+        for (bytes, _) in files() {
+            for ending in ["", "wkt", "json", "csv", "wkb"] {
+                (0..bytes.len())
+                    .filter_map(|length| read(&bytes[..length], ending, true).err())
+                    .for_each(|message| assert!(message.starts_with("file")));
+            }
+            for at in 0..bytes.len() {
+                for value in [0, 1, 3, 10, 32, 34, 35, 40, 41, 44, 45, 46, 48, 57, 59, 69, 91, 92, 93, 101, 123, 125, 127, 128, 195, 239, 255] {
+                    let mut changed = bytes.clone();
+                    changed[at] = value;
+                    for round in [false, true] {
+                        let read = read(&changed, "", round);
+                        assert!(read.as_ref().err().is_none_or(|message| message.starts_with("file")));
+                    }
+                }
+            }
+        }
+    }
 }

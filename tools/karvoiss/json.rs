@@ -56,7 +56,9 @@ const DEPTH: usize = 128;
 
 /// All values of a text: one, or a line for each as in GeoJSON text sequences.
 pub fn read(text: &str) -> Result<Vec<Value<'_>>, Fault> {
-    let mut reader = Reader { text, bytes: text.as_bytes(), at: 0 };
+    // a byte order mark may stand first
+    let at = text.len() - text.trim_start_matches('\u{feff}').len();
+    let mut reader = Reader { text, bytes: text.as_bytes(), at };
     let mut values = Vec::new();
     loop {
         reader.white();
@@ -74,9 +76,9 @@ struct Reader<'a> {
 }
 
 impl<'a> Reader<'a> {
-    /// White space, and the record separator and byte order mark that may stand before a text.
+    /// White space, and the record separator that may stand before a text.
     fn white(&mut self) {
-        while self.bytes.get(self.at).is_some_and(|b| b" \t\r\n\x1e\xef\xbb\xbf".contains(b)) {
+        while self.bytes.get(self.at).is_some_and(|b| b" \t\r\n\x1e".contains(b)) {
             self.at += 1;
         }
     }

@@ -1,7 +1,7 @@
 //! Well-known binary, in hexadecimal too: read and written by the library. Before it is read, a single geometry becomes a MULTI kind of one part and a leading SRID is left out;
 //! where coordinates are put on another grid they are replaced in place. All else, and whatever is at fault, is the library's to see.
 
-use crate::grid::Grid;
+use crate::grid::{self, Grid};
 use crate::library;
 use crate::refusals::{self, Refused};
 
@@ -118,22 +118,19 @@ fn float(low_first: bool, bytes: &[u8]) -> f64 {
 /// A MULTI kind, whose bytes are so many further on in the file.
 fn whole(mut wkb: Vec<u8>, moved: isize, grid: &mut Grid) -> Result<Vec<u8>, Refused> {
     let place = |at: usize| Some(at.saturating_add_signed(moved));
+    let placed = grid.placed();
     if !grid.is_as_it_stands() {
         Walk { wkb: &mut wkb, at: 0, grid }.collection().map_err(|(at, says)| Refused { number: 25, at: place(at), says })?;
     }
-    library::read_wkb(&wkb).map_err(|(no, value)| {
+    library::read_wkb(&wkb).inspect(|object| grid.note(placed, object)).map_err(|(no, value)| {
         let at = if (24..=26).contains(&no.number) { place(no.place) } else { None };
         let says = match no.number {
-            25 if value.fract() != 0.0 => Grid::as_it_stands().place(&format!("{value}"), no.place / 8 % 2).err().unwrap_or_default(),
+            // of an infinity and of a NaN this is false
+            25 if value.fract().abs() > 0.0 => grid::not_whole(&value.to_string()),
             number => refusals::sentence(number, value),
         };
-        Refused { number: no.number, at, says: without_axis(says) }
+        Refused { number: no.number, at, says }
     })
-}
-
-/// The library says at which byte a number stands, and not whether it is an x or a y.
-fn without_axis(says: String) -> String {
-    says.strip_prefix("x ").or(says.strip_prefix("y ")).map(str::to_string).unwrap_or(says)
 }
 
 /// From field to field, each coordinate replaced by its place on the grid. It ends where the bytes are no well-known binary, which the library then refuses.

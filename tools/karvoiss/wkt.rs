@@ -155,11 +155,11 @@ impl<'a, 'g> Reader<'a, 'g> {
 
     fn item(&mut self) -> Result<Item, Fault> {
         self.srid()?;
-        let at = self.at;
+        let (at, placed) = (self.at, self.grid.placed());
         let shape = self.geometry()?;
         let object = match self.refused.take() {
             Some(refused) => Err(refused),
-            None => shape.object(),
+            None => shape.object().inspect(|object| self.grid.note(placed, object)),
         };
         Ok(Item { name: None, at, object })
     }
