@@ -33,10 +33,19 @@ extern "C" {
     fn GEOSSTRtree_insert_r(handle: Handle, tree: *mut c_void, geometry: *const c_void, item: *mut c_void);
     fn GEOSSTRtree_query_r(handle: Handle, tree: *mut c_void, geometry: *const c_void, visit: Visit, data: *mut c_void);
     fn GEOSGetNumCoordinates_r(handle: Handle, geometry: *const c_void) -> c_int;
+    fn GEOSGeom_getDimensions_r(handle: Handle, geometry: *const c_void) -> c_int;
+    fn GEOSBoundary_r(handle: Handle, geometry: *const c_void) -> Geometry;
+    fn GEOSisEmpty_r(handle: Handle, geometry: *const c_void) -> c_char;
     fn dlsym(handle: *mut c_void, name: *const c_char) -> *mut c_void;
 }
 
-const FAR: &str = "FF2FF1212";
+/// What a shape's interior and boundary are to a shape that lies apart: the dimensions, F for no boundary.
+unsafe fn alone(geos: Handle, shape: Geometry) -> [char; 2] {
+    let dimension = GEOSGeom_getDimensions_r(geos, shape) as usize;
+    let boundary = GEOSBoundary_r(geos, shape);
+    let bounded = GEOSisEmpty_r(geos, boundary) == 0;
+    [['0', '1', '2'][dimension], if bounded { ['F', '0', '1'][dimension] } else { 'F' }]
+}
 
 fn main() {
     let words: Vec<String> = std::env::args().skip(1).collect();
@@ -114,20 +123,20 @@ fn register(file: &str, mut grid: Grid) {
             vertices += GEOSGetNumCoordinates_r(geos, shape);
             if GEOSisValid_r(geos, shape) == 1 {
                 GEOSSTRtree_insert_r(geos, tree, shape, shapes.len() as *mut c_void);
-                shapes.push((name, shape));
+                shapes.push((name, shape, alone(geos, shape)));
             } else {
                 writeln!(out, "{name},,invalid").expect("written");
             }
         }
         let mut near = 0;
         for first in 0..shapes.len() {
-            let (f, shape) = &shapes[first];
+            let (f, shape, [i, b]) = &shapes[first];
             let prepared = GEOSPrepare_r(geos, *shape);
             let mut found: Vec<usize> = Vec::new();
             GEOSSTRtree_query_r(geos, tree, *shape, met, &mut found as *mut Vec<usize> as *mut c_void);
             found.sort_unstable();
             let mut candidates = found.into_iter().filter(|at| *at > first).peekable();
-            for (second, (g, other)) in shapes.iter().enumerate().skip(first + 1) {
+            for (second, (g, other, [j, c])) in shapes.iter().enumerate().skip(first + 1) {
                 let is_near = candidates.next_if_eq(&second).is_some();
                 near += is_near as u64;
                 let matrix = match prepared_relate {
@@ -136,7 +145,7 @@ fn register(file: &str, mut grid: Grid) {
                     None if GEOSPreparedIntersects_r(geos, prepared, *other) == 1 => Some(GEOSRelate_r(geos, *shape, *other)),
                     None => None,
                 };
-                let signs = matrix.map_or(FAR, |matrix| CStr::from_ptr(matrix).to_str().expect("signs"));
+                let signs = matrix.map_or(format!("FF{i}FF{b}{j}{c}2"), |matrix| CStr::from_ptr(matrix).to_string_lossy().into_owned());
                 writeln!(out, "{f},{g},{signs}").expect("written");
                 matrix.into_iter().for_each(|matrix| GEOSFree_r(geos, matrix as *mut c_void));
             }
@@ -145,6 +154,9 @@ fn register(file: &str, mut grid: Grid) {
         eprintln!("{} shapes of {} vertices, {near} pairs whose boxes meet", shapes.len(), vertices as c_uint);
     }
 }
+
+/// As many of the pairs that differ are written.
+const SHOWN: u64 = 5;
 
 /// Both registers by their pairs; where they differ, and what ours refuses, is written.
 fn compare(ours: &str, theirs: &str) {
@@ -160,11 +172,13 @@ fn compare(ours: &str, theirs: &str) {
             _ if !number.is_empty() => *refused.entry(format!("{number}{}", if line[1].is_empty() { " (shape)" } else { "" })).or_default() += 1,
             Some(matrix) if *matrix == line[2] => {
                 same += 1;
-                near += (matrix != FAR) as u64;
+                near += !(matrix.starts_with("FF") && matrix[3..].starts_with("FF")) as u64;
             }
             Some(matrix) => {
                 differ += 1;
-                println!("  {} and {}: ours {}, GEOS {matrix}", line[0], line[1], line[2]);
+                if differ <= SHOWN {
+                    println!("  {} and {}: ours {}, GEOS {matrix}", line[0], line[1], line[2]);
+                }
             }
             None => alone += 1,
         }

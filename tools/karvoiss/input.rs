@@ -71,8 +71,8 @@ fn source(argument: &str) -> Result<(Source, Option<&str>), String> {
     if Path::new(argument).exists() {
         return Ok((file(argument)?, None));
     }
-    if let Some((path, name)) = argument.rsplit_once('#').filter(|(path, _)| Path::new(path).exists()) {
-        return Ok((file(path)?, Some(name)));
+    if let Some((at, _)) = argument.match_indices('#').find(|(at, _)| Path::new(&argument[..*at]).exists()) {
+        return Ok((file(&argument[..at])?, Some(&argument[at + 1..])));
     }
     let word = argument.trim_start().split(|c: char| !c.is_ascii_alphabetic()).next().unwrap_or("");
     if argument.contains(['(', ' ']) && wkt::is_kind(word) {
@@ -122,9 +122,18 @@ impl Source {
 
     fn held(&self, reading: &mut Reading) -> Result<Held, String> {
         match self.form {
-            Form::Scene => Ok(scene_or_object(&self.bytes)),
+            Form::Scene => Ok(self.scene_or_object(&self.bytes)),
             Form::Wkb => Ok(Held::Shapes(vec![self.binary(&self.bytes, self.stem.clone(), &mut reading.grid)])),
             Form::Text => self.text(reading),
+        }
+    }
+
+    /// Two objects are a scene, and so is what cannot be told; one object alone is a shape.
+    fn scene_or_object(&self, found: &[u8]) -> Held {
+        let alone = bytes::second(found) == found.len();
+        match Object::of(found.to_vec()) {
+            Ok(object) if alone => Held::Shapes(vec![Named { name: self.stem.clone(), object: Ok(object) }]),
+            _ => Held::Scene(found.to_vec()),
         }
     }
 
@@ -137,7 +146,7 @@ impl Source {
         let text = std::str::from_utf8(&self.bytes).map_err(|error| self.no_text(error.valid_up_to()))?;
         let plain = text.trim_start_matches('\u{feff}').trim_start();
         if records::is_listing(plain) {
-            return records::read(text).map(|bytes| scene_or_object(&bytes)).map_err(|fault| self.fault(text, fault));
+            return records::read(text).map(|bytes| self.scene_or_object(&bytes)).map_err(|fault| self.fault(text, fault));
         }
         if let Some(shapes) = self.hexadecimal(text, &mut reading.grid) {
             return Ok(Held::Shapes(shapes));
@@ -250,15 +259,6 @@ fn foreign(head: &[u8]) -> Option<&'static str> {
         (b"%PDF", "a PDF"),
     ];
     WAY.iter().find(|(begins, _)| head.starts_with(begins)).map(|(_, what)| *what)
-}
-
-/// Two objects are a scene, and so is what cannot be told; one object alone is a shape.
-fn scene_or_object(found: &[u8]) -> Held {
-    let alone = bytes::second(found) == found.len();
-    match Object::of(found.to_vec()) {
-        Ok(object) if alone => Held::Shapes(vec![Named { name: "shape".to_string(), object: Ok(object) }]),
-        _ => Held::Scene(found.to_vec()),
-    }
 }
 
 fn accepted(object: Vec<u8>) -> Result<Object, Refused> {
