@@ -57,7 +57,9 @@ pub fn of_signs(signs: library::Cells) -> Cells {
 
 /// The nine signs, row by row.
 pub fn matrix(cells: &Cells) -> String {
-    cells.iter().flatten().map(|cell| cell.sign()).collect()
+    let mut matrix = String::with_capacity(9);
+    cells.iter().flatten().for_each(|cell| matrix.push(cell.sign()));
+    matrix
 }
 
 /// The types of a scene's objects, each the second byte of its type record.

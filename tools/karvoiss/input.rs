@@ -96,7 +96,7 @@ fn file(path: &str) -> Result<Source, String> {
 }
 
 /// An error of the system without its number.
-fn plain(error: &std::io::Error) -> String {
+pub fn plain(error: &std::io::Error) -> String {
     let text = error.to_string();
     let text = text.split(" (os error").next().unwrap_or("");
     let mut letters = text.chars();

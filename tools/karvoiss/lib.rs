@@ -25,6 +25,7 @@ pub mod register;
 pub mod relate;
 pub mod relation;
 pub mod rings;
+pub mod rows;
 pub mod shape;
 pub mod show;
 pub mod two;

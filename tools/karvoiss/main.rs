@@ -5,8 +5,9 @@ use karvoiss::input::{self, Held, Named, Reading};
 use karvoiss::listing::NAMES;
 use karvoiss::options::{COMMANDS, Options};
 use karvoiss::progress::Progress;
-use karvoiss::register::{Form, Register};
+use karvoiss::register::{Register, Tally};
 use karvoiss::relate::{self, Question};
+use karvoiss::rows::Form;
 use karvoiss::two::{self, Asked, Failure};
 use karvoiss::{draw, explain, help, json, library, predicate, refusals, show, wkb};
 use std::collections::HashMap;
@@ -195,7 +196,7 @@ fn output(options: &Options, bytes: &[u8]) -> Result<(), Failure> {
 fn broken_pipe_is_fine(written: std::io::Result<()>, options: &Options) -> Result<(), Failure> {
     let to = options.out.as_deref().unwrap_or("standard output");
     match written {
-        Err(error) if error.kind() != ErrorKind::BrokenPipe => Err(Failure::Wrong(format!("cannot write to {to}: {error}"))),
+        Err(error) if error.kind() != ErrorKind::BrokenPipe => Err(Failure::Wrong(format!("cannot write to {to}: {}", input::plain(&error)))),
         _ => Ok(()),
     }
 }
@@ -212,7 +213,7 @@ fn register(options: &Options, reading: &mut Reading) -> Result<End, Failure> {
     let register = Register::new(&shapes, &reading.grid, form, options.near, options.areas);
     let threads = options.threads.or(std::thread::available_parallelism().ok().map(usize::from)).unwrap_or(1);
     let to: Box<dyn Write> = match &options.out {
-        Some(file) => Box::new(std::fs::File::create(file).map_err(|error| format!("cannot write to {file}: {error}"))?),
+        Some(file) => Box::new(std::fs::File::create(file).map_err(|error| format!("cannot write to {file}: {}", input::plain(&error)))?),
         None => Box::new(std::io::stdout()),
     };
     let tally = written(&register, threads, BufWriter::new(to));
@@ -224,7 +225,7 @@ fn register(options: &Options, reading: &mut Reading) -> Result<End, Failure> {
     Ok(if tally.has_refusals() { End::Refused } else { End::Answered })
 }
 
-fn written(register: &Register, threads: usize, mut to: impl Write) -> std::io::Result<karvoiss::register::Tally> {
+fn written(register: &Register, threads: usize, mut to: impl Write) -> std::io::Result<Tally> {
     let mut progress = Progress::new(register.pairs());
     to.write_all(register.heading().as_bytes())?;
     let tally = register.run(threads, |rows, pairs| {

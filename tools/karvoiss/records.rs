@@ -42,20 +42,22 @@ fn record(line: &str) -> Option<Record> {
         _ => {}
     }
     let (letter, fields) = word.strip_suffix(')')?.split_once('(')?;
-    let numbers: Vec<i64> = fields.split(',').map(|field| field.parse().ok()).collect::<Option<_>>()?;
+    let numbers: Vec<i32> = fields.split(',').map(|field| field.parse().ok()).collect::<Option<_>>()?;
+    let byte = |number: &i32| u8::try_from(*number).ok();
     match (letter, &numbers[..]) {
-        ("P", [x, y]) => Some(Record::Point(Point { x: *x, y: *y })),
-        ("L", [ends @ .., d]) => Some(Record::Line(half(ends, *d)?)),
-        ("R", [ends @ .., d, ia]) => Some(Record::Region(half(ends, *d)?, *ia as u8)),
+        ("P", [x, y]) => Some(Record::Point(point(*x, *y))),
+        ("L", [a, b, x, y, d]) => Some(Record::Line(half([*a, *b, *x, *y], byte(d)?))),
+        ("R", [a, b, x, y, d, ia]) => Some(Record::Region(half([*a, *b, *x, *y], byte(d)?), byte(ia)?)),
         _ => None,
     }
 }
 
-fn half(ends: &[i64], d: i64) -> Option<Half> {
-    match ends {
-        [a, b, x, y] => Some(Half { segment: Segment { left: Point { x: *a, y: *b }, right: Point { x: *x, y: *y } }, d: d as u8 }),
-        _ => None,
-    }
+fn point(x: i32, y: i32) -> Point {
+    Point { x: x.into(), y: y.into() }
+}
+
+fn half([a, b, x, y]: [i32; 4], d: u8) -> Half {
+    Half { segment: Segment { left: point(a, b), right: point(x, y) }, d }
 }
 
 #[cfg(test)]
@@ -70,6 +72,8 @@ mod tests {
         assert_eq!(bytes[..11], [84, 1, 80, 0x81, 0x96, 0x98, 0, 0, 0, 0, 0]);
         assert_eq!(read(&show::all(&bytes)).unwrap(), bytes);
         assert!(is_listing(text) && is_listing(&show::all(&bytes)) && !is_listing("POINT (0 0)"));
-        assert_eq!(read("type 1\nP(1)\n"), Err(Fault { at: 7, message: "no record: \"P(1)\"".to_string() }));
+        for record in ["P(1)", "P(2147483648,0)", "L(0,0,1,1,256)", "R(0,0,1,1,1)", "Q(0,0)", "type 256"] {
+            assert_eq!(read(&format!("type 1\n{record}\n")), Err(Fault { at: 7, message: format!("no record: \"{record}\"") }));
+        }
     }
 }

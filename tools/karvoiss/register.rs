@@ -6,33 +6,22 @@ use crate::answer::{self, Cell, Cells};
 use crate::bytes::Kind;
 use crate::grid::{Grid, thousands};
 use crate::input::Named;
-use crate::json;
 use crate::library::{self, Areas};
 use crate::pair::{self, Object};
-use crate::refusals::Refused;
-use crate::{csv, predicate, relate};
-use std::borrow::Cow;
+use crate::rows::{Form, Rows};
+use crate::{predicate, relate};
 use std::collections::BTreeMap;
-use std::fmt::Write;
 use std::sync::atomic::{AtomicUsize, Ordering};
 use std::sync::mpsc;
-
-#[derive(Clone, Copy, PartialEq, Debug)]
-pub enum Form {
-    Table,
-    Csv,
-    Json,
-}
 
 pub struct Register<'a> {
     shapes: &'a [Named],
     grid: &'a Grid,
-    form: Form,
+    rows: Rows,
     /// Whether pairs that the summaries tell apart are left out.
     near: bool,
     /// Twice the area of each region, where areas are wanted.
     areas: Option<Vec<Option<i64>>>,
-    width: usize,
 }
 
 /// How many pairs, by what became of them; how many shapes and pairs are refused, by number.
@@ -45,32 +34,21 @@ pub struct Tally {
     refused_shapes: BTreeMap<u32, u64>,
 }
 
-/// The widest name that columns are lined up for.
-const WIDEST: usize = 30;
-
 impl Register<'_> {
     pub fn new<'a>(shapes: &'a [Named], grid: &'a Grid, form: Form, near: bool, areas: bool) -> Register<'a> {
-        let width = shapes.iter().map(|shape| shape.name.chars().count()).max().unwrap_or(0).min(WIDEST);
+        let rows = Rows::new(form, areas, shapes.iter().map(|shape| shape.name.as_str()));
         let areas = areas.then(|| shapes.iter().map(|shape| shape.object.as_ref().ok().and_then(own_area)).collect());
-        Register { shapes, grid, form, near, areas, width }
+        Register { shapes, grid, rows, near, areas }
+    }
+
+    pub fn heading(&self) -> String {
+        self.rows.heading()
     }
 
     /// Pairs of shapes that are not refused.
     pub fn pairs(&self) -> u64 {
         let sound = self.shapes.iter().filter(|shape| shape.object.is_ok()).count() as u64;
         sound * sound.saturating_sub(1) / 2
-    }
-
-    pub fn heading(&self) -> String {
-        let areas = self.areas.is_some();
-        match self.form {
-            Form::Json => String::new(),
-            Form::Csv => format!("f,g,matrix,relation{},refused,says\n", if areas { ",both,f_only,g_only" } else { "" }),
-            Form::Table => {
-                let areas = if areas { format!("{:>16}{:>16}{:>16}", "both", "F only", "G only") } else { String::new() };
-                format!("{:w$}  {:w$}  {:9}  {:10}{areas}", "F", "G", "matrix", "relation", w = self.width).trim_end().to_string() + "\n"
-            }
-        }
     }
 
     /// Writes all rows by so many threads; `write` is given rows and how many pairs they are of.
@@ -83,7 +61,7 @@ impl Register<'_> {
                 scope.spawn(move || {
                     loop {
                         let first = next.fetch_add(1, Ordering::Relaxed);
-                        if first >= self.shapes.len() || send.send((first, self.rows(first))).is_err() {
+                        if first >= self.shapes.len() || send.send((first, self.of(first))).is_err() {
                             return;
                         }
                     }
@@ -111,13 +89,13 @@ impl Register<'_> {
     }
 
     /// The rows of one shape with each after it; of a shape that is refused, one row.
-    fn rows(&self, first: usize) -> (String, Tally) {
+    fn of(&self, first: usize) -> (String, Tally) {
         let (mut rows, mut tally) = (String::new(), Tally::default());
         let f = match &self.shapes[first].object {
             Ok(f) => f,
             Err(no) => {
                 *tally.refused_shapes.entry(no.number).or_default() += 1;
-                self.refusal(&mut rows, first, None, no);
+                self.rows.refusal(&mut rows, first, None, no);
                 return (rows, tally);
             }
         };
@@ -135,7 +113,7 @@ impl Register<'_> {
             tally.far += 1;
             if !self.near {
                 let areas = self.areas.as_ref().and_then(|own| Some(Areas { both: 0, f_only: own[at[0]]?, g_only: own[at[1]]? }));
-                self.row(rows, at, [f.kind(), g.kind()], &apart(f, g), areas);
+                self.answer(rows, at, &apart(f, g), "disjoint", areas);
             }
             return;
         }
@@ -143,71 +121,18 @@ impl Register<'_> {
             Ok(pair) => {
                 tally.split += (pair.added != [0, 0]) as u64;
                 let areas = if self.areas.is_some() { library::areas(&pair.scene).ok() } else { None };
-                self.row(rows, at, [f.kind(), g.kind()], &pair.cells, areas);
+                self.answer(rows, at, &pair.cells, predicate::name([f.kind(), g.kind()], &pair.cells), areas);
             }
             Err(no) => {
                 *tally.refused_pairs.entry(no.number).or_default() += 1;
-                self.refusal(rows, at[0], Some(at[1]), &no);
+                self.rows.refusal(rows, at[0], Some(at[1]), &no);
             }
         }
     }
 
-    fn row(&self, rows: &mut String, at: [usize; 2], kinds: [Kind; 2], cells: &Cells, areas: Option<Areas>) {
-        let (f, g) = (&self.shapes[at[0]].name, &self.shapes[at[1]].name);
-        let (matrix, relation) = (answer::matrix(cells), predicate::name(kinds, cells));
-        let areas = areas.map(|areas| relate::areas_of(&areas, self.grid));
-        let written = match self.form {
-            Form::Table => self.line(rows, f, g, &matrix, relation, areas),
-            Form::Csv => {
-                let areas = areas.map(|areas| format!(",{}", areas.join(","))).unwrap_or(if self.areas.is_some() {
-                    ",,,".to_string()
-                } else {
-                    String::new()
-                });
-                writeln!(rows, "{},{},{matrix},{relation}{areas},,", csv::quoted(f), csv::quoted(g))
-            }
-            Form::Json => {
-                let areas =
-                    areas.map(|[both, f, g]| format!(", \"areas\": {{\"both\": {both}, \"f_only\": {f}, \"g_only\": {g}}}")).unwrap_or_default();
-                let (f, g) = (json::quoted(f), json::quoted(g));
-                writeln!(rows, "{{\"f\": {f}, \"g\": {g}, \"matrix\": \"{matrix}\", \"relation\": \"{relation}\"{areas}}}")
-            }
-        };
-        // a string takes all that is written to it
-        debug_assert!(written.is_ok());
+    fn answer(&self, rows: &mut String, at: [usize; 2], cells: &Cells, relation: &str, areas: Option<Areas>) {
+        self.rows.answer(rows, at, &answer::matrix(cells), relation, areas.map(|areas| relate::areas_of(&areas, self.grid)));
     }
-
-    fn line(&self, rows: &mut String, f: &str, g: &str, matrix: &str, relation: &str, areas: Option<[String; 3]>) -> std::fmt::Result {
-        let (f, g, w) = (on_one_line(f), on_one_line(g), self.width);
-        write!(rows, "{f:w$}  {g:w$}  {matrix}  ")?;
-        match areas {
-            Some([both, f_only, g_only]) => writeln!(rows, "{relation:10}{both:>16}{f_only:>16}{g_only:>16}"),
-            None => writeln!(rows, "{relation}"),
-        }
-    }
-
-    fn refusal(&self, rows: &mut String, f: usize, g: Option<usize>, no: &Refused) {
-        let f = &self.shapes[f].name;
-        let g = g.map_or("", |g| &self.shapes[g].name);
-        let w = self.width;
-        let written = match self.form {
-            Form::Table => writeln!(rows, "{:w$}  {:w$}  refused, {}: {}", on_one_line(f), on_one_line(g), no.number, no.says),
-            Form::Csv => {
-                let areas = if self.areas.is_some() { ",,," } else { "" };
-                writeln!(rows, "{},{},,{areas},{},{}", csv::quoted(f), csv::quoted(g), no.number, csv::quoted(&no.says))
-            }
-            Form::Json => {
-                let g = if g.is_empty() { String::new() } else { format!("\"g\": {}, ", json::quoted(g)) };
-                writeln!(rows, "{{\"f\": {}, {g}\"refused\": {}, \"says\": {}}}", json::quoted(f), no.number, json::quoted(&no.says))
-            }
-        };
-        debug_assert!(written.is_ok());
-    }
-}
-
-/// A name without what would move the cursor of a terminal.
-fn on_one_line(name: &str) -> Cow<'_, str> {
-    if name.contains(char::is_control) { Cow::Owned(name.replace(char::is_control, " ")) } else { Cow::Borrowed(name) }
 }
 
 /// Twice a region's own area.
@@ -286,6 +211,7 @@ fn short(number: u32) -> &'static str {
 #[cfg(test)]
 mod tests {
     use super::*;
+    use crate::refusals::Refused;
     use crate::wkt;
 
     fn shapes(text: &str) -> Vec<Named> {

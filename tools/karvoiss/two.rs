@@ -4,6 +4,7 @@ use crate::bytes;
 use crate::input::{self, Held, Named, Reading};
 use crate::pair::{self, Object};
 use crate::refusals::Refused;
+use std::io::IsTerminal;
 
 pub enum Two {
     Scene(Vec<u8>),
@@ -33,6 +34,7 @@ impl From<String> for Failure {
 
 pub fn read(files: &[String], reading: &mut Reading) -> Result<Two, Failure> {
     match files {
+        [] if std::io::stdin().is_terminal() => Err(Failure::Wrong("name the files of two shapes, or one file with both".to_string())),
         [] => of_one("-", reading),
         [both] => of_one(both, reading),
         [f, g] if f == "-" && g == "-" => Err(Failure::Wrong("standard input can be read once only".to_string())),
