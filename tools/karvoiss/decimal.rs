@@ -48,6 +48,10 @@ impl Decimal {
         Ok(Decimal { digits, exponent: power + whole.len() as i32 - kept as i32 })
     }
 
+    pub fn whole_of(number: i128) -> Decimal {
+        Decimal::new(number, 0)
+    }
+
     fn new(digits: i128, exponent: i32) -> Decimal {
         if digits == 0 {
             return Decimal::ZERO;

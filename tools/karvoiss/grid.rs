@@ -81,6 +81,12 @@ impl Grid {
         value / self.scale.to_float() + self.origin[axis].to_float()
     }
 
+    /// The scale that is so many times as large; none where rounding would make other shapes of it.
+    pub fn enlarged(&self, times: i128) -> Option<String> {
+        let scale = self.scale.times(Decimal::whole_of(times)).ok()?;
+        if self.round { None } else { Some(scale.to_string()) }
+    }
+
     /// A number of squares of the grid as an area of the file.
     pub fn area(&self, squares: f64) -> f64 {
         squares / self.scale.to_float() / self.scale.to_float()
