@@ -10,7 +10,7 @@ use karvoiss::relate::{self, Question};
 use karvoiss::rows::Form;
 use karvoiss::two::{self, Asked, Failure};
 use karvoiss::{draw, explain, help, json, library, predicate, refusals, show, wkb};
-use std::collections::HashMap;
+use std::collections::{HashMap, HashSet};
 use std::io::{BufWriter, ErrorKind, IsTerminal, Write};
 use std::process::ExitCode;
 
@@ -22,7 +22,11 @@ enum End {
 }
 
 fn main() -> ExitCode {
-    let words: Vec<String> = std::env::args().skip(1).collect();
+    let words: Result<Vec<String>, _> = std::env::args_os().skip(1).map(std::ffi::OsString::into_string).collect();
+    let Ok(words) = words else {
+        eprintln!("karvoiss: a word of the command line is no UTF-8");
+        return ExitCode::from(2);
+    };
     let Some(command) = words.first() else {
         eprint!("{}", help::OVERVIEW);
         return ExitCode::from(2);
@@ -239,7 +243,7 @@ fn written(register: &Register, threads: usize, mut to: impl Write) -> std::io::
     Ok(tally)
 }
 
-/// The shapes of all files in their order; names that occur before are told apart by a number.
+/// The shapes of all files in their order.
 fn shapes(files: &[String], reading: &mut Reading) -> Result<Vec<Named>, Failure> {
     if files.is_empty() {
         return Err(Failure::Wrong("name the files whose shapes are to be laid side by side, or - for standard input".to_string()));
@@ -251,13 +255,20 @@ fn shapes(files: &[String], reading: &mut Reading) -> Result<Vec<Named>, Failure
             Held::Shapes(of_file) => shapes.extend(of_file),
         }
     }
-    let mut seen: HashMap<String, usize> = HashMap::new();
-    for shape in &mut shapes {
-        let count = seen.entry(shape.name.clone()).or_default();
-        *count += 1;
-        if *count > 1 {
-            shape.name = format!("{} ({count})", shape.name);
+    tell_apart(&mut shapes);
+    Ok(shapes)
+}
+
+/// Names that occur before get a number.
+fn tell_apart(shapes: &mut [Named]) {
+    let mut numbers: HashMap<String, usize> = HashMap::new();
+    let mut taken: HashSet<String> = HashSet::new();
+    for shape in shapes {
+        let name = shape.name.clone();
+        while !taken.insert(shape.name.clone()) {
+            let number = numbers.entry(name.clone()).or_insert(1);
+            *number += 1;
+            shape.name = format!("{name} ({number})");
         }
     }
-    Ok(shapes)
 }
