@@ -60,7 +60,7 @@ samples := $(wildcard scenes/*.wkt scenes/*.records)
 pictures: target/tools/karvoiss
 	@for sample in $(samples); do \
 	    name=$$(basename $$sample); \
-	    target/tools/karvoiss make $$sample | target/tools/karvoiss draw -o docs/scenes/$${name%.*}.svg || true; \
+	    target/tools/karvoiss make $$sample | target/tools/karvoiss draw -o docs/scenes/$${name%.*}.svg || [ $$? -eq 2 ]; \
 	done
 
 # Times beside GEOS, after bench/setup: the measured part of docs/BENCH.md, and docs/bench.svg. Then the two calls for map viewers

@@ -1,8 +1,9 @@
 //! What a command is given: files, standard input or well-known text on the command line. What they are is told by what they begin with and by the name's ending; the shapes in them
 //! come out by name, each an object or a refusal.
 
-use crate::grid::Grid;
-use crate::library::{self, No};
+use crate::form::{self, Form, Text};
+use crate::grid::{Grid, thousands};
+use crate::library::No;
 use crate::pair::Object;
 use crate::refusals::{self, Refused};
 use crate::shape::{Fault, Item, Lines};
@@ -35,13 +36,6 @@ const MOST: u64 = 64 << 20;
 
 /// What of a file is looked at before the rest is read.
 const HEAD: usize = 4096;
-
-#[derive(Clone, Copy, PartialEq, Debug)]
-enum Form {
-    Scene,
-    Wkb,
-    Text,
-}
 
 struct Source {
     /// What messages call it.
@@ -108,14 +102,14 @@ impl Source {
         let failed = |error: std::io::Error| format!("{label}: {}", plain(&error));
         let mut bytes = Vec::new();
         from.by_ref().take(HEAD as u64).read_to_end(&mut bytes).map_err(failed)?;
-        let form = form(&bytes, ending).map_err(|why| format!("{label} {why}"))?;
-        let too_large = |length: String| format!("{label} is larger than {} MB{length}: split it into several files", MOST >> 20);
+        let form = form::of(&bytes, ending).map_err(|why| format!("{label} {why}"))?;
+        let too_large = |has: String| format!("{label} has {has} bytes, and a file may have {}: split it into several", thousands(MOST));
         if let Some(length) = length.filter(|length| *length > MOST) {
-            return Err(too_large(format!(", it has {} MB", length >> 20)));
+            return Err(too_large(thousands(length)));
         }
         from.take(MOST + 1 - bytes.len() as u64).read_to_end(&mut bytes).map_err(failed)?;
         if bytes.len() as u64 > MOST {
-            return Err(too_large(String::new()));
+            return Err(too_large("more".to_string()));
         }
         Ok(Source { label: label.to_string(), stem: stem.to_string(), ending: ending.to_string(), form, bytes })
     }
@@ -151,30 +145,20 @@ impl Source {
         if let Some(shapes) = self.hexadecimal(text, &mut reading.grid) {
             return Ok(Held::Shapes(shapes));
         }
-        let items = self.items(text, plain, reading)?.map_err(|fault| self.fault(text, fault))?;
+        let kind = form::text(plain, &self.ending, reading.column.is_some()).map_err(|why| format!("{}: {why}", self.label))?;
+        let items = self.items(text, kind, reading).map_err(|fault| self.fault(text, fault))?;
         if items.is_empty() {
             return Err(format!("{} holds no shape", self.label));
         }
         Ok(Held::Shapes(self.named(text, items)))
     }
 
-    /// Shapes by the name's ending, else by what the text begins with.
-    fn items(&self, text: &str, plain: &str, reading: &mut Reading) -> Result<Result<Vec<Item>, Fault>, String> {
+    fn items(&self, text: &str, kind: Text, reading: &mut Reading) -> Result<Vec<Item>, Fault> {
         let Reading { grid, column, name } = reading;
-        let word: String = plain.chars().take_while(char::is_ascii_alphanumeric).collect();
-        let json = plain.starts_with(['{', '[', '\u{1e}']);
-        let table = csv::is_heading(plain.lines().next().unwrap_or("")) || column.is_some();
-        match self.ending.as_str() {
-            "geojson" | "json" | "geojsonl" | "geojsons" | "ndjson" => Ok(geojson::read(text, name.as_deref(), grid)),
-            "csv" | "tsv" => Ok(csv::read(text, column.as_deref(), name.as_deref(), grid)),
-            _ if json => Ok(geojson::read(text, name.as_deref(), grid)),
-            "wkt" => Ok(wkt::read(text, grid)),
-            _ if wkt::is_kind(&word) || plain.starts_with('#') || plain.is_empty() => Ok(wkt::read(text, grid)),
-            _ if table => Ok(csv::read(text, column.as_deref(), name.as_deref(), grid)),
-            _ => {
-                let start: String = plain.chars().take(20).map(|c| if c.is_control() { ' ' } else { c }).collect();
-                Err(format!("{}: nothing that is read: it begins with \"{}\"; {READ}", self.label, start.trim_end()))
-            }
+        match kind {
+            Text::Json => geojson::read(text, name.as_deref(), grid),
+            Text::Table => csv::read(text, column.as_deref(), name.as_deref(), grid),
+            Text::Wkt => wkt::read(text, grid),
         }
     }
 
@@ -184,10 +168,13 @@ impl Source {
         if lines.is_empty() || !lines.iter().all(|line| line.bytes().all(|b| b.is_ascii_hexdigit() || b == b' ')) {
             return None;
         }
-        // one shape may also go on from line to line
-        let each: Option<Vec<Vec<u8>>> = lines.iter().map(|line| wkb::unspelt(line.replace(' ', "").as_bytes())).collect();
-        let each =
-            each.filter(|each| each.iter().all(|wkb| wkb::begins(wkb))).unwrap_or(vec![wkb::unspelt(lines.concat().replace(' ', "").as_bytes())?]);
+        let bytes = |digits: &str| wkb::unspelt(digits.replace(' ', "").as_bytes());
+        let each: Option<Vec<Vec<u8>>> = lines.iter().map(|line| bytes(line)).collect();
+        let each = match each.filter(|each| each.iter().all(|wkb| wkb::begins(wkb))) {
+            Some(each) => each,
+            // one shape may also go on from line to line
+            None => vec![bytes(&lines.concat())?],
+        };
         let name = |at: usize| if each.len() == 1 { self.stem.clone() } else { format!("{} {}", self.stem, at + 1) };
         Some(each.iter().enumerate().map(|(at, wkb)| self.binary(wkb, name(at), grid)).collect())
     }
@@ -221,44 +208,6 @@ impl Source {
     fn no_text(&self, at: usize) -> String {
         format!("{}: byte {at} is no text: save the file as UTF-8", self.label)
     }
-}
-
-const READ: &str = "read are well-known text, well-known binary, GeoJSON, and CSV with a column called wkt or geom (or --column)";
-
-/// What the bytes are, by their first; or why they are nothing that is read.
-fn form(head: &[u8], ending: &str) -> Result<Form, String> {
-    if head.is_empty() {
-        return Err("is empty".to_string());
-    }
-    if let Some(other) = foreign(head) {
-        return Err(format!("is {other}"));
-    }
-    if head[0] == b'T' && head.get(1).is_some_and(|b| *b < b' ') {
-        return Ok(Form::Scene);
-    }
-    let text = !head.iter().any(|b| *b < b' ' && !b.is_ascii_whitespace() && *b != 0x1e);
-    match text {
-        true => Ok(Form::Text),
-        false if wkb::begins(head) || ending == "wkb" => Ok(Form::Wkb),
-        false if ending == "scene" => Ok(Form::Scene),
-        false => Err(format!("is nothing that is read; {READ}")),
-    }
-}
-
-/// Files of other programs, with the way from them.
-fn foreign(head: &[u8]) -> Option<&'static str> {
-    const WAY: [(&[u8], &str); 6] = [
-        (b"\x00\x00\x27\x0a", "a shapefile: `ogr2ogr -f GeoJSON out.geojson in.shp` makes GeoJSON of it, which is read"),
-        (
-            b"SQLite format 3\0",
-            "a GeoPackage or another SQLite file: `ogr2ogr -f GeoJSON out.geojson in.gpkg LAYER` makes GeoJSON of it, which is read",
-        ),
-        (b"PK\x03\x04", "a zip archive: unpack it first"),
-        (b"\x1f\x8b", "compressed: `gzip -dc` makes of it what it was, and - reads standard input"),
-        (b"<", "XML (KML, GML, SVG?): `ogr2ogr -f GeoJSON out.geojson IN` makes GeoJSON of the first two, which is read"),
-        (b"%PDF", "a PDF"),
-    ];
-    WAY.iter().find(|(begins, _)| head.starts_with(begins)).map(|(_, what)| *what)
 }
 
 fn accepted(object: Vec<u8>) -> Result<Object, Refused> {
@@ -300,19 +249,6 @@ fn excerpt(text: &str, line: usize, column: usize) -> String {
     let start = (column - 1).saturating_sub(50);
     let shown: String = found.chars().skip(start).take(72).map(|c| if c.is_whitespace() || c.is_control() { ' ' } else { c }).collect();
     format!("\n  {}\n  {}^", shown.trim_end(), " ".repeat(column - 1 - start))
-}
-
-/// One object as well-known binary, by its name in a scene.
-pub fn written(scene: &[u8], which: usize) -> Result<Vec<u8>, String> {
-    let second = bytes::second(scene);
-    let (start, object) = if which == 0 { (0, &scene[..second]) } else { (second, &scene[second..]) };
-    library::write_wkb(object).map_err(|no| match no.number {
-        24 => " is a region: well-known binary is written of points and lines".to_string(),
-        number => {
-            let words = refusals::of(number);
-            format!(", byte {}: {} (number {number}). {}", start + no.place, words.says, words.advice)
-        }
-    })
 }
 
 #[cfg(test)]

@@ -8,6 +8,7 @@ pub mod decimal;
 pub mod draw;
 pub mod explain;
 pub mod flags;
+pub mod form;
 pub mod geojson;
 pub mod grid;
 pub mod help;

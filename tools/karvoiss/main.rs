@@ -168,7 +168,7 @@ fn raw(command: &str, options: &Options, reading: &mut Reading) -> Result<End, F
         ("show", Some(at)) => show::at(&bytes, at)?.into_bytes(),
         ("show", None) => show::all(&bytes).into_bytes(),
         ("wkb", _) => {
-            let wkb = input::written(&bytes, options.of).map_err(|why| format!("{}{why}", NAMES[options.of]))?;
+            let wkb = wkb::written(&bytes, options.of).map_err(|why| format!("{}{why}", NAMES[options.of]))?;
             if options.hex { wkb::spelt(&wkb).into_bytes() } else { not_for_reading(options, wkb)? }
         }
         _ => not_for_reading(options, if options.split { split(&bytes, reading)? } else { bytes })?,

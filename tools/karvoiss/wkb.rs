@@ -1,6 +1,7 @@
 //! Well-known binary, in hexadecimal too: read and written by the library. Before it is read, a single geometry becomes a MULTI kind of one part and a leading SRID is left out;
 //! where coordinates are put on another grid they are replaced in place. All else, and whatever is at fault, is the library's to see.
 
+use crate::bytes;
 use crate::grid::{self, Grid};
 use crate::library;
 use crate::refusals::{self, Refused};
@@ -220,6 +221,19 @@ impl Walk<'_> {
         self.at += 4;
         Some(count)
     }
+}
+
+/// One object as well-known binary, by its name in a scene.
+pub fn written(scene: &[u8], which: usize) -> Result<Vec<u8>, String> {
+    let second = bytes::second(scene);
+    let (start, object) = if which == 0 { (0, &scene[..second]) } else { (second, &scene[second..]) };
+    library::write_wkb(object).map_err(|no| match no.number {
+        24 => " is a region: well-known binary is written of points and lines".to_string(),
+        number => {
+            let words = refusals::of(number);
+            format!(", byte {}: {} (number {number}). {}", start + no.place, words.says, words.advice)
+        }
+    })
 }
 
 /// The bytes of hexadecimal digits, if the word is nothing else.
