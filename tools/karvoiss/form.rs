@@ -43,12 +43,16 @@ pub fn of(head: &[u8], ending: &str) -> Result<Form, String> {
 const SEPARATOR: char = '\u{1e}';
 
 /// Files of other programs by what they begin with.
-const FOREIGN: [(&[u8], &str); 6] = [
+const FOREIGN: [(&[u8], &str); 10] = [
     (b"\x00\x00\x27\x0a", "a shapefile: `ogr2ogr -f GeoJSON out.geojson in.shp` makes GeoJSON of it, which is read"),
     (b"SQLite format 3\0", "a GeoPackage or another SQLite file: `ogr2ogr -f GeoJSON out.geojson in.gpkg LAYER` makes GeoJSON of it, which is read"),
     (b"PK\x03\x04", "a zip archive: unpack it first"),
     (b"\x1f\x8b", "compressed: `gzip -dc` makes of it what it was, and - reads standard input"),
     (b"<", "XML (KML, GML, SVG?): `ogr2ogr -f GeoJSON out.geojson IN` makes GeoJSON of the first two, which is read"),
+    (b"fgb", "FlatGeobuf: `ogr2ogr -f GeoJSON out.geojson in.fgb` makes GeoJSON of it, which is read"),
+    (b"PAR1", "Parquet: `ogr2ogr -f GeoJSON out.geojson in.parquet` makes GeoJSON of it, which is read"),
+    (b"\xff\xfe", "text in UTF-16: save it as UTF-8"),
+    (b"\xfe\xff", "text in UTF-16: save it as UTF-8"),
     (b"%PDF", "a PDF"),
 ];
 
