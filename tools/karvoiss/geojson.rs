@@ -79,21 +79,26 @@ fn object(geometry: &Value, grid: &mut Grid) -> Result<Result<Vec<u8>, Refused>,
         return Ok(Err(other(geometry, "this feature has no geometry".to_string())));
     }
     let kind = kind(geometry)?;
+    let Some(of) = kind_of(kind) else {
+        return Ok(Err(other(geometry, format!("{kind} is no points, line or region"))));
+    };
     let placed = grid.placed();
     let mut reader = Reader { grid, refused: None };
-    let parts = match kind {
-        "Point" | "MultiPoint" | "LineString" | "MultiLineString" | "Polygon" | "MultiPolygon" => {
-            reader.parts(kind, member(geometry, "coordinates")?)?
-        }
-        "GeometryCollection" => return Ok(Err(other(geometry, "a GeometryCollection is no points, line or region".to_string()))),
-        _ => return Ok(Err(other(geometry, format!("\"{kind}\" is no kind of GeoJSON")))),
-    };
-    let of = kind.strip_prefix("Multi").unwrap_or(kind);
-    let shape = Shape { kind: [Kind::Points, Kind::Line, Kind::Region][["Point", "LineString"].iter().position(|k| *k == of).unwrap_or(2)], parts };
+    let shape = Shape { kind: of, parts: reader.parts(kind, member(geometry, "coordinates")?)? };
     Ok(match reader.refused {
         Some(refused) => Err(refused),
         None => shape.object().inspect(|object| reader.grid.note(placed, object)),
     })
+}
+
+/// Of the kinds that GeoJSON has, those that are ours.
+fn kind_of(kind: &str) -> Option<Kind> {
+    match kind.strip_prefix("Multi").unwrap_or(kind) {
+        "Point" => Some(Kind::Points),
+        "LineString" => Some(Kind::Line),
+        "Polygon" => Some(Kind::Region),
+        _ => None,
+    }
 }
 
 fn other(value: &Value, says: String) -> Refused {
