@@ -155,6 +155,12 @@ fn register(file: &str, mut grid: Grid) {
     }
 }
 
+/// Whether two matrices differ in boundary with exterior alone, where GEOS has found nothing: the fault of 3.13.1 that docs/BENCH.md describes.
+fn is_missed(ours: &str, theirs: &str) -> bool {
+    let alike = |(at, (a, b)): (usize, (u8, u8))| a == b || [5, 7].contains(&at) && b == b'F';
+    ours.bytes().zip(theirs.bytes()).enumerate().all(alike)
+}
+
 /// As many of the pairs that differ are written.
 const SHOWN: u64 = 5;
 
@@ -164,7 +170,7 @@ fn compare(ours: &str, theirs: &str) {
     let read = |file: &str| std::fs::read_to_string(file).expect("a register");
     let text = read(theirs);
     let theirs: HashMap<(String, String), String> = text.lines().map(fields).map(|fields| (key(&fields), fields[2].clone())).collect();
-    let (mut same, mut differ, mut alone, mut near) = (0, 0, 0, 0);
+    let (mut same, mut differ, mut missed, mut alone, mut near) = (0, 0, 0, 0, 0);
     let mut refused: HashMap<String, u64> = HashMap::new();
     for line in read(ours).lines().skip(1).map(fields) {
         let number = &line[line.len() - 2];
@@ -176,6 +182,7 @@ fn compare(ours: &str, theirs: &str) {
             }
             Some(matrix) => {
                 differ += 1;
+                missed += is_missed(&line[2], matrix) as u64;
                 if differ <= SHOWN {
                     println!("  {} and {}: ours {}, GEOS {matrix}", line[0], line[1], line[2]);
                 }
@@ -186,7 +193,7 @@ fn compare(ours: &str, theirs: &str) {
     let invalid = theirs.values().filter(|matrix| *matrix == "invalid").count();
     let mut refused: Vec<String> = refused.into_iter().map(|(number, count)| format!("{count} with {number}")).collect();
     refused.sort();
-    println!("  same {same} (of which not apart {near}), different {differ}, refused by us: [{}]; invalid shapes by GEOS {invalid}, our pairs with one {alone}", refused.join(", "));
+    println!("  same {same} (of which not apart {near}), different {differ} (of which by a boundary missed in the exterior {missed}), refused by us: [{}]; invalid shapes by GEOS {invalid}, our pairs with one {alone}", refused.join(", "));
 }
 
 /// 1,000 shapes of 64 segments, as a coverage whose neighbours share their borders, or as crosses that lie over each other and cross on the grid.
