@@ -161,6 +161,22 @@ fn is_missed(ours: &str, theirs: &str) -> bool {
     ours.bytes().zip(theirs.bytes()).enumerate().all(alike)
 }
 
+/// Whether the two segments that a refusal names cross properly, at a point that is not on the grid: computed anew, in fractions.
+fn is_off_the_grid(says: &str) -> bool {
+    let named = says.split_once("grid: ").map_or("", |(_, named)| named).split(" of G").next().unwrap_or("");
+    let numbers: Vec<i128> =
+        named.split(|c: char| !c.is_ascii_digit() && c != '-').filter_map(|word| word.trim_end_matches('-').parse().ok()).collect();
+    let [a, b, c, d, e, f, g, h] = numbers[..] else {
+        return false;
+    };
+    let cross = |u: [i128; 2], v: [i128; 2]| u[0] * v[1] - u[1] * v[0];
+    let (along, across, between) = ([c - a, d - b], [g - e, h - f], [e - a, f - b]);
+    let (whole, part, other) = (cross(along, across), cross(between, across), cross(between, along));
+    let within = |part: i128| 0 < part * whole.signum() && part.abs() < whole.abs();
+    let off = |from: i128, step: i128| (from * whole + step * part) % whole != 0;
+    whole != 0 && within(part) && within(other) && (off(a, along[0]) || off(b, along[1]))
+}
+
 /// As many of the pairs that differ are written.
 const SHOWN: u64 = 5;
 
@@ -170,12 +186,15 @@ fn compare(ours: &str, theirs: &str) {
     let read = |file: &str| std::fs::read_to_string(file).expect("a register");
     let text = read(theirs);
     let theirs: HashMap<(String, String), String> = text.lines().map(fields).map(|fields| (key(&fields), fields[2].clone())).collect();
-    let (mut same, mut differ, mut missed, mut alone, mut near) = (0, 0, 0, 0, 0);
+    let (mut same, mut differ, mut missed, mut alone, mut near, mut crossings) = (0, 0, 0, 0, 0, 0);
     let mut refused: HashMap<String, u64> = HashMap::new();
     for line in read(ours).lines().skip(1).map(fields) {
         let number = &line[line.len() - 2];
         match theirs.get(&key(&line)) {
-            _ if !number.is_empty() => *refused.entry(format!("{number}{}", if line[1].is_empty() { " (shape)" } else { "" })).or_default() += 1,
+            _ if !number.is_empty() => {
+                crossings += (number == "19" && is_off_the_grid(&line[line.len() - 1])) as u64;
+                *refused.entry(format!("{number}{}", if line[1].is_empty() { " (shape)" } else { "" })).or_default() += 1;
+            }
             Some(matrix) if *matrix == line[2] => {
                 same += 1;
                 near += !(matrix.starts_with("FF") && matrix[3..].starts_with("FF")) as u64;
@@ -193,7 +212,7 @@ fn compare(ours: &str, theirs: &str) {
     let invalid = theirs.values().filter(|matrix| *matrix == "invalid").count();
     let mut refused: Vec<String> = refused.into_iter().map(|(number, count)| format!("{count} with {number}")).collect();
     refused.sort();
-    println!("  same {same} (of which not apart {near}), different {differ} (of which by a boundary missed in the exterior {missed}), refused by us: [{}]; invalid shapes by GEOS {invalid}, our pairs with one {alone}", refused.join(", "));
+    println!("  same {same} (of which not apart {near}), different {differ} (of which by a boundary missed in the exterior {missed}), refused by us: [{}], crossings off the grid found again {crossings}; invalid shapes by GEOS {invalid}, our pairs with one {alone}", refused.join(", "));
 }
 
 /// 1,000 shapes of 64 segments, as a coverage whose neighbours share their borders, or as crosses that lie over each other and cross on the grid.
