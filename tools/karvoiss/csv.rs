@@ -30,10 +30,7 @@ pub fn read(text: &str, column: Option<&str>, name: Option<&str>, grid: &mut Gri
         }
         let named = names.and_then(|column| row.get(column)).map(|field| field.text.trim().to_string()).filter(|name| !name.is_empty());
         let Some(field) = row.get(shapes) else {
-            return Err(Fault {
-                at: row[0].at,
-                message: format!("this row has {} fields, and the shape would be in field {}", row.len(), shapes + 1),
-            });
+            return Err(Fault { at: row[0].at, message: format!("this row ends before field {}, which has the shape", shapes + 1) });
         };
         items.push(Item { name: named, at: field.at, object: object(field, grid) });
     }
@@ -193,7 +190,7 @@ mod tests {
             fault("a,b\n1,2\n"),
             (0, "none of the columns is called wkt, geom, geometry, the_geom: say with --column which has the shapes: a, b".to_string())
         );
-        assert_eq!(fault("id,wkt\n1\n"), (7, "this row has 1 fields, and the shape would be in field 2".to_string()));
+        assert_eq!(fault("id,wkt\n1\n"), (7, "this row ends before field 2, which has the shape".to_string()));
         assert_eq!(fault("wkt\n\"POINT (0 0)\n").1, "a quote that does not close");
         assert_eq!(fault("wkt\n\"POINT (0 0)\" x\n").1, "text behind a closing quote");
         assert!(is_heading("id;WKT") && is_heading("geom") && !is_heading("POINT (0 0)") && !is_heading("a,b"));
