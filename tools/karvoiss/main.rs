@@ -5,11 +5,12 @@ use karvoiss::input::{self, Held, Named, Reading};
 use karvoiss::listing::NAMES;
 use karvoiss::options::{COMMANDS, Options};
 use karvoiss::progress::Progress;
+use karvoiss::refusals::{self, Refused};
 use karvoiss::register::{Register, Tally};
 use karvoiss::relate::{self, Question};
 use karvoiss::rows::Form;
 use karvoiss::two::{self, Asked, Failure};
-use karvoiss::{draw, explain, help, json, library, predicate, refusals, show, wkb};
+use karvoiss::{draw, explain, help, json, library, predicate, show, wkb};
 use std::collections::{HashMap, HashSet};
 use std::io::{BufWriter, ErrorKind, IsTerminal, Write};
 use std::process::ExitCode;
@@ -98,10 +99,19 @@ fn run(command: &str, words: &[String]) -> Result<End, Failure> {
     }
 }
 
-fn asked(options: &Options, reading: &mut Reading) -> Result<Asked, Failure> {
+/// The scene of a command's shapes; and why it is none, if they cannot be split.
+fn asked(options: &Options, reading: &mut Reading) -> Result<(Asked, Option<Refused>), Failure> {
     let two = two::read(&options.files, reading);
     report(reading);
-    two?.asked(reading)
+    Ok(two?.asked(reading))
+}
+
+/// The same where nothing can be said of shapes that cannot be split.
+fn sound(options: &Options, reading: &mut Reading) -> Result<Asked, Failure> {
+    match asked(options, reading)? {
+        (asked, None) => Ok(asked),
+        (_, Some(no)) => Err(Failure::Refused(no)),
+    }
 }
 
 /// What rounding did.
@@ -112,7 +122,7 @@ fn report(reading: &Reading) {
 }
 
 fn related(options: &Options, reading: &mut Reading) -> Result<End, Failure> {
-    let (text, end) = match asked(options, reading) {
+    let (text, end) = match sound(options, reading) {
         Ok(asked) => match answer::ask(&asked.scene) {
             Answer::Taken(taken) if options.json => (relate::json(&asked, &taken, &reading.grid), End::Answered),
             Answer::Taken(taken) => (relate::words(&asked, &taken, &reading.grid), End::Answered),
@@ -139,9 +149,9 @@ fn is(options: &mut Options, reading: &mut Reading) -> Result<End, Failure> {
             Question::Predicate(predicate::named(&word).ok_or(format!("\"{word}\" is none of {}", predicate::NAMES.join(", ")))?)
         }
     };
-    let asked = asked(options, reading)?;
+    let asked = sound(options, reading)?;
     if let Answer::Refused { number, place } = answer::ask(&asked.scene) {
-        return Err(Failure::Refused(refusals::Refused { number, at: Some(place), says: refusals::of(number).says.to_string() }));
+        return Err(Failure::Refused(Refused { number, at: Some(place), says: refusals::of(number).says.to_string() }));
     }
     let (holds, words) = relate::is(&asked, &question)?;
     if !options.quiet {
@@ -150,12 +160,20 @@ fn is(options: &mut Options, reading: &mut Reading) -> Result<End, Failure> {
     Ok(if holds { End::Answered } else { End::No })
 }
 
+/// A picture, or all in words; of what is refused too.
 fn asked_about(command: &str, options: &Options, reading: &mut Reading) -> Result<End, Failure> {
-    let asked = asked(options, reading)?;
-    let answer = answer::ask(&asked.scene);
+    let (asked, refused) = asked(options, reading)?;
+    let answer = match &refused {
+        Some(no) => Answer::Refused { number: no.number, place: no.at.unwrap_or(0) },
+        None => answer::ask(&asked.scene),
+    };
     let text = if command == "draw" { draw::picture(&asked, &answer) } else { explain::words(&asked, &answer) };
     output(options, text.as_bytes())?;
-    Ok(if matches!(answer, Answer::Taken(_)) { End::Answered } else { End::Refused })
+    match (refused, answer) {
+        (Some(no), _) => Err(Failure::Refused(no)),
+        (None, Answer::Taken(_)) => Ok(End::Answered),
+        _ => Ok(End::Refused),
+    }
 }
 
 /// The commands on the bytes as they are.

@@ -78,14 +78,17 @@ fn two(f: Named, g: Named) -> Result<Two, Failure> {
 }
 
 impl Two {
-    /// As the library takes it: of shapes, split where they must be.
-    pub fn asked(self, reading: &Reading) -> Result<Asked, Failure> {
-        match self {
-            Two::Scene(scene) => Ok(Asked { names: None, given: scene.clone(), scene, added: [0, 0] }),
-            Two::Shapes(names, [f, g]) => {
-                let pair = pair::of(&f, &g, &reading.grid).map_err(Failure::Refused)?;
-                Ok(Asked { names: Some(names), given: [f.bytes, g.bytes].concat(), scene: pair.scene, added: pair.added })
-            }
+    /// As the library takes it: of shapes, split where they must be. Where they cannot be split they come as they are, with the reason.
+    pub fn asked(self, reading: &Reading) -> (Asked, Option<Refused>) {
+        let (names, [f, g]) = match self {
+            Two::Scene(scene) => return (Asked { names: None, given: scene.clone(), scene, added: [0, 0] }, None),
+            Two::Shapes(names, objects) => (Some(names), objects),
+        };
+        let pair = pair::of(&f, &g, &reading.grid);
+        let given = [f.bytes, g.bytes].concat();
+        match pair {
+            Ok(pair) => (Asked { names, given, scene: pair.scene, added: pair.added }, None),
+            Err(no) => (Asked { names, scene: given.clone(), given, added: [0, 0] }, Some(no)),
         }
     }
 

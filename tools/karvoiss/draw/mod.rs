@@ -37,7 +37,8 @@ pub fn picture(asked: &Asked, answer: &Answer) -> String {
         nothing(&mut svg);
     }
     let summaries = [0, 1].map(|object| asked.label(object, &listing.summary(object)));
-    let bottom = panel::draw(&mut svg, &panel::Of { listing: &listing, summaries: &summaries, length: bytes.len(), answer, shared: &shared });
+    let shown = [0, 1].map(|object| panel::fitting(&asked.label(object, ""), &listing.summary(object)));
+    let bottom = panel::draw(&mut svg, &panel::Of { listing: &listing, summaries: &shown, length: bytes.len(), answer, shared: &shared });
     let height = (frame::TOP + frame::HEIGHT + 26.0).max(bottom + 18.0);
     let title = format!("F: {}; G: {}", summaries[0], summaries[1]);
     svg.document(panel::LEFT + panel::WIDTH + 14.0, height, &title)

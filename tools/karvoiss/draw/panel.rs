@@ -26,6 +26,19 @@ pub struct Of<'a> {
     pub shared: &'a Shared,
 }
 
+/// A name and what it is of, the name cut to what the panel's width leaves.
+pub fn fitting(name: &str, summary: &str) -> String {
+    let room = LINE.saturating_sub(summary.chars().count());
+    if name.chars().count() <= room {
+        return format!("{name}{summary}");
+    }
+    let kept: String = name.chars().take(room.saturating_sub(4)).collect();
+    format!("{kept}.., {summary}")
+}
+
+/// As many letters as a line of an object has.
+const LINE: usize = 31;
+
 /// Returns where the panel ends.
 pub fn draw(svg: &mut Svg, of: &Of) -> f64 {
     let mut panel = Panel { svg, y: 18.0 };
@@ -145,7 +158,9 @@ impl Panel<'_> {
             if !of.shared.boundary[object].is_empty() {
                 self.mark("boundary point of a line", |svg, at| marks::boundary_point(svg, at, look));
             }
-            self.mark("joint of a line", |svg, at| marks::joint(svg, at, look));
+            // of what is refused nobody has asked which ends are boundary points
+            let joint = if matches!(of.answer, Answer::Taken(_)) { "joint of a line" } else { "end of segments of a line" };
+            self.mark(joint, |svg, at| marks::joint(svg, at, look));
         }
         if !of.shared.segments.is_empty() {
             self.mark("stretch in both", |svg, at| svg.line((at.0 - 9.0, at.1), (at.0 + 9.0, at.1), &marks::in_both()));
@@ -163,5 +178,17 @@ impl Panel<'_> {
         self.y += 20.0;
         draw(self.svg, (LEFT + 8.0, self.y - 4.0));
         self.svg.text((LEFT + 24.0, self.y), "font-size=\"11\" fill=\"#666\"", text);
+    }
+}
+
+#[cfg(test)]
+mod tests {
+    use super::fitting;
+
+    #[test]
+    fn names_that_fit() {
+        assert_eq!(fitting("", "line, 1 segment"), "line, 1 segment");
+        assert_eq!(fitting("yard, ", "region, 4 segments"), "yard, region, 4 segments");
+        assert_eq!(fitting("LINESTRING (0 0, 3 1), ", "line, 1 segment"), "LINESTRING (.., line, 1 segment");
     }
 }
