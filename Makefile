@@ -1,8 +1,8 @@
 # make test: everything that the gate checks. make run: builds explore and answers the sample scenes; make run SCENE=file answers a file.
-# make install PREFIX=dir: header, archive and pkg-config file. make fuzz SECONDS=n: fresh scenes and inputs for so long.
-# make postgres: the extension for PostgreSQL, in target/postgres; make postgres-install puts it where the server finds it. make sql-setup: the packages for the databases.
+# make install PREFIX=dir: the command, its man page and completion, header, archive and pkg-config file. make fuzz SECONDS=n: fresh scenes and inputs for so long.
+# make sqlite, make postgres: the extensions for databases; make postgres-install puts the second where the server finds it. make sql-setup: the packages for both.
 # make wrong: the wrong programs that the gate leaves out; make wrong CRATES="a b": those of these crates.
-.PHONY: test run archive install sqlite postgres postgres-install sql-setup fuzz wrong tools pictures bench fmt clean
+.PHONY: test run archive install sqlite postgres postgres-install sql-setup fuzz wrong tools pictures bench registers fmt clean
 
 test:
 	@bash tests/gate
@@ -18,12 +18,15 @@ archive: target/staticlib/libkarvoiss.a
 target/staticlib/libkarvoiss.a: $(sources)
 	@tools/prove karvoiss
 
-# Where a C build finds them; DESTDIR is put before PREFIX for packages
+# Where a shell, man and a C build find them; DESTDIR is put before PREFIX for packages
 PREFIX ?= /usr/local
 prefix := $(abspath $(PREFIX))
 
-install: archive
+install: archive target/tools/karvoiss
 	@install -d $(DESTDIR)$(prefix)/include $(DESTDIR)$(prefix)/lib/pkgconfig
+	@install -D -m 755 target/tools/karvoiss $(DESTDIR)$(prefix)/bin/karvoiss
+	@install -D -m 644 docs/karvoiss.1 $(DESTDIR)$(prefix)/share/man/man1/karvoiss.1
+	@install -D -m 644 tools/karvoiss/completion.bash $(DESTDIR)$(prefix)/share/bash-completion/completions/karvoiss
 	@install -m 644 include/karvoiss.h $(DESTDIR)$(prefix)/include
 	@install -m 644 target/staticlib/libkarvoiss.a $(DESTDIR)$(prefix)/lib
 	@sed 's|@PREFIX@|$(prefix)|' include/karvoiss.pc.in > $(DESTDIR)$(prefix)/lib/pkgconfig/karvoiss.pc
@@ -36,18 +39,7 @@ target/sqlite/karvoiss.so: sql/sqlite/karvoiss.c sql/shared.c sql/shared.h inclu
 	@cc -std=c11 -O2 -Wall -Wextra -Werror -fPIC -fvisibility=hidden -Iinclude -shared -Wl,--exclude-libs,ALL -Wl,-z,defs \
 	    sql/sqlite/karvoiss.c sql/shared.c target/staticlib/libkarvoiss.a -o $@
 
-# The packages that the extensions for SQLite and PostgreSQL are built and tried with
-sql-setup:
-	@sql/setup
-
-SECONDS ?= 60
-fuzz: archive target/tools/scene
-	@tests/fuzz $(SECONDS)
-
-# The extensions for databases, over the archive; DESTDIR is put before the server's own folders
-sql-setup:
-	@sql/setup
-
+# The extension for PostgreSQL; DESTDIR is put before the server's own folders
 pgxs = $(MAKE) --no-print-directory -s -C target/postgres -f $(CURDIR)/sql/postgres/Makefile
 
 postgres: archive
@@ -57,6 +49,14 @@ postgres: archive
 postgres-install: postgres
 	@$(pgxs) install
 
+# The packages that the two extensions are built and tried with
+sql-setup:
+	@sql/setup
+
+SECONDS ?= 60
+fuzz: archive target/tools/karvoiss
+	@tests/fuzz $(SECONDS)
+
 CRATES ?=
 wrong:
 	@tests/wrong/run $(CRATES)
@@ -65,30 +65,36 @@ ifdef SCENE
 run: target/bin/explore
 	@target/bin/explore < $(SCENE)
 else
-run: target/bin/explore target/tools/scene
-	@for text in scenes/[a-l].wkt; do \
-	    printf '%s ' "$$(basename $$text .wkt)"; \
-	    target/tools/scene make --beyond $$text | target/bin/explore; \
+run: target/bin/explore target/tools/karvoiss
+	@for sample in scenes/[a-l].*; do \
+	    printf '%.1s ' "$$(basename $$sample)"; \
+	    target/tools/karvoiss make $$sample | target/bin/explore; \
 	done
 endif
 
-# The companion tool, outside the proved crates: scenes as text, listings, pictures; with the archive well-known binary and splitting too
-tools: archive target/bin/explore
+# The command, outside the proved crates, linked with the archive
+tools: target/tools/karvoiss
+
+target/tools/karvoiss: $(shell find tools -type f) docs/karvoiss.1 target/staticlib/libkarvoiss.a
 	@tools/build
 
-target/tools/scene: $(shell find tools -type f) $(wildcard target/staticlib/libkarvoiss.a)
-	@tools/build
-
-pictures: $(patsubst scenes/%.wkt,docs/scenes/%.svg,$(wildcard scenes/*.wkt))
-
-docs/scenes/%.svg: scenes/%.wkt target/tools/scene target/bin/explore
-	@target/tools/scene make --beyond $< | target/tools/scene draw -o $@
+samples := $(wildcard scenes/*.wkt scenes/*.records)
+# of the bytes as they are: a sample that is refused is drawn with the record at fault
+pictures: target/tools/karvoiss
+	@for sample in $(samples); do \
+	    name=$$(basename $$sample); \
+	    target/tools/karvoiss make $$sample | target/tools/karvoiss draw -o docs/scenes/$${name%.*}.svg || [ $$? -eq 2 ]; \
+	done
 
 # Times beside GEOS, after bench/setup: the measured part of docs/BENCH.md, and docs/bench.svg. Then the two calls for map viewers
 bench: archive
 	@bench/run
 	@bench/sides
 	@bench/window
+
+# Registers of real and of made data beside GEOS, after bench/setup: what docs/REGISTER.md has
+registers: archive
+	@bench/registers
 
 fmt:
 	@for crate in crates/*/; do (cd $$crate && rt fmt) || exit 1; done

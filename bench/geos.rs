@@ -3,9 +3,9 @@
 
 use crate::cells::{of_signs, Matrix};
 use crate::plane::{Point, Segment};
-use crate::scene::{Object, LINE, POINTS};
-use companion::plane as outline;
-use companion::rings::polygons;
+use crate::scene::{object_bytes, Object, LINE, POINTS};
+use command::bytes::{read, Point as RingPoint, Record};
+use command::rings::polygons;
 use std::collections::HashMap;
 use std::ffi::{c_char, c_double, c_int, c_uint, c_void, CStr};
 use std::ptr::null;
@@ -93,17 +93,17 @@ fn segments(object: &Object) -> impl Iterator<Item = (Segment, usize)> + '_ {
     object.halves.iter().zip(&object.places).filter(|(h, _)| h.left).map(|(h, place)| (h.segment, *place))
 }
 
-/// The rings as the companion tool traces them: a region's outline is even-odd, so squares that meet at a corner are polygons of their own.
+/// The rings as the command traces them: a region's outline is even-odd, so squares that meet at a corner are polygons of their own.
 fn polygons_of(region: &Object) -> Vec<Vec<Path>> {
     let mut offsets: HashMap<Point, usize> = HashMap::new();
     for (s, place) in segments(region) {
         offsets.insert(s.left, place + 1);
         offsets.insert(s.right, place + 9);
     }
-    let point = |p: Point| outline::Point { x: p.0, y: p.1 };
-    let edges: Vec<outline::Segment> = segments(region).filter_map(|(s, _)| outline::Segment::between(point(s.left), point(s.right))).collect();
-    let path = |ring: Vec<outline::Point>| ring.iter().map(|p| offsets[&(p.x, p.y)]).collect();
-    let traced = polygons(&edges).expect("a region's ends are even");
+    let bytes = object_bytes(region);
+    let records: Vec<Record> = bytes[2..bytes.len() - 1].chunks(19).filter_map(read).collect();
+    let path = |ring: Vec<RingPoint>| ring.iter().map(|p| offsets[&(p.x, p.y)]).collect();
+    let traced = polygons(&records).expect("an accepted region");
     traced.into_iter().map(|rings| rings.into_iter().map(path).collect()).collect()
 }
 

@@ -1,11 +1,11 @@
-//! Random scenes, valid by construction, written as text in the many ways that well-known text allows. Each is made into bytes, `explore` must
-//! take it, and the text that `scene show --text` gives must make the same bytes. Without a path of `explore` only the last is tried.
+//! Random scenes, valid by construction, written as text in the many ways that well-known text allows. Each is made into bytes, which the library must take; the text that `karvoiss show
+//! --text` gives must make the same bytes, and the well-known binary that is written of points and lines must too; and the predicates told from the cells must be those that the library finds.
 //! Both objects of a scene are parts of one net of triangles, so segments meet at common ends alone.
 
-use scene::answer::{self, Answer};
-use scene::{make, show};
+use karvoiss::answer::{self, Answer};
+use karvoiss::grid::Grid;
+use karvoiss::{bytes, library, predicate, show, wkt};
 use std::collections::BTreeSet;
-use std::path::Path;
 use std::process::ExitCode;
 
 type Point = (i64, i64);
@@ -17,13 +17,13 @@ fn main() -> ExitCode {
     let words: Vec<String> = std::env::args().skip(1).collect();
     let number = |i: usize| words.get(i).and_then(|word| word.parse::<u64>().ok());
     let (Some(count), Some(seed)) = (number(0), number(1)) else {
-        eprintln!("random COUNT SEED [EXPLORE]");
+        eprintln!("random COUNT SEED");
         return ExitCode::from(2);
     };
     let mut dice = Dice(seed.wrapping_mul(0x9e37_79b9_7f4a_7c15) | 1);
     for _ in 0..count {
         let (text, kinds) = scene_text(&mut dice);
-        if let Err(why) = try_scene(&text, kinds, words.get(2).map(Path::new)) {
+        if let Err(why) = try_scene(&text, kinds) {
             println!("{why}\n{text}");
             return ExitCode::FAILURE;
         }
@@ -31,19 +31,38 @@ fn main() -> ExitCode {
     ExitCode::SUCCESS
 }
 
-fn try_scene(text: &str, kinds: [usize; 2], explore: Option<&Path>) -> Result<(), String> {
-    let make = |text: &str| make::scene(text, false).map_err(|fault| format!("not made: {fault:?}"));
-    let bytes = make(text)?;
-    if make(&show::text(&bytes)?)? != bytes {
+fn made(text: &str) -> Result<Vec<u8>, String> {
+    let items = wkt::read(text, &mut Grid::as_it_stands()).map_err(|fault| format!("not read: {fault:?}"))?;
+    let objects: Result<Vec<Vec<u8>>, String> = items.into_iter().map(|item| item.object.map_err(|no| format!("not made: {no:?}"))).collect();
+    Ok(objects?.concat())
+}
+
+fn try_scene(text: &str, kinds: [usize; 2]) -> Result<(), String> {
+    let scene = made(text)?;
+    if made(&show::text(&scene)?)? != scene {
         return Err("not the same when read back".to_string());
     }
-    let Some(explore) = explore else {
-        return Ok(());
-    };
-    match answer::ask(explore, &bytes)? {
-        Answer::Taken(taken) if taken.kinds.map(|kind| kind as usize) == kinds => Ok(()),
+    let (f, g) = scene.split_at(bytes::second(&scene));
+    for object in [f, g] {
+        if library::write_wkb(object).is_ok_and(|wkb| library::read_wkb(&wkb).ok().as_deref() != Some(object)) {
+            return Err("not the same as well-known binary".to_string());
+        }
+    }
+    match answer::ask(&scene) {
+        Answer::Taken(taken) if taken.kinds.map(|kind| kind as usize) == kinds => predicates(&scene, &taken),
         answer => Err(format!("not taken: {answer:?}")),
     }
+}
+
+/// What the cells say of each predicate, the library must say of its patterns.
+fn predicates(scene: &[u8], taken: &answer::Taken) -> Result<(), String> {
+    for name in predicate::NAMES {
+        let patterns = predicate::patterns(name, taken.kinds).unwrap_or(&[]);
+        if predicate::by(patterns, scene).map(|by| by.is_some()) != Ok(predicate::holds(name, taken.kinds, &taken.cells)) {
+            return Err(format!("{name} by its patterns is not {name} by the cells"));
+        }
+    }
+    Ok(())
 }
 
 fn scene_text(dice: &mut Dice) -> (String, [usize; 2]) {
