@@ -1,5 +1,6 @@
 -- What the state of a walk is, and what a portion of it gives.
 pub mod State
+pub mod Placed
+pub mod Walking
 pub mod Walked
 pub mod Theorems
-pub mod Resumed

@@ -1,70 +1,85 @@
 // From event to event: where the walk stands next.
-ghost use Rattle.std.specs.Prelude.{◌≡◌, true, Some};
-ghost use Rattle.walk_events.specs.Stepping.{Stepped};
-ghost use Rattle.walk.specs.State.{at_end, Within, Goes};
+ghost use Rattle.std.specs.Prelude.{◌≡◌};
+ghost use Rattle.walk.specs.Walking.{StepIsThere, StepFits, next_at, taken_at, walked};
 
-use crate::{Spot, degrees};
+use crate::Spot;
+use crate::ground::Ground;
 use flags_vectors::Vectors;
+use scene::Refusal;
 use walk_events::Step;
-use walk_flags::Ground;
 
-// The next event is taken: of F alone, of G alone, or of both.
-fn taken(ground: Ground<'_>, at: Spot, step: Step) -> Spot
-    requires within { Within ground.scene at }
-    requires next { Stepped ground.bytes.now ground.scene at.i at.j (Some step) }
-    ensures within { Within ground.entry.scene result }
-    ensures goes { Goes ground.entry.bytes.now ground.entry.scene ground.entry.notes.now ground.entry.want 1 at result }
-{
-    let read = ground.read();
-    let k = degrees::key_at(read, at.i, at.j);
-    match step {
-        Step::OfF => Spot {
-            i: at.i + 1,
-            j: at.j,
-            degrees: degrees::turned(read, at.i + 1, at.j, k, at.degrees),
-            found: Vectors {
-                f: at.found.f | ground.alone_f(at.i, at.degrees),
-                g: at.found.g,
-            },
-        },
-        Step::OfG => Spot {
-            i: at.i,
-            j: at.j + 1,
-            degrees: degrees::turned(read, at.i, at.j + 1, k, at.degrees),
-            found: Vectors {
-                f: at.found.f,
-                g: at.found.g | ground.alone_g(at.j, at.degrees),
-            },
-        },
-        Step::OfBoth => {
-            let more = ground.both(at.i, at.j, at.degrees);
-            Spot {
+impl<'a> Ground<'a> {
+    // The next event; none where nothing is left of either object.
+    fn next(self, i: usize, j: usize) -> Result<Option<Step>, Refusal>
+        ensures is { result ≡ next_at self.entry.bytes.now self.entry.scene i j }
+        ensures there { StepIsThere self.entry.scene i j result }
+    {
+        match (self.f().event(i), self.g().event(j)) {
+            (Err(r), _) => Err(r),
+            (Ok(_), Err(r)) => Err(r),
+            (Ok(a), Ok(b)) => Ok(walk_events::next(a, b)),
+        }
+    }
+
+    // It is taken: of F alone, of G alone, or of both.
+    fn taken(self, at: Spot, step: Step) -> Spot
+        requires { StepFits self.scene at.i at.j step }
+        ensures { result ≡ taken_at self.entry.bytes.now self.entry.notes.now self.entry.scene self.entry.want at step }
+    {
+        let k = self.key(at.i, at.j);
+        let asked = self.asked();
+        match step {
+            Step::OfF => Spot {
                 i: at.i + 1,
-                j: at.j + 1,
-                degrees: degrees::turned(read, at.i + 1, at.j + 1, k, at.degrees),
+                j: at.j,
+                degrees: self.turned(k, at.i + 1, at.j, at.degrees),
                 found: Vectors {
-                    f: at.found.f | more.f,
-                    g: at.found.g | more.g,
+                    f: at.found.f
+                        | asked.alone_f(at.degrees, self.note(true, at.i), self.f().side(at.i)),
+                    g: at.found.g,
                 },
+            },
+            Step::OfG => Spot {
+                i: at.i,
+                j: at.j + 1,
+                degrees: self.turned(k, at.i, at.j + 1, at.degrees),
+                found: Vectors {
+                    f: at.found.f,
+                    g: at.found.g
+                        | asked.alone_g(at.degrees, self.note(false, at.j), self.g().side(at.j)),
+                },
+            },
+            Step::OfBoth => {
+                let more = asked.both(
+                    at.degrees,
+                    self.note(true, at.i),
+                    self.f().side(at.i),
+                    self.g().side(at.j),
+                );
+                Spot {
+                    i: at.i + 1,
+                    j: at.j + 1,
+                    degrees: self.turned(k, at.i + 1, at.j + 1, at.degrees),
+                    found: Vectors {
+                        f: at.found.f | more.f,
+                        g: at.found.g | more.g,
+                    },
+                }
             }
         }
     }
-}
 
-// Takes n events, or all that remain.
-pub fn advanced(ground: Ground<'_>, from: Spot, n: usize) -> Spot
-    requires { Within ground.scene from }
-    ensures within { Within ground.entry.scene result }
-    ensures goes { Goes ground.entry.bytes.now ground.entry.scene ground.entry.notes.now ground.entry.want n from result }
-    ensures none { n ≡ 0 → result ≡ from }
-    ensures ended { at_end ground.entry.scene from ≡ true → result ≡ from }
-{
-    let mut at = from;
-    for _ in 0..n {
-        let Some(step) = walk_events::next(ground.read(), at.i, at.j) else {
-            return at;
-        };
-        at = taken(ground, at, step);
+    // Takes n events, or all that remain.
+    pub fn advanced(self, from: Spot, n: usize) -> Result<Spot, Refusal>
+        ensures { result ≡ walked self.entry.bytes.now self.entry.notes.now self.entry.scene self.entry.want n from }
+    {
+        let mut at = from;
+        for _ in 0..n {
+            let Some(step) = self.next(at.i, at.j)? else {
+                return Ok(at);
+            };
+            at = self.taken(at, step);
+        }
+        Ok(at)
     }
-    at
 }

@@ -1,0 +1,9 @@
+-- What is left to take from here is what was to be taken.
+use Rattle.std.proofs.Common.{◌≡◌, ◌-◌}
+use Rattle.walk.specs.Walking.{walked}
+use Rattle.walk.proofs.ground.Ground.advanced.Given as goal
+
+abbrev pub invariant-loop : goal.invariant-loop
+invariant-loop l =
+    walked l.fn.self.bytes.now l.fn.self.notes.now l.fn.self.scene l.fn.self.want l.fn.n l.fn.from
+    ≡ walked l.fn.self.bytes.now l.fn.self.notes.now l.fn.self.scene l.fn.self.want (l.fn.n - l.counter) l.at
