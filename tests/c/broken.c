@@ -246,8 +246,9 @@ karvoiss_walk_t __wrap_karvoiss_walk_portion(const uint8_t *ground, size_t lengt
         *(volatile uint8_t *)ground = *ground;
 #elif defined MISTAKE_portion_keeps_state
     static volatile size_t kept;
+    const size_t taken = 2048 * walk.taken_f + walk.taken_g;
 
-    kept = length;
+    kept = taken;
 #elif defined MISTAKE_portion_deep
     dig(KARVOISS_WALK_PORTION_STACK);
 #elif defined MISTAKE_portion_of_one_more
@@ -259,7 +260,7 @@ karvoiss_walk_t __wrap_karvoiss_walk_portion(const uint8_t *ground, size_t lengt
 #elif defined MISTAKE_portion_refuses_with_state
     walk.length = walk.number != 0;
 #elif defined MISTAKE_portion_keeps_state
-    walk.place += kept != length;
+    walk.place += kept != taken;
 #endif
     return walk;
 }

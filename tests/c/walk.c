@@ -135,6 +135,14 @@ static size_t tamper(struct fenced area, placing place, const uint8_t *whole, si
     return refused;
 }
 
+/* Fewer of the small ones, and each of those around what is needed. */
+static size_t next_room(size_t room, size_t need)
+{
+    const size_t next = room + 1 + room / 64;
+
+    return room + 2 < need && next + 2 > need ? need - 2 : room + 2 < need ? next : room + 1;
+}
+
 int main(int argc, char **argv)
 {
     static uint8_t laid[KARVOISS_WALK_ROOM];
@@ -160,7 +168,7 @@ int main(int argc, char **argv)
         for (int k = 0; k < 2; k++) {
             for (size_t length = 0; length < scene.length; length += 1 + length / 64, cuts++)
                 begin_cut(scenes, placings[k], &scene, all, length);
-            for (size_t room = 0; room <= need + 2; room += room + 3 < need ? 1 + room / 64 : 1, rooms++)
+            for (size_t room = 0; room <= need + 2; room = next_room(room, need), rooms++)
                 begin_in(grounds, placings[k], &scene, all, room, begin);
             uint8_t *ground = placings[k](grounds, need);
             memcpy(ground, laid, need);

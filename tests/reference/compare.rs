@@ -319,8 +319,10 @@ pub fn ask_walk(case: &Case, rules: &Rules, tally: &mut Tally) -> Result<(), Str
     let mut some = |all: u16| if random.once_in(3) { all & random.next() as u16 } else { all };
     let want = [some(all_f), some(all_g)];
     let more = random.below(70);
-    let mut sizes: Vec<usize> = (0..4).map(|_| random.pick(&[0, 1, 1, 2, 3, 5, more])).collect();
-    sizes.push(random.pick(&PORTIONS));
+    let mut sizes = vec![random.pick(&PORTIONS)];
+    if !random.once_in(4) {
+        sizes.extend((0..4).map(|_| random.pick(&[0, 1, 1, 2, 3, 5, more])));
+    }
     ask_walking(&case.bytes, &judgement, want, &sizes, rules, tally).map_err(|what| failure(case, &case.bytes, &what))
 }
 
