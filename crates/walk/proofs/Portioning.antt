@@ -62,10 +62,10 @@ module _ {s : List ℕ} {sc : Scene} {g : List ℕ} (ground : GroundIs s sc g) (
       let c = scene_bytes g (state_at s sc want n) in
       true_is (is_over g (state_at s sc want n))
       (and_make (leb (length s + 2048) (length g)) (fits_test c sc.f && (fits_test c sc.g && (leb at.i sc.f.count && leb at.j sc.g.count)))
-       (is_true (leb (length s + 2048) (length g)) (le-leb (length s + 2048) (length g) ground.room))
-       (and_make (fits_test c sc.f) (fits_test c sc.g && (leb at.i sc.f.count && leb at.j sc.g.count)) (copied sc.f (fits s sc.f o.f_sound.read))
-        (and_make (fits_test c sc.g) (leb at.i sc.f.count && leb at.j sc.g.count) (copied sc.g (fits s sc.g o.g_sound.read))
-         (and_make (leb at.i sc.f.count) (leb at.j sc.g.count) few_f few_g))))
+      (is_true (leb (length s + 2048) (length g)) (le-leb (length s + 2048) (length g) ground.room))
+      (and_make (fits_test c sc.f) (fits_test c sc.g && (leb at.i sc.f.count && leb at.j sc.g.count)) (copied sc.f (fits s sc.f o.f_sound.read))
+      (and_make (fits_test c sc.g) (leb at.i sc.f.count && leb at.j sc.g.count) (copied sc.g (fits s sc.g o.g_sound.read))
+      (and_make (leb at.i sc.f.count) (leb at.j sc.g.count) few_f few_g))))
 
   pub portion_goes : (k : ℕ) → portion_of g (state_at s sc want n) k ≡ Ok (state_at s sc want (portion s sc k n))
   portion_goes k =

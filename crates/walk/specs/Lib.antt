@@ -2,5 +2,6 @@
 pub mod State
 pub mod Placed
 pub mod Walking
+pub mod Heads
 pub mod Walked
 pub mod Theorems

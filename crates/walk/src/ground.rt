@@ -3,7 +3,7 @@ ghost use Rattle.std.specs.Prelude.{◌≡◌, ◌<◌, ◌≤◌, length, get_o
 ghost use Rattle.sweep_laws.specs.Swept.{slot};
 ghost use Rattle.sweep_notes.specs.Numbers.{note_number};
 ghost use Rattle.walk.specs.Placed.{Fits};
-ghost use Rattle.walk.specs.Walking.{notes_in, counted_at, key_at, turned_at};
+ghost use Rattle.walk.specs.Walking.{notes_in, counted_at, key_at};
 
 use crate::records::Records;
 use flags_masks::FlagMasks;
@@ -80,18 +80,6 @@ impl<'a> Ground<'a> {
             }
         } else {
             Degrees { f: 0, g: 0 }
-        }
-    }
-
-    // After an event of the point with the key k, which has these degrees: they are counted when the point changes, and kept until it changes again.
-    pub fn turned(self, k: u64, i: usize, j: usize, at: Degrees) -> Degrees
-        ensures { result ≡ turned_at self.entry.bytes.now self.entry.scene k i j at }
-    {
-        let next = self.key(i, j);
-        if next == k {
-            at
-        } else {
-            self.counted(next, i, j)
         }
     }
 }

@@ -4,6 +4,7 @@ ghost use Rattle.scene_keys.specs.Keyed.{top};
 ghost use Rattle.walk_flags.specs.OneTaken.{side_of};
 ghost use Rattle.walk.specs.Placed.{Fits, fits_test};
 ghost use Rattle.walk.specs.Walking.{FairIfTaken, event_left, key_left, run_left};
+ghost use Rattle.walk.specs.Heads.{HeadIs};
 
 use scene::{Layout, Reason, Refusal, bytes};
 use walk_events::Event;
@@ -14,6 +15,13 @@ pub struct Records<'a> {
     pub bytes: &'a [u8],
     pub layout: Layout,
     pub ghost fits: { Fits bytes.now layout },
+}
+
+/// The first element that is left of an object: as an event, and the key of its point.
+#[derive(Clone, Copy)]
+pub struct Head {
+    pub event: Result<Option<Event>, Refusal>,
+    pub key: u64,
 }
 
 // Are these no more elements than an object may have, all within the bytes?
@@ -66,6 +74,16 @@ impl<'a> Records<'a> {
             scene_keys::key(p)
         } else {
             scene_keys::TOP
+        }
+    }
+
+    // Kept, with the key beside the event: both are of the same bytes, so that reading them at once costs little more than either.
+    pub fn head(self, i: usize) -> Head
+        ensures { HeadIs self.entry.bytes.now self.entry.layout i result }
+    {
+        Head {
+            event: self.event(i),
+            key: self.key(i),
         }
     }
 

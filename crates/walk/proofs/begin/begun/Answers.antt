@@ -26,8 +26,7 @@ pub returns-clause-ground : goal.returns-clause-ground
 returns-clause-ground c =
     let r = c.args.read in
     let s = r.bytes.now in
-    let rest = drop (length s + 2048) c.args.ground.now in
-    (
+    let rest = drop (length s + 2048) c.args.ground.now in (
       c.numbers-numbers.result,
       c.numbers-numbers.ensures.long,
       c.lay.ensures,

@@ -9,23 +9,26 @@ pub returns-in_err-step : goal.returns-in_err-step
 returns-in_err-step c =
     let w = c.args.self in
     handed_on c.from_residual.result c.from_residual.ensures.1
-    ∙ sym (c.loop.invariant ∙ walked_fails w.bytes.now w.notes.now w.scene w.want c.args.n c.loop.counter c.loop.at (omega (arith, c.loop-test.true)) (sym c.in_err-step.was ∙ c.next.ensures.is))
+    ∙ sym (c.loop.invariant.walked ∙ walked_fails w.bytes.now w.notes.now w.scene w.want c.args.n c.loop.counter c.loop.p.at (omega (arith, c.loop-test.true)) (sym c.in_err-step.was ∙ c.next.ensures.is))
 
 pub returns-in_default : goal.returns-in_default
 returns-in_default c =
     let w = c.args.self in
     let none = sym c.next.ensures.is ∙ c.in_ok-step.was ∙ ap Ok c.in_default.is in
-    sym (c.loop.invariant ∙ walked_stops w.bytes.now w.notes.now w.scene w.want c.args.n c.loop.counter c.loop.at (omega (arith, c.loop-test.true)) (sym none))
+    sym (c.loop.invariant.walked ∙ walked_stops w.bytes.now w.notes.now w.scene w.want c.args.n c.loop.counter c.loop.p.at (omega (arith, c.loop-test.true)) (sym none))
 
 pub loop-preserved : goal.loop-preserved
 loop-preserved c =
     let w = c.args.self in
     let some = sym c.next.ensures.is ∙ c.in_ok-step.was ∙ ap Ok c.in-Some.is in
-    c.loop.invariant
-    ∙ walked_on w.bytes.now w.notes.now w.scene w.want c.args.n c.loop.counter c.loop.at (omega (arith, c.loop-test.true)) (sym some)
-    ∙ ap (walked w.bytes.now w.notes.now w.scene w.want (c.args.n - (c.loop.counter + 1))) (sym c.taken-at.ensures)
+    record {
+      walked = c.loop.invariant.walked
+          ∙ walked_on w.bytes.now w.notes.now w.scene w.want c.args.n c.loop.counter c.loop.p.at (omega (arith, c.loop-test.true)) (sym some)
+          ∙ ap (walked w.bytes.now w.notes.now w.scene w.want (c.args.n - (c.loop.counter + 1))) (sym c.taken-p.ensures.at);
+      place = c.taken-p.ensures.place;
+    }
 
 pub returns : goal.returns
 returns c =
     let w = c.args.self in
-    sym (c.loop.invariant ∙ walked_all w.bytes.now w.notes.now w.scene w.want c.args.n c.loop.counter c.loop.at (omega (arith, c.loop-test.false)))
+    sym (c.loop.invariant.walked ∙ walked_all w.bytes.now w.notes.now w.scene w.want c.args.n c.loop.counter c.loop.p.at (omega (arith, c.loop-test.false)))
