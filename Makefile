@@ -58,11 +58,12 @@ pictures: $(patsubst scenes/%.wkt,docs/scenes/%.svg,$(wildcard scenes/*.wkt))
 docs/scenes/%.svg: scenes/%.wkt target/tools/scene target/bin/explore
 	@target/tools/scene make --beyond $< | target/tools/scene draw -o $@
 
-# Times beside GEOS, after bench/setup: the measured part of docs/BENCH.md, and docs/bench.svg. Then the two calls for map viewers
+# Times beside GEOS, after bench/setup: the measured part of docs/BENCH.md, and docs/bench.svg. Then the two calls for map viewers, and walks in portions
 bench: archive
 	@bench/run
 	@bench/sides
 	@bench/window
+	@bench/walk
 
 fmt:
 	@for crate in crates/*/; do (cd $$crate && rt fmt) || exit 1; done

@@ -1,5 +1,5 @@
 // From event to event: where the walk stands next.
-ghost use Rattle.std.specs.Prelude.{◌≡◌, min};
+ghost use Rattle.std.specs.Prelude.{◌≡◌};
 ghost use Rattle.walk.specs.Walking.{StepIsThere, StepFits, next_at, taken_at, walked, key_at, turned_at};
 ghost use Rattle.walk.specs.Heads.{PlaceIs};
 
@@ -19,15 +19,6 @@ struct Place {
     g: Head,
 }
 
-impl Place {
-    // The key of the point of the next event.
-    fn key(self) -> u64
-        ensures { result ≡ min self.f.key self.g.key }
-    {
-        self.f.key.min(self.g.key)
-    }
-}
-
 impl<'a> Ground<'a> {
     fn place(self, at: Spot) -> Place
         ensures at { result.at ≡ at }
@@ -41,10 +32,10 @@ impl<'a> Ground<'a> {
     }
 
     // The next event; none where nothing is left of either object.
-    fn next(self, p: Place) -> Result<Option<Step>, Refusal>
-        requires { PlaceIs self.bytes.now self.scene p }
-        ensures is { result ≡ next_at self.entry.bytes.now self.entry.scene p.at.i p.at.j }
-        ensures there { StepIsThere self.entry.scene p.at.i p.at.j result }
+    fn next(self, p: &Place) -> Result<Option<Step>, Refusal>
+        requires { PlaceIs self.bytes.now self.scene p.now }
+        ensures is { result ≡ next_at self.entry.bytes.now self.entry.scene p.now.at.i p.now.at.j }
+        ensures there { StepIsThere self.entry.scene p.now.at.i p.now.at.j result }
     {
         match (p.f.event, p.g.event) {
             (Err(r), _) => Err(r),
@@ -66,89 +57,44 @@ impl<'a> Ground<'a> {
         }
     }
 
-    // An event is taken: of F alone, of G alone, or of both.
-    fn taken(self, p: Place, step: Step) -> Place
-        requires there { StepFits self.scene p.at.i p.at.j step }
-        requires place { PlaceIs self.bytes.now self.scene p }
-        ensures at { result.at ≡ taken_at self.entry.bytes.now self.entry.notes.now self.entry.scene self.entry.want p.at step }
-        ensures place { PlaceIs self.entry.bytes.now self.entry.scene result }
+    // An event is taken: of F alone, of G alone, or of both. In place: only what changes is written.
+    fn take(self, p: &mut Place, step: Step)
+        requires there { StepFits self.scene p.old.at.i p.old.at.j step }
+        requires place { PlaceIs self.bytes.now self.scene p.old }
+        ensures at { p.new.at ≡ taken_at self.entry.bytes.now self.entry.notes.now self.entry.scene self.entry.want p.old.at step }
+        ensures place { PlaceIs self.entry.bytes.now self.entry.scene p.new }
     {
-        let Place { at, f, g } = p;
-        let k = p.key();
+        let k = p.f.key.min(p.g.key);
+        let (i, j) = (p.at.i, p.at.j);
+        let degrees = p.at.degrees;
         let asked = self.asked();
         match step {
             Step::OfF => {
-                let after = self.f().head(at.i + 1);
-                Place {
-                    at: Spot {
-                        i: at.i + 1,
-                        j: at.j,
-                        degrees: self.turned(k, after.key.min(g.key), at.i + 1, at.j, at.degrees),
-                        found: Vectors {
-                            f: at.found.f
-                                | asked.alone_f(
-                                    at.degrees,
-                                    self.note(true, at.i),
-                                    self.f().side(at.i),
-                                ),
-                            g: at.found.g,
-                        },
-                    },
-                    f: after,
-                    g,
-                }
+                p.at.found.f |= asked.alone_f(degrees, self.note(true, i), self.f().side(i));
+                p.at.i = i + 1;
+                p.f = self.f().head(i + 1);
             }
             Step::OfG => {
-                let after = self.g().head(at.j + 1);
-                Place {
-                    at: Spot {
-                        i: at.i,
-                        j: at.j + 1,
-                        degrees: self.turned(k, f.key.min(after.key), at.i, at.j + 1, at.degrees),
-                        found: Vectors {
-                            f: at.found.f,
-                            g: at.found.g
-                                | asked.alone_g(
-                                    at.degrees,
-                                    self.note(false, at.j),
-                                    self.g().side(at.j),
-                                ),
-                        },
-                    },
-                    f,
-                    g: after,
-                }
+                p.at.found.g |= asked.alone_g(degrees, self.note(false, j), self.g().side(j));
+                p.at.j = j + 1;
+                p.g = self.g().head(j + 1);
             }
             Step::OfBoth => {
-                let after_f = self.f().head(at.i + 1);
-                let after_g = self.g().head(at.j + 1);
                 let more = asked.both(
-                    at.degrees,
-                    self.note(true, at.i),
-                    self.f().side(at.i),
-                    self.g().side(at.j),
+                    degrees,
+                    self.note(true, i),
+                    self.f().side(i),
+                    self.g().side(j),
                 );
-                Place {
-                    at: Spot {
-                        i: at.i + 1,
-                        j: at.j + 1,
-                        degrees: self.turned(
-                            k,
-                            after_f.key.min(after_g.key),
-                            at.i + 1,
-                            at.j + 1,
-                            at.degrees,
-                        ),
-                        found: Vectors {
-                            f: at.found.f | more.f,
-                            g: at.found.g | more.g,
-                        },
-                    },
-                    f: after_f,
-                    g: after_g,
-                }
+                p.at.found.f |= more.f;
+                p.at.found.g |= more.g;
+                p.at.i = i + 1;
+                p.at.j = j + 1;
+                p.f = self.f().head(i + 1);
+                p.g = self.g().head(j + 1);
             }
         }
+        p.at.degrees = self.turned(k, p.f.key.min(p.g.key), p.at.i, p.at.j, degrees);
     }
 
     // Takes n events, or all that remain.
@@ -157,10 +103,10 @@ impl<'a> Ground<'a> {
     {
         let mut p = self.place(from);
         for _ in 0..n {
-            let Some(step) = self.next(p)? else {
+            let Some(step) = self.next(&p)? else {
                 return Ok(p.at);
             };
-            p = self.taken(p, step);
+            self.take(&mut p, step);
         }
         Ok(p.at)
     }

@@ -24,8 +24,8 @@ loop-preserved c =
     record {
       walked = c.loop.invariant.walked
           ∙ walked_on w.bytes.now w.notes.now w.scene w.want c.args.n c.loop.counter c.loop.p.at (omega (arith, c.loop-test.true)) (sym some)
-          ∙ ap (walked w.bytes.now w.notes.now w.scene w.want (c.args.n - (c.loop.counter + 1))) (sym c.taken-p.ensures.at);
-      place = c.taken-p.ensures.place;
+          ∙ ap (walked w.bytes.now w.notes.now w.scene w.want (c.args.n - (c.loop.counter + 1))) (sym c.take.ensures.at);
+      place = c.take.ensures.place;
     }
 
 pub returns : goal.returns
