@@ -1,5 +1,5 @@
 -- Two numbers more, and all of them.
-use Rattle.std.proofs.Common.{ℕ, ◌≡◌, ◌∙◌, ap, ap₂, subst, subst₂, set, ◌+◌, arith}
+use Rattle.std.proofs.Common.{ℕ, ◌≡◌, subst, arith}
 use Rattle.sweep_notes.specs.Numbers.{NumbersTo}
 use Rattle.sweep_notes.proofs.Numbers.{numbers_on}
 use Rattle.sweep_notes.proofs.Notes.numbers.Goals as goal
