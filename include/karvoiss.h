@@ -131,8 +131,9 @@ extern "C" {
  * to need about 6,000 bytes, karvoiss_summary 25,520, since it copies its object,
  * karvoiss_far 160, karvoiss_estimate 40 and karvoiss_in_window 216;
  * karvoiss_read_wkb 123,672 and karvoiss_write_wkb 46,264, since they build and
- * check an object, and karvoiss_split 306,008; the numbers leave room for other
- * compilers.
+ * check an object, karvoiss_split 306,008, and karvoiss_walk_begin 10,136, since it
+ * has the notes twice, and karvoiss_walk_portion 1,104; the numbers leave room for
+ * other compilers.
  */
 #define KARVOISS_VECTORS_STACK 11200
 #define KARVOISS_CELLS_STACK 11200

@@ -331,11 +331,13 @@ pub fn ask_walks_by_hand(rules: &Rules, tally: &mut Tally) -> Result<(), String>
     for case in notation::cases(include_str!("../../crates/test_vectors/stdin")).map_err(|case| format!("not read: {case}"))? {
         let judgement = judge(&case.bytes, &RIGHT);
         for k in PORTIONS {
-            ask_walking(&case.bytes, &judgement, [case.want_f, case.want_g], &[k], rules, tally).map_err(|what| format!("{}, in portions of {k}: {what}", case.label))?;
+            ask_walking(&case.bytes, &judgement, [case.want_f, case.want_g], &[k], rules, tally)
+                .map_err(|what| format!("{}, in portions of {k}: {what}", case.label))?;
         }
     }
     for known in byhand::known() {
-        ask_walking(&known.bytes, &judge(&known.bytes, &RIGHT), all_wanted(&known.bytes), &[1], rules, tally).map_err(|what| format!("{}: {what}", known.name))?;
+        ask_walking(&known.bytes, &judge(&known.bytes, &RIGHT), all_wanted(&known.bytes), &[1], rules, tally)
+            .map_err(|what| format!("{}: {what}", known.name))?;
     }
     Ok(())
 }

@@ -216,8 +216,8 @@ mod linked {
 mod stand_in {
     use crate::judge::{judge, AreasAnswer, CellsAnswer, OverlapAnswer, RelateAnswer, VectorsAnswer};
     use crate::mistakes::RIGHT;
-    use crate::split::{SplitAnswer, Splitting};
     use crate::scene::read_scene;
+    use crate::split::{SplitAnswer, Splitting};
     use crate::summary::{self, FarAnswer, SummaryAnswer};
     use crate::walk::{Slip, Told, Walk};
     use crate::wkb::{ReadAnswer, Reading, WriteAnswer, Writing};

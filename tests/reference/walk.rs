@@ -142,7 +142,11 @@ fn witnesses(own: &Object, other: &Object, lower: bool, slip: Slip) -> Vec<Witne
                 let [on_interior, disjoint] = own_ends(v);
                 let shared = bound.contains(&v) && its_bound.contains(&v);
                 let inner = on(v) && !bound.contains(&v) && !its_bound.contains(&v);
-                if first { vec![false, inner, false, on_interior, shared, disjoint] } else { vec![false, on_interior, disjoint] }
+                if first {
+                    vec![false, inner, false, on_interior, shared, disjoint]
+                } else {
+                    vec![false, on_interior, disjoint]
+                }
             }));
             all
         }
@@ -225,7 +229,11 @@ impl Walk {
         for (object, (may, must)) in self.after(n).into_iter().enumerate() {
             let (may, must) = (may & want[object], must & want[object]);
             if found[object] & !may != 0 || must & !found[object] != 0 {
-                return Err(format!("after {n} of {} events: {told:?}, but of {} {may:b} may be set and {must:b} must", self.total, ['F', 'G'][object]));
+                return Err(format!(
+                    "after {n} of {} events: {told:?}, but of {} {may:b} may be set and {must:b} must",
+                    self.total,
+                    ['F', 'G'][object]
+                ));
             }
         }
         Ok(())

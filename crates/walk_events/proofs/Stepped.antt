@@ -17,7 +17,7 @@ use Rattle.scene_segments.proofs.Walk.{between, between_next, between_none}
 use Rattle.walk_events.specs.declared.Event.{Event}
 use Rattle.walk_events.specs.declared.Step.TheVariants.{OfF, OfG, OfBoth}
 use Rattle.walk_events.specs.Events.{Taken, f_alone, g_alone, of_both, event_of, same_event, event_before, merge, same, earlier}
-use Rattle.walk_events.specs.Stepping.{Fair, event_in, step_of, next_of, remaining, Stepped}
+use Rattle.walk_events.specs.Stepping.{Fair, event_in, step_of, remaining, Stepped}
 
 fair_side : (s : List ℕ) (at : ℕ) (fields : Bool) → T (fields && (segment_in_range (segment_at s at) && ordered (segment_at s at))) → T (segment_in_range (segment_at s at))
 fair_side s at fields t = and_left (segment_in_range (segment_at s at)) (ordered (segment_at s at)) (and_right fields (segment_in_range (segment_at s at) && ordered (segment_at s at)) t)
