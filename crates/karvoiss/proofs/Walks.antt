@@ -11,7 +11,7 @@ use Rattle.scene.specs.Read.{shape_number, shape_of, turned}
 use Rattle.flags_vectors.specs.declared.Vectors.{Vectors}
 use Rattle.flags_vectors.specs.Vectors.{given_vectors}
 use Rattle.walk.specs.declared.Walk.{Walk}
-use Rattle.walk.specs.Walked.{WalkAnswer, shown, portion_of}
+use Rattle.walk.specs.Walked.{shown, portion_of}
 use Rattle.karvoiss.specs.Walks.{state_for_c, walk_for_c, type_test, scene_of, read_state, state_of, portion_if, portion_for_c}
 
 is_type : (k : Shape) → type_test (shape_number k) ≡ true

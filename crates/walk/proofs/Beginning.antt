@@ -5,9 +5,8 @@ use native.Mathlib.Omega.{arith}
 use mathlib.Core.Path.{◌≡◌, refl, sym, ap, subst, ◌∙◌}
 use mathlib.Core.Bool.{Bool, true, false, cond}
 use mathlib.Core.List.{List, ◌++◌}
-use lib.Dec.{leb}
-use lib.ListN.{length, take, drop, get_or, length-append}
-use Rattle.std.proofs.lemmas.Bool.{le-leb, lt-leb}
+use lib.ListN.{length, get_or, length-append}
+use Rattle.std.proofs.lemmas.Bool.{le-leb}
 use Rattle.std.proofs.lemmas.List.{get_or_append_left}
 use Rattle.std.proofs.Math.ListN.{get_or-map}
 use Rattle.std.proofs.Math.Seq.{take-append_seam, drop-append_seam}
@@ -26,11 +25,9 @@ use Rattle.flags_vectors.specs.declared.question.MaskedScene.{MaskedScene}
 use Rattle.flags_vectors.specs.Vectors.{asked_of}
 use Rattle.flags_vectors.proofs.Answered.{accepted, asked_refused, asked_taken}
 use Rattle.flags_classes.proofs.Merging.{few}
-use Rattle.walk_flags.specs.declared.Degrees.{Degrees}
-use Rattle.walk.specs.declared.Spot.{Spot}
-use Rattle.walk.specs.State.{point_key, spot_at, Counted}
+use Rattle.walk.specs.State.{spot_at, Counted}
 use Rattle.walk.specs.Walking.{notes_in, key_at, counted_at, start_at}
-use Rattle.walk.specs.Walked.{WalkAnswer, GroundIs, state_at, begun_as, begin_if, begin_of}
+use Rattle.walk.specs.Walked.{GroundIs, state_at, begun_as, begin_if, begin_of}
 use Rattle.walk.proofs.Made.{keys_are, counted_is}
 
 -- ---- the first spot

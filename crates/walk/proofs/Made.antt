@@ -1,25 +1,25 @@
 -- Over the ground of a scene every record is what it is due to be: each portion goes as many events further.
-use Rattle.std.specs.Prelude.{Option, Some, None, Result, Ok, Err}
+use Rattle.std.specs.Prelude.{Option, Some, None, Result, Ok}
 use Prim.Native.Nat.{ℕ, zero, suc, ◌+◌, ◌-◌, ◌<◌, ◌≤◌}
 use native.Mathlib.Decide.{dec_lt, ℕ_discrete}
 use native.Mathlib.Nat.{eq-or-lt_of_le}
 use native.Mathlib.Omega.{arith}
 use mathlib.Core.Path.{◌≡◌, refl, sym, ap, ap₂, subst, ◌∙◌}
 use mathlib.Core.Logic.{⊎_elim}
-use mathlib.Core.Bool.{Bool, true, false, cond, ◌&&◌}
+use mathlib.Core.Bool.{cond, ◌&&◌}
 use mathlib.Core.List.{List}
-use lib.Dec.{T, eqb, leb}
-use borrow.Author.Tests.{eqb-true, eq-eqb, ne_eqb, lt-ltb}
+use lib.Dec.{T}
+use borrow.Author.Tests.{eq-eqb, ne_eqb, lt-ltb}
 use Rattle.std.proofs.lemmas.Bool.{le-ltb}
 use Rattle.whole.proofs.Logic.{and_make, true_is}
-use Rattle.plane.specs.Plane.{in_range, segment_in_range, ordered}
+use Rattle.plane.specs.Plane.{in_range}
 use Rattle.scene.specs.declared.Refusal.{Refusal}
 use Rattle.scene.specs.declared.Shape.{Shape}
 use Rattle.scene.specs.declared.Shape.TheVariants.{Points, Line, Region}
 use Rattle.scene.specs.declared.Kind.TheVariants.{Element}
 use Rattle.scene.specs.declared.Layout.{Layout}
 use Rattle.scene.specs.declared.Scene.{Scene}
-use Rattle.scene.specs.Read.{place, point_at, segment_at, fields_good, coordinates_good, ends_good, IsObject}
+use Rattle.scene.specs.Read.{place, fields_good, coordinates_good, ends_good, IsObject}
 use Rattle.scene.specs.Conditions.{check_scene}
 use Rattle.scene.proofs.Taken.{taken_object}
 use Rattle.scene_reading.specs.Faultless.{are_fields_good}
@@ -28,23 +28,20 @@ use Rattle.scene_keys.proofs.Keys.{next_in, next_end}
 use Rattle.scene_keys.proofs.Elements.{point_in_range}
 use Rattle.sweep_laws.specs.Noted.{Noted}
 use Rattle.check_verdict.proofs.Laws.{SoundScene}
-use Rattle.flags_meetings.specs.Keyed.{Passed}
 use Rattle.flags_masks.specs.declared.FlagMasks.{FlagMasks}
 use Rattle.flags_vectors.proofs.Answered.{accepted}
-use Rattle.walk_events.specs.declared.Event.{Event}
 use Rattle.walk_events.specs.declared.Step.{Step}
 use Rattle.walk_events.specs.declared.Step.TheVariants.{OfF, OfG, OfBoth}
 use Rattle.walk_events.specs.Events.{event_of, event_as}
 use Rattle.walk_events.specs.Portions.{total, portion}
 use Rattle.walk_events.specs.Stepping.{event_in, event_read, next_of, Stepped}
-use Rattle.walk_events.proofs.Portioned.{portion_few, portions_add}
+use Rattle.walk_events.proofs.Portioned.{portion_few}
 use Rattle.walk_events.proofs.Standing.{ends}
 use Rattle.walk_events.proofs.Stepped.{step_first, step_f, step_g, step_end}
 use Rattle.walk_flags.specs.declared.Degrees.{Degrees}
 use Rattle.walk.specs.declared.Spot.{Spot}
-use Rattle.walk.specs.State.{point_key, degrees_at, spot_at, Past, Counted, Turned, RunFrom}
+use Rattle.walk.specs.State.{point_key, degrees_at, spot_at, Counted, Turned, RunFrom}
 use Rattle.walk.specs.Walking.{tested, event_left, key_in, key_left, run_left, notes_in, first_of, next_at, key_at, counted_at, turned_at, taken_at, go_on, walked}
-use Rattle.walk.proofs.Running.{run_on, run_ends, run_none}
 use Rattle.walk.proofs.Turning.{counted_runs, counted_end}
 use Rattle.walk.proofs.Taken.{Stands, stands_at}
 use Rattle.walk.proofs.Moving.{goes_f, goes_g, goes_both}

@@ -20,7 +20,6 @@ use Rattle.walk_events.specs.Events.{Taken, events}
 use Rattle.walk_events.specs.Portions.{total, is_done, portion}
 use Rattle.walk_events.specs.Stepping.{remaining, Stepped}
 use Rattle.walk_events.proofs.Standing.{ends}
-use Rattle.walk_events.proofs.Portioned.{portions_add, portion_few}
 use Rattle.walk_flags.specs.OneTaken.{alone_of_f, alone_of_g, both_of_f, both_of_g}
 use Rattle.walk.specs.declared.Spot.{Spot}
 use Rattle.walk_flags.specs.declared.Degrees.{Degrees}

@@ -2,8 +2,8 @@
 use Rattle.std.specs.Prelude.{Result, Ok}
 use Prim.Native.Nat.{ℕ, ◌+◌, ◌≤◌}
 use native.Mathlib.Omega.{arith}
-use mathlib.Core.Path.{◌≡◌, refl, sym, ap, subst, ◌∙◌}
-use mathlib.Core.Bool.{Bool, true, false, cond, ◌&&◌}
+use mathlib.Core.Path.{◌≡◌, sym, ap, subst, ◌∙◌}
+use mathlib.Core.Bool.{true, false, cond, ◌&&◌}
 use mathlib.Core.List.{List}
 use lib.Dec.{T, leb}
 use lib.ListN.{length}
@@ -13,7 +13,6 @@ use Rattle.scene.specs.declared.Layout.{Layout}
 use Rattle.scene.specs.declared.Scene.{Scene}
 use Rattle.scene.specs.declared.Refusal.{Refusal}
 use Rattle.scene.specs.Read.{place, most, IsObject}
-use Rattle.check_verdict.proofs.Laws.{SoundScene}
 use Rattle.flags_masks.specs.declared.FlagMasks.{FlagMasks}
 use Rattle.flags_vectors.proofs.Answered.{accepted}
 use Rattle.walk_events.specs.Portions.{total, portion}
@@ -22,9 +21,9 @@ use Rattle.walk.specs.declared.Walk.{Walk}
 use Rattle.walk.specs.State.{spot_at}
 use Rattle.walk.specs.Placed.{fits_test}
 use Rattle.walk.specs.Walking.{at_fault, walked, scene_bytes, note_bytes, is_over}
-use Rattle.walk.specs.Walked.{WalkAnswer, GroundIs, moved, portion_of, state_at}
+use Rattle.walk.specs.Walked.{GroundIs, moved, portion_of, state_at}
 use Rattle.walk.proofs.Placed.{read_fits}
-use Rattle.walk.proofs.Taken.{Stands, stands_at}
+use Rattle.walk.proofs.Taken.{stands_at}
 use Rattle.walk.proofs.Made.{walks_on}
 
 -- ---- of any state

@@ -4,11 +4,10 @@ use Prim.Native.Nat.{ℕ, zero, suc, ◌+◌, ◌<◌, ◌≤◌}
 use native.Mathlib.Omega.{arith}
 use native.Mathlib.Decide.{dec_lt}
 use mathlib.Core.Path.{◌≡◌, refl, sym, ap, ap₂, subst, ◌∙◌}
-use mathlib.Core.Logic.{◌↔◌}
 use mathlib.Core.Bool.{Bool, true, false, not, cond, ◌&&◌, true≢false, and-true, and-false}
 use mathlib.Core.List.{List, [], ◌∷◌}
 use lib.Dec.{T, leb}
-use lib.ListN.{length, drop}
+use lib.ListN.{length}
 use borrow.Author.Tests.{leb-true}
 use Rattle.whole.specs.Count.{◌∈◌}
 use Rattle.whole.proofs.Logic.{true_is, false_is}
@@ -21,11 +20,9 @@ use Rattle.check_verdict.proofs.Laws.{sound_scene}
 use Rattle.flags.specs.Flags.{has_bit}
 use Rattle.flags.proofs.Bits.{and_bit}
 use Rattle.flags_masks.specs.declared.FlagMasks.{FlagMasks}
-use Rattle.flags_masks.specs.declared.Wanted.{Wanted}
 use Rattle.flags_masks.specs.Wanted.{masks_for, only, vector_of_f, vector_of_g}
 use Rattle.flags_vectors.specs.Vectors.{given_vectors, vectors_in, these, stray_wanted, check_vectors, answer_of, vectors_of}
 use Rattle.flags_vectors.proofs.Answered.{accepted}
-use Rattle.walk_events.specs.Events.{events}
 use Rattle.walk_events.specs.Portions.{total, taken_f, taken_g, found_f, found_g, is_done, portion, after}
 use Rattle.walk_events.specs.Taking.{own_tests}
 use Rattle.walk_events.specs.Windows.{Window, test_at}
@@ -33,10 +30,10 @@ use Rattle.walk_events.proofs.Portioned.{done_remains, remains_done, portion_few
 use Rattle.walk_events.proofs.Windows.{window_of_f, window_of_g}
 use Rattle.walk.specs.declared.Walk.{Walk}
 use Rattle.walk.specs.State.{found_at}
-use Rattle.walk.specs.Walked.{WalkAnswer, GroundIs, GroundAfter, shown, done, portion_of, state_at, vectors_at, begun_as, begin_if, begin_of}
+use Rattle.walk.specs.Walked.{WalkAnswer, GroundIs, GroundAfter, shown, done, portion_of, state_at, vectors_at, begin_if, begin_of}
 use Rattle.walk.proofs.Moving.{done_at}
 use Rattle.walk.proofs.Portioning.{portion_goes}
-use Rattle.walk.specs.Theorems.{then_portion, calls, rounded_up, InWindows, Promises, Counts, WalkHolds, WalkPromised, in_state}
+use Rattle.walk.specs.Theorems.{then_portion, calls, rounded_up, InWindows, Promises, Counts, WalkHolds, WalkPromised}
 
 -- ---- the windows
 

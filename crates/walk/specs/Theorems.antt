@@ -1,8 +1,7 @@
 -- What is promised of a whole walk: portions add up, the number of calls, what alters nothing, when it is done, the vectors at the end, and the windows of
 -- each flag. proofs/Theorems.antt proves these over every ground that the beginning has laid.
-use Rattle.std.specs.Prelude.{Result, Ok, Err, ℕ, zero, suc, ◌+◌, ◌-◌, ◌/◌, ◌<◌, ◌≤◌, ◌≡◌, ◌↔◌, true, false, not, List, [], T, drop}
+use Rattle.std.specs.Prelude.{Ok, Err, ℕ, zero, suc, ◌+◌, ◌-◌, ◌/◌, ◌<◌, ◌≤◌, ◌≡◌, ◌↔◌, true, false, not, List, [], T, drop}
 use Rattle.whole.specs.Count.{◌∈◌}
-use Rattle.scene.specs.declared.Refusal.{Refusal}
 use Rattle.scene.specs.declared.Scene.{Scene}
 use Rattle.flags.specs.Flags.{has_bit}
 use Rattle.flags_vectors.specs.declared.Vectors.{Vectors}

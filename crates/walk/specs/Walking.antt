@@ -1,6 +1,6 @@
 -- How a walk goes over any bytes: each record is tested where it is taken. proofs/Made.antt says that over the ground of a scene it stands after n events where
 -- State.antt has it.
-use Rattle.std.specs.Prelude.{Option, Some, None, Result, Ok, Err, ℕ, zero, suc, ◌+◌, ◌-◌, ◌<◌, ◌≤◌, min, ◌≡◌, Bool, true, false, ◌&&◌, cond, List, leb, ltb, eqb, T, length, map, take, drop}
+use Rattle.std.specs.Prelude.{Option, Some, None, Result, Ok, Err, ℕ, zero, suc, ◌+◌, ◌-◌, ◌<◌, min, Bool, ◌&&◌, cond, List, leb, ltb, eqb, length, map, take, drop}
 use Rattle.std.specs.Int.Bits.{bit_or}
 use Rattle.plane.specs.Plane.{in_range}
 use Rattle.scene.specs.declared.Layout.{Layout}

@@ -1,5 +1,5 @@
 -- The fields of the answer, and that a state that comes back is the same again.
-use Rattle.std.proofs.Common.{◌∙◌, sym, ap, ap₂}
+use Rattle.std.proofs.Common.{◌∙◌, sym, ap}
 use mathlib.Core.Bool.{cond}
 use borrow.Author.Tests.{eq-eqb}
 use Rattle.karvoiss.specs.declared.KarvoissWalk.{KarvoissWalk}

@@ -1,5 +1,5 @@
 -- The state does not fit, a record is at fault, or the walk is moved.
-use Rattle.std.proofs.Common.{Ok, Err, ◌∙◌, sym, ap}
+use Rattle.std.proofs.Common.{◌∙◌, sym, ap}
 use Rattle.scene.proofs.Outcomes.{handed_on}
 use Rattle.walk.specs.Walking.{walked}
 use Rattle.walk.specs.Walked.{moved}

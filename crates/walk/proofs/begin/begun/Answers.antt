@@ -1,5 +1,5 @@
 -- The ground is laid, and the walk stands where no event is taken.
-use Rattle.std.proofs.Common.{Ok, ℕ, List, ◌≡◌, ◌∙◌, sym, ap, ◌+◌, ◌++◌, length, drop, arith, subst}
+use Rattle.std.proofs.Common.{Ok, ℕ, List, ◌∙◌, sym, ap, ◌+◌, length, drop, arith, subst}
 use Rattle.walk.specs.declared.Spot.{Spot}
 use Rattle.walk.specs.Walked.{GroundIs}
 use Rattle.walk.proofs.Placed.{read_fits_f, read_fits_g}

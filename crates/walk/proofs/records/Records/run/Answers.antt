@@ -1,6 +1,5 @@
 -- One element more, the first with another key, or the end.
-use Rattle.std.proofs.Common.{ℕ, ◌≡◌, ◌∙◌, sym, ◌+◌, ◌-◌, arith}
-use Rattle.walk.specs.Walking.{run_left}
+use Rattle.std.proofs.Common.{◌∙◌, sym, arith}
 use Rattle.walk.proofs.Running.{run_on, run_ends, run_none}
 use Rattle.walk.proofs.records.Records.run.Goals as goal
 
