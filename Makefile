@@ -86,11 +86,12 @@ pictures: target/tools/karvoiss
 	    target/tools/karvoiss make $$sample | target/tools/karvoiss draw -o docs/scenes/$${name%.*}.svg || [ $$? -eq 2 ]; \
 	done
 
-# Times beside GEOS, after bench/setup: the measured part of docs/BENCH.md, and docs/bench.svg. Then the two calls for map viewers
+# Times beside GEOS, after bench/setup: the measured part of docs/BENCH.md, and docs/bench.svg. Then the two calls for map viewers, and walks in portions
 bench: archive
 	@bench/run
 	@bench/sides
 	@bench/window
+	@bench/walk
 
 # Registers of real and of made data beside GEOS, after bench/setup: what docs/REGISTER.md has
 registers: archive

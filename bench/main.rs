@@ -70,6 +70,9 @@ mod split_maker;
 #[path = "../tests/reference/summary.rs"]
 mod summary;
 #[allow(dead_code)]
+#[path = "../tests/reference/walk.rs"]
+mod walk;
+
 #[path = "../tests/reference/wkb.rs"]
 mod wkb;
 #[allow(dead_code)]

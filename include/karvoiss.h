@@ -5,11 +5,12 @@
  * answer a question about it, in the scene's order: what is said of F is said of
  * the object that the bytes have first. Two more make the summary of an object, and
  * say what two of these tell; two read an object from well-known binary, and
- * write it so; and one splits two objects that cross into a scene. All are total: any
+ * write it so; one splits two objects that cross into a scene; and two answer the
+ * vectors question in portions, so that it may be put down. All are total: any
  * bytes of any length may be passed, nothing need be tested beforehand. They keep no
  * state, allocate nothing, and may be called from several threads at once. The bytes
  * passed are only read, but for the buffers of karvoiss_overlap, karvoiss_read_wkb,
- * karvoiss_write_wkb and karvoiss_split.
+ * karvoiss_write_wkb, karvoiss_split and karvoiss_walk_begin.
  *
  * `scene` points to `length` bytes; it may be null where `length` is 0.
  *
@@ -61,7 +62,8 @@
  *   6  element 1,025 of an object
  *   7  bytes after the second end
  *   8  never occurs since 0.3.0; before, F's type above G's
- *   9  a wanted bit has no flag (place 0; karvoiss_vectors only)
+ *   9  a wanted bit has no flag (place 0; karvoiss_vectors and karvoiss_walk_begin
+ *      only)
  *  10  element not strictly after the one before
  *  11  halfsegment with no partner of opposite d, equal ends and ia
  *  12  two segments of one object share a point that is not an end of both
@@ -79,13 +81,15 @@
  *      that would have more than 1,024 elements once split, at its type record
  *      (karvoiss_split)
  *  21  the buffer is shorter than what is written (place 0; karvoiss_read_wkb,
- *      karvoiss_write_wkb and karvoiss_split only)
+ *      karvoiss_write_wkb, karvoiss_split and karvoiss_walk_begin only)
  *  22  the pattern has not nine characters (place 0; karvoiss_relate only)
  *  23  a character is none of T, F, *, 0, 1, 2: the position of the first
  *      such, from 0 (karvoiss_relate only)
  *  24  a field of well-known binary that is cut, has no allowed value or is left
  *      over (karvoiss_read_wkb); a region, which is not written (place 0;
- *      karvoiss_write_wkb)
+ *      karvoiss_write_wkb); a walk's state that does not fit its ground (place 0), or
+ *      a record of the ground that is at fault, at its offset there
+ *      (karvoiss_walk_portion)
  *  25  a coordinate that is not a whole number in range (karvoiss_read_wkb only)
  *  26  an open ring, at its count (karvoiss_read_wkb only)
  *  27  not a window (place 0; karvoiss_in_window only)
@@ -97,7 +101,9 @@
  * karvoiss_in_window 27, 28 and 18, in this order. karvoiss_read_wkb has 24, 25 and
  * 26, the earliest byte first, then 20, 10, 12, 13 and 21, each at place 0, and
  * karvoiss_write_wkb those of karvoiss_summary, then 24 and 21. karvoiss_split has 1 to 7,
- * 10 to 14, then 19, 20 and 21. A number that is not in the table never occurs.
+ * 10 to 14, then 19, 20 and 21. karvoiss_walk_begin has those of karvoiss_vectors,
+ * then 21, and karvoiss_walk_portion 24 alone. A number that is not in the table never
+ * occurs.
  *
  * Since 0.3.0 either type may come first. Before, a scene whose first type was
  * above its second was refused with 8, and a caller had to exchange the objects
@@ -125,8 +131,9 @@ extern "C" {
  * to need about 6,000 bytes, karvoiss_summary 25,520, since it copies its object,
  * karvoiss_far 160, karvoiss_estimate 40 and karvoiss_in_window 216;
  * karvoiss_read_wkb 166,552 and karvoiss_write_wkb 26,792, since they build and
- * check an object, and karvoiss_split 305,896; the numbers leave room for other
- * compilers.
+ * check an object, karvoiss_split 305,896, and karvoiss_walk_begin 10,136, since it
+ * has the notes twice, and karvoiss_walk_portion 1,104; the numbers leave room for
+ * other compilers.
  */
 #define KARVOISS_VECTORS_STACK 11200
 #define KARVOISS_CELLS_STACK 11200
@@ -140,6 +147,8 @@ extern "C" {
 #define KARVOISS_READ_WKB_STACK 334000
 #define KARVOISS_WRITE_WKB_STACK 93000
 #define KARVOISS_SPLIT_STACK 614400
+#define KARVOISS_WALK_BEGIN_STACK 20000
+#define KARVOISS_WALK_PORTION_STACK 2048
 
 /* The topological feature vectors of F and G.
  *
@@ -563,6 +572,75 @@ typedef struct {
 
 karvoiss_split_t karvoiss_split(const uint8_t *scene, size_t length,
                                 uint8_t *split, size_t room);
+
+/* A walk that may be put down: the vectors question in portions. Since 0.14.0.
+ *
+ * karvoiss_walk_begin checks a scene as karvoiss_vectors does, with the same masks and
+ * the same refusals, and then 21; it takes no event yet. karvoiss_walk_portion takes as
+ * many events as `events` says, or all that remain, and hands the walk's state back.
+ *
+ *     walk = karvoiss_walk_begin(scene, length, want_f, want_g, ground, sizeof ground);
+ *     while (walk.number == 0 && !walk.done)
+ *         walk = karvoiss_walk_portion(ground, sizeof ground, walk, 64);
+ *
+ * An event is an element of either object, in the order of elements, of both objects
+ * merged: an element that both have is one event, halfsegments by their ends and d alone.
+ * A point is never equal to a halfsegment, and comes after those whose dominating point it
+ * is. Taking a point sets its flags; taking a left halfsegment those of its segment; taking
+ * any halfsegment those of its dominating point. So a wanted flag is clear until an event of
+ * some witness is taken, and set once all events of one are. `f` and `g` are the wanted
+ * flags that are set so far, in the order of the objects in the scene. `done` is 1 exactly
+ * if no event remains, even where all wanted flags are set before; `f` and `g` are then
+ * those of karvoiss_vectors. A scene of n events in portions of k is done after n / k
+ * calls, rounded up; one without events at the beginning. A portion of zero events, or one
+ * after the end, gives the state back as it is, and portions add up: where a walk stands
+ * depends on the scene, the masks and the number of events taken, and on nothing else.
+ *
+ * `ground` points to `room` bytes, the walk's own copy of the scene and of what the checks
+ * found: the scene's bytes, and 2,048 more. KARVOISS_WALK_ROOM bytes are always enough. It
+ * may be null where `room` is 0, and must not overlap `scene`. Refused: all bytes are as
+ * they were. Taken: later bytes are. Portions only read it, so several walks may share it,
+ * and an earlier state may be gone back to: a state is a value.
+ *
+ * Neither ground nor state need be tested, whatever they are. A state with a number above 0
+ * comes back as it is. One that karvoiss_walk_begin and karvoiss_walk_portion did not make,
+ * or over another ground, is refused with 24 where it does not fit the ground (place 0) or
+ * where a record that is due is at fault (its offset in the ground), and is walked
+ * over what stands there else. All fields but the number and the place are then 0. The fields
+ * after `done` are for the next portion.
+ *
+ * A portion costs what its events cost, some 50 nanoseconds each: none searches an object
+ * or reads the scene again.
+ */
+typedef struct {
+    uint32_t number;
+    size_t place;
+    uint16_t f;
+    uint16_t g;
+    uint8_t done;
+    uint8_t type_f;
+    uint8_t type_g;
+    uint16_t want_f;
+    uint16_t want_g;
+    size_t length;
+    size_t start_f;
+    size_t start_g;
+    size_t count_f;
+    size_t count_g;
+    size_t taken_f;
+    size_t taken_g;
+    size_t degree_f;
+    size_t degree_g;
+} karvoiss_walk_t;
+
+#define KARVOISS_WALK_ROOM 40966
+
+karvoiss_walk_t karvoiss_walk_begin(const uint8_t *scene, size_t length,
+                                    uint16_t want_f, uint16_t want_g,
+                                    uint8_t *ground, size_t room);
+
+karvoiss_walk_t karvoiss_walk_portion(const uint8_t *ground, size_t length,
+                                      karvoiss_walk_t walk, size_t events);
 
 /* The side of a point c against the segment from a to b, estimated in single
  * floats (since 0.8.0). It takes no scene and refuses nothing.

@@ -24,6 +24,11 @@ karvoiss_write_wkb_t __wrap_karvoiss_write_wkb(const uint8_t *object, size_t len
 karvoiss_split_t __real_karvoiss_split(const uint8_t *scene, size_t length, uint8_t *split, size_t room);
 karvoiss_split_t __wrap_karvoiss_split(const uint8_t *scene, size_t length, uint8_t *split, size_t room);
 
+karvoiss_walk_t __real_karvoiss_walk_begin(const uint8_t *scene, size_t length, uint16_t want_f, uint16_t want_g, uint8_t *ground, size_t room);
+karvoiss_walk_t __wrap_karvoiss_walk_begin(const uint8_t *scene, size_t length, uint16_t want_f, uint16_t want_g, uint8_t *ground, size_t room);
+karvoiss_walk_t __real_karvoiss_walk_portion(const uint8_t *ground, size_t length, karvoiss_walk_t walk, size_t events);
+karvoiss_walk_t __wrap_karvoiss_walk_portion(const uint8_t *ground, size_t length, karvoiss_walk_t walk, size_t events);
+
 /* Reads a byte. */
 static inline __attribute__((unused)) void touch(const volatile uint8_t *byte)
 {
@@ -207,4 +212,55 @@ karvoiss_split_t __wrap_karvoiss_split(const uint8_t *scene, size_t length, uint
     answer.place += kept != length;
 #endif
     return answer;
+}
+
+karvoiss_walk_t __wrap_karvoiss_walk_begin(const uint8_t *scene, size_t length, uint16_t want_f, uint16_t want_g, uint8_t *ground, size_t room)
+{
+#if defined MISTAKE_walk_reads_on
+    touch(scene + length);
+#elif defined MISTAKE_walk_reads_null
+    touch(scene);
+#elif defined MISTAKE_walk_deep
+    dig(KARVOISS_WALK_BEGIN_STACK);
+#endif
+    karvoiss_walk_t walk = __real_karvoiss_walk_begin(scene, length, want_f, want_g, ground, room);
+
+#if defined MISTAKE_walk_written_early
+    if (walk.number != 0 && room > 0)
+        *(volatile uint8_t *)ground = 84;
+#elif defined MISTAKE_walk_writes_on
+    if (walk.number == 0)
+        ((volatile uint8_t *)ground)[length + 2048] = 0;
+#endif
+    return walk;
+}
+
+karvoiss_walk_t __wrap_karvoiss_walk_portion(const uint8_t *ground, size_t length, karvoiss_walk_t walk, size_t events)
+{
+#if defined MISTAKE_portion_reads_on
+    touch(ground + length);
+#elif defined MISTAKE_portion_reads_null
+    touch(ground);
+#elif defined MISTAKE_portion_writes
+    if (length > 0)
+        *(volatile uint8_t *)ground = *ground;
+#elif defined MISTAKE_portion_keeps_state
+    static volatile size_t kept;
+    const size_t taken = 2048 * walk.taken_f + walk.taken_g;
+
+    kept = taken;
+#elif defined MISTAKE_portion_deep
+    dig(KARVOISS_WALK_PORTION_STACK);
+#elif defined MISTAKE_portion_of_one_more
+    events += events > 0 && events < SIZE_MAX;
+#endif
+    walk = __real_karvoiss_walk_portion(ground, length, walk, events);
+#if defined MISTAKE_portion_done_by_flags
+    walk.done = walk.number == 0 && (walk.done || (walk.f == walk.want_f && walk.g == walk.want_g));
+#elif defined MISTAKE_portion_refuses_with_state
+    walk.length = walk.number != 0;
+#elif defined MISTAKE_portion_keeps_state
+    walk.place += kept != taken;
+#endif
+    return walk;
 }

@@ -1,6 +1,6 @@
 /* For libFuzzer: an input is two masks, a room (each 16 bits, low byte first), a pattern with its length, and a scene. The archive must answer what the reference does.
  * The same bytes are asked about as one object and as two summaries, the first of them as long as the room's lowest five bits say; as well-known binary, as an object to be
- * written so, and as a pair to be split.
+ * written so, as a pair to be split, as a scene to be walked over, and as a ground with a state.
  * The scene, the pattern and the list end at pages that may not be touched, so that a byte too far is noticed though the archive has no checks of its own. */
 #define _DEFAULT_SOURCE
 #include "scenes.h"
@@ -110,6 +110,24 @@ static void ask_split_at_fence(const uint8_t *bytes, size_t length, size_t room)
     }
 }
 
+/* A walk over the scene that ends at the fence, in portions, to the vectors of the reference; and the bytes as a ground, with a state whose numbers are the first of them, or the
+ * state of the scene's own walk: an answer, zeros beside a refusal, and no byte that was not lent. */
+static void ask_walk_at_fence(const uint8_t *bytes, size_t length, uint16_t want_f, uint16_t want_g, karvoiss_vectors_t wanted, size_t portion)
+{
+    static uint8_t ground[KARVOISS_WALK_ROOM];
+    karvoiss_walk_t walk = karvoiss_walk_begin(bytes, length, want_f, want_g, ground, sizeof ground), state = walk;
+
+    require(walk.number == wanted.number && walk.place == wanted.place, "the beginning of a walk");
+    while (walk.number == 0 && !walk.done)
+        walk = karvoiss_walk_portion(ground, sizeof ground, walk, 1 + portion % 100);
+    require(walk.f == wanted.f && walk.g == wanted.g, "the vectors at the end of a walk");
+    if (state.number != 0 || length % 2 == 1)
+        memcpy(&state, bytes, length < sizeof state ? length : sizeof state);
+    karvoiss_walk_t found = karvoiss_walk_portion(bytes, length, state, portion);
+    const karvoiss_walk_t refused = {.number = 24, .place = found.place};
+    require(found.number == 0 ? found.done <= 1 : same_walk(&found, state.number != 0 ? &state : &refused), "a portion of any state over any ground");
+}
+
 int LLVMFuzzerTestOneInput(const uint8_t *data, size_t size)
 {
     static uint8_t *scene_end, *pattern_end, *list_end;
@@ -158,6 +176,8 @@ int LLVMFuzzerTestOneInput(const uint8_t *data, size_t size)
     require(memcmp(expected, list - GUARD, GUARD + room) == 0, "the lent buffer, its list or what is around it");
     ask_wkb_at_fence(scene, length, room);
     ask_split_at_fence(scene, length, room);
+    ask_walk_at_fence(scene, length, reference.all.f, reference.all.g, reference.vectors, room);
+    ask_walk_at_fence(scene, length, want_f, want_g, reference.wanted, room);
     require(memcmp(data + HEAD, scene, length) == 0, "the scene was changed");
     return 0;
 }

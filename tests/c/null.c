@@ -1,5 +1,5 @@
 /* Null where the length is 0: for the scene of each call, for the pattern and the list, alone and with it, for either summary, for well-known binary, in and out,
- * and for a pair and what it is split into. */
+ * for a pair and what it is split into, and for a walk's scene and its ground. */
 #include "scenes.h"
 
 static const uint8_t empty_regions[] = {84, 3, 69, 84, 3, 69};
@@ -80,6 +80,32 @@ static void split_of_null(void)
         fail("null", "a buffer was changed");
 }
 
+static void is_walk(const char *name, karvoiss_walk_t answer, uint32_t number)
+{
+    karvoiss_walk_t expected = {.number = number};
+
+    if (!same_walk(&answer, &expected))
+        fail(name, "another answer");
+}
+
+static void walk_of_null(void)
+{
+    static uint8_t ground[KARVOISS_WALK_ROOM];
+    uint8_t buffer[1] = {0xEE};
+    karvoiss_walk_t begin = karvoiss_walk_begin(empty_regions, sizeof empty_regions, 255, 15, ground, sizeof ground);
+
+    is_walk("null walked over", karvoiss_walk_begin(NULL, 0, 0, 0, buffer, 1), 1);
+    is_walk("null walked over in null", karvoiss_walk_begin(NULL, 0, 0, 0, NULL, 0), 1);
+    is_walk("two empty regions walked over in null", karvoiss_walk_begin(empty_regions, sizeof empty_regions, 255, 15, NULL, 0), 21);
+    is_walk("a walk over null", karvoiss_walk_portion(NULL, 0, begin, 1), 24);
+    is_walk("zeros over null", karvoiss_walk_portion(NULL, 0, (karvoiss_walk_t){0}, 1), 24);
+    is_walk("zeros over a ground", karvoiss_walk_portion(ground, sizeof ground, (karvoiss_walk_t){0}, 1), 24);
+    if (begin.number != 0 || begin.done != 1)
+        fail("two empty regions", "are not done at the beginning");
+    if (buffer[0] != 0xEE)
+        fail("null", "a buffer was changed");
+}
+
 static void is_relate(const char *name, karvoiss_relate_t answer, uint32_t number)
 {
     if (answer.number != number || answer.place != 0 || answer.holds)
@@ -123,6 +149,7 @@ int main(int argc, char **argv)
     summaries_of_null(&scene);
     wkb_of_null();
     split_of_null();
+    walk_of_null();
     puts("null: 24 calls");
     return 0;
 }

@@ -24,7 +24,7 @@ struct masks {
 
 /* `nothing` is asked for under two zero masks; `first` and `second` are the summaries of the two objects, and `far` is what they tell; `estimate` is asked for the numbers in the
  * first 24 bytes, `in_window` for the bytes as summaries; `read` for the first object as well-known binary, `written` for the first object, `unread` for the bytes as well-known
- * binary; `split` for the bytes as a pair. */
+ * binary; `split` for the bytes as a pair; `walk` is the end of a walk over the bytes, in portions of seven. */
 struct answers {
     karvoiss_vectors_t vectors;
     karvoiss_vectors_t nothing;
@@ -39,6 +39,7 @@ struct answers {
     karvoiss_read_wkb_t read, unread;
     karvoiss_write_wkb_t written;
     karvoiss_split_t split;
+    karvoiss_walk_t walk;
     uint8_t list[LIST];
 };
 
@@ -245,6 +246,31 @@ static inline void ask_split(const uint8_t *bytes, size_t length, struct answers
     }
 }
 
+static inline bool same_walk(const karvoiss_walk_t *a, const karvoiss_walk_t *b)
+{
+    return a->number == b->number && a->place == b->place && a->f == b->f && a->g == b->g && a->done == b->done && a->type_f == b->type_f && a->type_g == b->type_g
+        && a->want_f == b->want_f && a->want_g == b->want_g && a->length == b->length && a->start_f == b->start_f && a->start_g == b->start_g && a->count_f == b->count_f
+        && a->count_g == b->count_g && a->taken_f == b->taken_f && a->taken_g == b->taken_g && a->degree_f == b->degree_f && a->degree_g == b->degree_g;
+}
+
+/* Walked over to the end: the refusals and the vectors are those of the single call. */
+static inline void ask_walk(const uint8_t *bytes, size_t length, struct masks all, struct answers *answers)
+{
+    uint8_t ground[KARVOISS_WALK_ROOM];
+    karvoiss_walk_t walk = karvoiss_walk_begin(bytes, length, all.f, all.g, memset(ground, 0xEE, sizeof ground), sizeof ground);
+
+    if (walk.number != answers->vectors.number || walk.place != answers->vectors.place)
+        fail("walk", "another refusal than the vectors have");
+    for (size_t i = walk.number == 0 ? length + 2048 : 0; i < sizeof ground; i++)
+        if (ground[i] != 0xEE)
+            fail("walk", "a byte was changed that must not be");
+    while (walk.number == 0 && !walk.done)
+        walk = karvoiss_walk_portion(ground, sizeof ground, walk, 7);
+    if (walk.number != answers->vectors.number || walk.f != answers->vectors.f || walk.g != answers->vectors.g)
+        fail("walk", "other vectors at the end than the single call has");
+    answers->walk = walk;
+}
+
 /* The pattern of what was answered, nine characters: each cell as it is, but for IE, of which it is asked whether it is empty, and EI, which is left open. */
 static inline void own_pattern(const karvoiss_cells_t *cells, uint8_t *pattern)
 {
@@ -297,6 +323,7 @@ static inline void ask(const uint8_t *bytes, size_t length, uint8_t *list, size_
     answers->in_window = karvoiss_in_window((karvoiss_window_t){-1.0F, -1.0F, 1.0F, 1.0F}, bytes, length);
     ask_wkb(bytes, length, answers);
     ask_split(bytes, length, answers);
+    ask_walk(bytes, length, all, answers);
 }
 
 static inline bool same_vectors(const karvoiss_vectors_t *a, const karvoiss_vectors_t *b)
@@ -360,7 +387,8 @@ static inline bool same_answers(const struct answers *a, const struct answers *b
         && same_relate(&a->relate, &b->relate) && same_overlap(&a->overlap, &b->overlap) && same_summary(&a->first, &b->first)
         && same_summary(&a->second, &b->second) && same_far(&a->far, &b->far) && same_estimate(&a->estimate, &b->estimate)
         && same_in_window(&a->in_window, &b->in_window) && same_areas(&a->areas, &b->areas)
-        && same_read(&a->read, &b->read) && same_read(&a->unread, &b->unread) && same_written(&a->written, &b->written) && same_split(&a->split, &b->split);
+        && same_read(&a->read, &b->read) && same_read(&a->unread, &b->unread) && same_written(&a->written, &b->written) && same_split(&a->split, &b->split)
+        && same_walk(&a->walk, &b->walk);
 }
 
 #endif

@@ -12,7 +12,7 @@ static ucontext_t here, there;
 static struct scene scene;
 static struct masks all;
 static size_t second;
-static uint8_t list[LIST], wkb[2][WKB], object[WKB], split[SCENE];
+static uint8_t list[LIST], wkb[2][WKB], object[WKB], split[SCENE], ground[KARVOISS_WALK_ROOM];
 static size_t wkb_length[2];
 static struct answers answers;
 
@@ -81,6 +81,16 @@ static void ask_split_alone(void)
     answers.split = karvoiss_split(scene.bytes, scene.length, split, sizeof split);
 }
 
+static void ask_walk_begin(void)
+{
+    answers.walk = karvoiss_walk_begin(scene.bytes, scene.length, all.f, all.g, ground, sizeof ground);
+}
+
+static void ask_walk_portion(void)
+{
+    answers.walk = karvoiss_walk_portion(ground, sizeof ground, answers.walk, SIZE_MAX);
+}
+
 static void ask_estimate(void)
 {
     answers.estimate = karvoiss_estimate(-273771, -1000000, 905877, 999997, -1000000, 900003);
@@ -138,6 +148,8 @@ int main(int argc, char **argv)
         {"karvoiss_write_wkb, the first object", ask_written, KARVOISS_WRITE_WKB_STACK, 0},
         {"karvoiss_write_wkb, the second object", ask_other_written, KARVOISS_WRITE_WKB_STACK, 0},
         {"karvoiss_split", ask_split_alone, KARVOISS_SPLIT_STACK, 0},
+        {"karvoiss_walk_begin", ask_walk_begin, KARVOISS_WALK_BEGIN_STACK, 0},
+        {"karvoiss_walk_portion", ask_walk_portion, KARVOISS_WALK_PORTION_STACK, 0},
         {"karvoiss_estimate", ask_estimate, KARVOISS_ESTIMATE_STACK, 0},
         {"karvoiss_in_window", ask_window, KARVOISS_IN_WINDOW_STACK, 0},
     };

@@ -11,6 +11,7 @@ use crate::judge::{judge, AreasAnswer, Judgement};
 use crate::library;
 use crate::maker::{full, side_by_side, small, some_pair, with_hub};
 use crate::mistakes::{Rules, RIGHT};
+use crate::notation;
 use crate::pieces::Extent;
 use crate::plane::{turn, Fraction, Segment};
 use crate::random::Random;
@@ -21,6 +22,7 @@ use crate::split_byhand;
 use crate::split_maker;
 use crate::summary::{are_far, far, summary, FarAnswer, Summary};
 use crate::tally::Tally;
+use crate::walk::{Told, Walk};
 use crate::wkb::{Reading, Writing};
 use crate::wkb_byhand::{self, hexadecimal};
 use crate::wkb_maker;
@@ -299,6 +301,86 @@ fn ask_splitting(bytes: &[u8], room: Option<usize>, rules: &Rules, random: &mut 
         }
     }
     Ok(written)
+}
+
+/// The ground of a walk has the scene and a byte for each of 2,048 notes.
+const NOTES: usize = 2048;
+
+/// The greatest portions, and those that every scene made by hand is walked over in.
+const PORTIONS: [usize; 5] = [1, 2, 7, 64, usize::MAX];
+
+/// Walks over a scene in portions of random sizes, under random masks: at every state done and the windows, at the end the vectors of the single call; some states once more from
+/// one before.
+pub fn ask_walk(case: &Case, rules: &Rules, tally: &mut Tally) -> Result<(), String> {
+    let mut random = Random::new(!case.seed);
+    tally.scenes += 1;
+    let judgement = judge(&case.bytes, &RIGHT);
+    let (all_f, all_g) = judgement.all_flags();
+    let mut some = |all: u16| if random.once_in(3) { all & random.next() as u16 } else { all };
+    let want = [some(all_f), some(all_g)];
+    let more = random.below(70);
+    let mut sizes = vec![random.pick(&PORTIONS)];
+    if !random.once_in(4) {
+        sizes.extend((0..4).map(|_| random.pick(&[0, 1, 1, 2, 3, 5, more])));
+    }
+    ask_walking(&case.bytes, &judgement, want, &sizes, rules, tally).map_err(|what| failure(case, &case.bytes, &what))
+}
+
+/// Every scene of the program test_vectors and two of document 02's examples, in portions of every size.
+pub fn ask_walks_by_hand(rules: &Rules, tally: &mut Tally) -> Result<(), String> {
+    for case in notation::cases(include_str!("../../crates/test_vectors/stdin")).map_err(|case| format!("not read: {case}"))? {
+        let judgement = judge(&case.bytes, &RIGHT);
+        for k in PORTIONS {
+            ask_walking(&case.bytes, &judgement, [case.want_f, case.want_g], &[k], rules, tally)
+                .map_err(|what| format!("{}, in portions of {k}: {what}", case.label))?;
+        }
+    }
+    for known in byhand::known() {
+        ask_walking(&known.bytes, &judge(&known.bytes, &RIGHT), all_wanted(&known.bytes), &[1], rules, tally)
+            .map_err(|what| format!("{}: {what}", known.name))?;
+    }
+    Ok(())
+}
+
+fn all_wanted(bytes: &[u8]) -> [u16; 2] {
+    let (f, g) = judge(bytes, &RIGHT).all_flags();
+    [f, g]
+}
+
+/// One walk, in portions of these sizes over and over; with one size it has as many calls as document 02 says.
+fn ask_walking(bytes: &[u8], judgement: &Judgement, want: [u16; 2], sizes: &[usize], rules: &Rules, tally: &mut Tally) -> Result<(), String> {
+    let single = judgement.vectors(want[0], want[1]);
+    let mut ground = vec![0xEE; bytes.len() + NOTES + 3];
+    let mut state = library::walk_begin(bytes, want, &mut ground);
+    if single.number != 0 {
+        tally.walks.refused += 1;
+        let untouched = ground.iter().all(|byte| *byte == 0xEE);
+        agree("the beginning of a walk", &Told { number: single.number, place: single.place, ..Told::default() }, &state.told())?;
+        return if untouched { Ok(()) } else { Err("a refused walk wrote to its ground".to_string()) };
+    }
+    if ground[..bytes.len()] != *bytes || ground[bytes.len() + NOTES..] != [0xEE; 3] {
+        return Err("the ground does not begin with the scene, or a byte behind it was changed".to_string());
+    }
+    let walk = Walk::of(&judgement.f, &judgement.g, rules.walk);
+    (tally.walks.begun, tally.walks.events) = (tally.walks.begun + 1, tally.walks.events + walk.total);
+    tally.walks.descending += judgement.descends() as usize;
+    let (begun, mut taken, mut calls) = (state, 0, 0);
+    walk.check(taken, want, &state.told(), rules.walk)?;
+    while state.told().done == 0 {
+        let k = sizes[calls % sizes.len()];
+        state = library::walk_portion(&ground, &state, k);
+        (taken, calls) = (walk.moved(taken, k, rules.walk), calls + 1);
+        walk.check(taken, want, &state.told(), rules.walk)?;
+        agree("as many events at once", &state, &library::walk_portion(&ground, &begun, taken))?;
+        agree("a portion of zero", &state, &library::walk_portion(&ground, &state, 0))?;
+        tally.walks.states += 1;
+    }
+    agree("a portion after the end", &state, &library::walk_portion(&ground, &state, usize::MAX))?;
+    if let [k] = sizes {
+        agree(&format!("calls of {k} events"), &walk.calls(*k, rules.walk), &calls)?;
+    }
+    let end = state.told();
+    agree("the vectors at the end", &[single.f, single.g], &[end.f, end.g])
 }
 
 /// Whether a scene is another one split, by the words of the paper: it is taken, split once more it stays as it is, and each object is the source's in pieces, as many more as were

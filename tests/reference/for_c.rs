@@ -15,6 +15,7 @@ mod plane;
 mod scene;
 mod split;
 mod summary;
+mod walk;
 mod wkb;
 
 use judge::{judge, VectorsAnswer};

@@ -12,6 +12,7 @@ mod linked {
     use crate::judge::{AreasAnswer, CellsAnswer, OverlapAnswer, RelateAnswer, VectorsAnswer};
     use crate::split::SplitAnswer;
     use crate::summary::{FarAnswer, SummaryAnswer, LENGTH};
+    use crate::walk::Told;
     use crate::wkb::{ReadAnswer, Value, WriteAnswer};
 
     pub const NAME: &str = "the linked archive";
@@ -96,6 +97,27 @@ mod linked {
         length: usize,
     }
 
+    /// A walk's state: what is told, and the rest for the next portion.
+    #[repr(C)]
+    #[derive(Clone, Copy, PartialEq, Eq, Debug)]
+    pub struct State {
+        number: u32,
+        place: usize,
+        f: u16,
+        g: u16,
+        done: u8,
+        types: [u8; 2],
+        want: [u16; 2],
+        rest: [usize; 9],
+    }
+
+    impl State {
+        pub fn told(&self) -> Told {
+            let State { number, place, f, g, done, .. } = *self;
+            Told { number, place, f, g, done }
+        }
+    }
+
     extern "C" {
         fn karvoiss_vectors(scene: *const u8, length: usize, want_f: u16, want_g: u16) -> Vectors;
         fn karvoiss_cells(scene: *const u8, length: usize) -> Cells;
@@ -107,6 +129,8 @@ mod linked {
         fn karvoiss_read_wkb(wkb: *const u8, length: usize, object: *mut u8, room: usize) -> ReadWkb;
         fn karvoiss_write_wkb(object: *const u8, length: usize, wkb: *mut u8, room: usize) -> WriteWkb;
         fn karvoiss_split(scene: *const u8, length: usize, split: *mut u8, room: usize) -> Split;
+        fn karvoiss_walk_begin(scene: *const u8, length: usize, want_f: u16, want_g: u16, ground: *mut u8, room: usize) -> State;
+        fn karvoiss_walk_portion(ground: *const u8, length: usize, walk: State, events: usize) -> State;
     }
 
     /// Null where the length is 0, which the header allows.
@@ -178,14 +202,24 @@ mod linked {
         let Split { number, place, added_f, added_g, length } = unsafe { karvoiss_split(start(scene), scene.len(), split.as_mut_ptr(), split.len()) };
         SplitAnswer { number, place, added_f, added_g, length }
     }
+
+    pub fn walk_begin(scene: &[u8], want: [u16; 2], ground: &mut [u8]) -> State {
+        unsafe { karvoiss_walk_begin(start(scene), scene.len(), want[0], want[1], ground.as_mut_ptr(), ground.len()) }
+    }
+
+    pub fn walk_portion(ground: &[u8], walk: &State, events: usize) -> State {
+        unsafe { karvoiss_walk_portion(start(ground), ground.len(), *walk, events) }
+    }
 }
 
 #[cfg(not(library))]
 mod stand_in {
     use crate::judge::{judge, AreasAnswer, CellsAnswer, OverlapAnswer, RelateAnswer, VectorsAnswer};
     use crate::mistakes::RIGHT;
+    use crate::scene::read_scene;
     use crate::split::{SplitAnswer, Splitting};
     use crate::summary::{self, FarAnswer, SummaryAnswer};
+    use crate::walk::{Slip, Told, Walk};
     use crate::wkb::{ReadAnswer, Reading, WriteAnswer, Writing};
 
     pub const NAME: &str = "no archive: the reference against itself";
@@ -228,5 +262,51 @@ mod stand_in {
 
     pub fn split(scene: &[u8], split: &mut [u8]) -> SplitAnswer {
         Splitting::of(scene, &RIGHT).answer(split)
+    }
+
+    /// How many bytes of the ground are the scene's, what is wanted, how many events are taken, and what is told of that.
+    #[derive(Clone, Copy, PartialEq, Eq, Debug)]
+    pub struct State {
+        length: usize,
+        want: [u16; 2],
+        taken: usize,
+        told: Told,
+    }
+
+    impl State {
+        pub fn told(&self) -> Told {
+            self.told
+        }
+    }
+
+    /// Each flag is set as late as it may be.
+    fn state(scene: &[u8], want: [u16; 2], taken: usize) -> State {
+        let (f, g) = read_scene(scene).expect("a scene that was taken is read");
+        let walk = Walk::of(&f, &g, Slip::None);
+        let taken = taken.min(walk.total);
+        let [(_, of_f), (_, of_g)] = walk.after(taken);
+        let told = Told { f: of_f & want[0], g: of_g & want[1], done: (taken == walk.total) as u8, ..Told::default() };
+        State { length: scene.len(), want, taken, told }
+    }
+
+    pub fn walk_begin(scene: &[u8], want: [u16; 2], ground: &mut [u8]) -> State {
+        let VectorsAnswer { number, place, .. } = judge(scene, &RIGHT).vectors(want[0], want[1]);
+        let refused = |number, place| State { length: 0, want: [0, 0], taken: 0, told: Told { number, place, ..Told::default() } };
+        if number != 0 {
+            return refused(number, place);
+        }
+        if ground.len() < scene.len() + 2048 {
+            return refused(21, 0);
+        }
+        ground[..scene.len()].copy_from_slice(scene);
+        ground[scene.len()..scene.len() + 2048].fill(0);
+        state(scene, want, 0)
+    }
+
+    pub fn walk_portion(ground: &[u8], walk: &State, events: usize) -> State {
+        if walk.told.number != 0 {
+            return *walk;
+        }
+        state(&ground[..walk.length], walk.want, walk.taken.saturating_add(events))
     }
 }

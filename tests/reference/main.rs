@@ -31,11 +31,12 @@ mod split_byhand;
 mod split_maker;
 mod summary;
 mod tally;
+mod walk;
 mod wkb;
 mod wkb_byhand;
 mod wkb_maker;
 
-use compare::{ask, ask_areas, ask_by_hand, ask_split, ask_split_by_hand, ask_wkb, ask_wkb_by_hand, Case};
+use compare::{ask, ask_areas, ask_by_hand, ask_split, ask_split_by_hand, ask_walk, ask_walks_by_hand, ask_wkb, ask_wkb_by_hand, Case};
 use judge::{judge, VectorsAnswer};
 use mistakes::{Rules, MISTAKES, RIGHT};
 use plane::Point;
@@ -71,6 +72,7 @@ const USAGE: &str = "usage: reference answer < scene    the line that explore wr
            --beside                  objects side by side alone, for what their summaries tell
            --wkb                     well-known binary alone, read, written and read back
            --split                   raw pairs alone, and what they are split into
+           --walk                    scenes alone, walked over in portions
            --seconds N               fresh seeds for so long instead
            --mistake NAME            with a mistake in the reference: must disagree
            --trace                   names each scene before it is asked about
@@ -341,9 +343,10 @@ enum Of {
     Scenes,
     Wkb,
     RawPairs,
+    Walks,
 }
 
-/// A comparison: what was made by hand, well-known binary or raw pairs alone or with scenes all of it, then those of a seed, a number of them or as many as there is time for.
+/// A comparison: what was made by hand, well-known binary, raw pairs or walks alone or with scenes all of it, then those of a seed, a number of them or as many as there is time for.
 struct Run {
     rules: Rules,
     by_hand: bool,
@@ -361,10 +364,13 @@ impl Run {
         let by_hand = if self.by_hand && self.of == Of::Scenes { Case::all_by_hand() } else { Vec::new() };
         let mut seeds = Random::new(self.seed);
         let of_seed = (0..self.scenes).map(|_| (self.made)(seeds.next()));
-        if self.by_hand && self.of != Of::RawPairs {
+        if self.by_hand && matches!(self.of, Of::Scenes | Of::Walks) {
+            ask_walks_by_hand(&self.rules, tally)?;
+        }
+        if self.by_hand && matches!(self.of, Of::Scenes | Of::Wkb) {
             ask_wkb_by_hand(&self.rules, tally)?;
         }
-        if self.by_hand && self.of != Of::Wkb {
+        if self.by_hand && matches!(self.of, Of::Scenes | Of::RawPairs) {
             ask_split_by_hand(&self.rules, tally)?;
         }
         if self.by_hand && self.of == Of::Scenes {
@@ -410,6 +416,9 @@ fn compare(arguments: &[&str]) -> bool {
             "--split" => {
                 (run.of, run.made, run.asks) = (Of::RawPairs, Case::raw_of_seed, ask_split);
             }
+            "--walk" => {
+                (run.of, run.made, run.asks) = (Of::Walks, Case::of_seed, ask_walk);
+            }
             "--seconds" => {
                 run.until = Some(start + Duration::from_secs(number(value())));
                 run.scenes = u64::MAX;
@@ -435,6 +444,7 @@ fn compare(arguments: &[&str]) -> bool {
         Of::Scenes => tally.report(if complete { reach } else { Reach::Nothing }),
         Of::Wkb => tally.report_wkb(complete),
         Of::RawPairs => tally.report_split(complete),
+        Of::Walks => tally.report_walks(complete),
     };
     wrong.iter().for_each(|what| println!("WRONG: {what}"));
     if let Err(what) = &outcome {
@@ -453,6 +463,7 @@ fn all_mistakes() -> bool {
         let (of, made, asks): (Of, fn(u64) -> Case, fn(&Case, &Rules, &mut Tally) -> Result<(), String>) = match mistake.rules {
             Rules { wkb, .. } if wkb != Slip::None => (Of::Wkb, Case::wkb_of_seed, ask_wkb),
             Rules { split, .. } if split != split::Slip::None => (Of::RawPairs, Case::raw_of_seed, ask_split),
+            Rules { walk, .. } if walk != walk::Slip::None => (Of::Walks, Case::of_seed, ask_walk),
             _ => (Of::Scenes, Case::of_seed, ask),
         };
         let run = Run { rules: mistake.rules, by_hand: false, of, made, asks, seed: SEED, scenes: SCENES_PER_MISTAKE, until: None, trace: false };

@@ -9,6 +9,7 @@ use crate::plane::{inside, interior_above, Point, Segment};
 use crate::scene::{Half, Object, Refusal, LINE, POINTS, REGION};
 use crate::split;
 use crate::summary::{are_far, corners, has_boundary, FarAnswer, Summary};
+use crate::walk;
 use crate::wkb::Slip;
 
 /// The order in which the two objects of a scene are taken up: the one given first, or the one of the lower type.
@@ -30,7 +31,8 @@ impl Order {
 }
 
 /// What a mistake may exchange. `faults`: whose fault goes first where a number is found in both; `crossings`: whose record 15 names first; from `corners` on, what
-/// summaries are made of and tell; `wkb` and `split`: the way in which well-known binary and splitting are got wrong.
+/// summaries are made of and tell; `wkb`, `split` and `walk`: the way in which well-known binary, splitting and walks
+/// are got wrong.
 #[derive(Clone, Copy)]
 pub struct Rules {
     pub line_boundary: fn(&Object) -> Vec<Point>,
@@ -47,6 +49,7 @@ pub struct Rules {
     pub spoil_far: fn(&mut FarAnswer, &Summary, &Summary),
     pub wkb: Slip,
     pub split: split::Slip,
+    pub walk: walk::Slip,
 }
 
 impl Rules {
@@ -76,6 +79,7 @@ pub const RIGHT: Rules = Rules {
     spoil_far: |_, _, _| (),
     wkb: Slip::None,
     split: split::Slip::None,
+    walk: walk::Slip::None,
 };
 
 pub struct Mistake {
@@ -92,10 +96,14 @@ const fn split_mistake(name: &'static str, says: &'static str, split: split::Sli
     Mistake { name, says, rules: Rules { split, ..RIGHT } }
 }
 
+const fn walk_mistake(name: &'static str, says: &'static str, walk: walk::Slip) -> Mistake {
+    Mistake { name, says, rules: Rules { walk, ..RIGHT } }
+}
+
 /// Every mistake, by the name that `--mistake` takes: the four, from "refuse-all" on the imitations, then those about two zero masks, those about scenes whose
 /// first type is above the second, those about hubs, those about what a cell extends to, those about patterns, those about summaries, those about areas, one about the range, those about well-known
-/// binary, and those about splitting.
-pub const MISTAKES: [Mistake; 104] = [
+/// binary, those about splitting, and those about walks.
+pub const MISTAKES: [Mistake; 112] = [
     Mistake {
         name: "next-halfsegment",
         says: "a line's end is a boundary point if the next halfsegment starts elsewhere",
@@ -357,6 +365,14 @@ pub const MISTAKES: [Mistake; 104] = [
     split_mistake("rest-cleared", "later bytes of the buffer are cleared", split::Slip::RestCleared),
     split_mistake("still-15", "a raw pair is refused with 15", split::Slip::Fifteen),
     split_mistake("copied-unchecked", "a scene with points is copied before the checks", split::Slip::CopiedUnchecked),
+    walk_mistake("point-first", "a point comes before the halfsegments at it", walk::Slip::PointFirst),
+    walk_mistake("equal-twice", "equal elements of both objects are two events", walk::Slip::EqualTwice),
+    walk_mistake("done-by-flags", "a walk is done when all wanted flags are set", walk::Slip::DoneByFlags),
+    walk_mistake("ends-at-left", "the flags of both ends come with the left halfsegment", walk::Slip::EndsAtLeft),
+    walk_mistake("only-when-all", "a flag is set only when all events of a witness are taken", walk::Slip::OnlyWhenAll),
+    walk_mistake("rounded-down", "the number of calls is rounded down", walk::Slip::RoundedDown),
+    walk_mistake("walk-by-type", "the flags of a walk stand in the order of types", walk::Slip::ByType),
+    walk_mistake("none-is-one", "a portion of zero takes an event", walk::Slip::NoneIsOne),
 ];
 
 /// A segment of two regions, with its terms in the three shoelace sums.

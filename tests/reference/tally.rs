@@ -71,6 +71,7 @@ pub struct Tally {
     bad_summaries: [usize; 2],
     pub wkb: Wkb,
     pub split: Split,
+    pub walks: Walks,
 }
 
 /// Well-known binary: how often reading and writing had each number, and what was written and read as the same object again.
@@ -104,6 +105,16 @@ impl Wkb {
         println!("well-known binary written and read back: {}", self.back);
         wrong
     }
+}
+
+/// Walks: how many were begun and refused, how many events the begun ones have, how many states were looked at, and how many have the first type above the second.
+#[derive(Default)]
+pub struct Walks {
+    pub begun: usize,
+    pub refused: usize,
+    pub events: usize,
+    pub states: usize,
+    pub descending: usize,
 }
 
 /// Raw pairs: how often splitting had each number, and of those taken how often something was added to neither object, to F, to G and to both, how many hold points, and how
@@ -223,6 +234,14 @@ impl Tally {
     pub fn report_wkb(&self, complete: bool) -> Vec<String> {
         println!("{} strings of well-known binary, {} questions", self.scenes, self.questions);
         self.wkb.report(complete)
+    }
+
+    /// Prints the counts of walks alone; gives what is wrong with them.
+    pub fn report_walks(&self, complete: bool) -> Vec<String> {
+        let Walks { begun, refused, events, states, descending } = self.walks;
+        println!("{} scenes, {begun} walks begun and {refused} refused, {events} events, {states} states, {descending} walks with the first type above the second", self.scenes);
+        let few = complete && begun.min(refused).min(descending) < LEAST;
+        few.then(|| "walks: too few of a kind".to_string()).into_iter().collect()
     }
 
     /// Prints the counts of raw pairs alone; gives what is wrong with them.

@@ -23,18 +23,24 @@ ghost use Rattle.wkb_round_trip.specs.RoundTrip.{RoundTrip};
 ghost use Rattle.split.specs.Split.{split_answer, split_buffer};
 ghost use Rattle.split.specs.Promised.{Promised};
 ghost use Rattle.split.specs.OffGrid.{OffGridMeans};
+ghost use Rattle.walk.specs.Walked.{begin_of, GroundAfter};
+ghost use Rattle.walk.specs.Theorems.{WalkPromised};
+ghost use Rattle.karvoiss.specs.Walks.{state_for_c, walk_for_c, type_test, state_of, portion_for_c, ComesBack};
 
 use areas::sums::Sums;
 use cells::Explored;
 use estimate::Estimated;
+use flags_masks::FlagMasks;
 use flags_vectors::{Vectors, question};
 use plane::Point;
 use plane_dimensions::Dimension;
-use scene::Refusal;
+use scene::{Layout, Reason, Refusal, Scene, records};
 use split::Splitted;
 use summary::Summary;
 use summary_record::writing;
 use summary_window::{InWindow, Window};
+use walk::{Spot, Walk};
+use walk_flags::Degrees;
 use wkb_grammar::Fault;
 use wkb_reading::ReadFault;
 
@@ -491,4 +497,187 @@ pub extern "C" fn karvoiss_split(scene: &[u8], split: &mut [u8]) -> KarvoissSpli
         × OffGridMeans scene.now (length split.old) }
 {
     split::split(scene, split).into()
+}
+
+// The state of a walk, all in numbers: what a caller reads comes first, the rest is for the next portion. `done` is 0 or 1, and no bool: what comes back may be any byte.
+#[repr(C)]
+#[derive(Clone, Copy)]
+pub struct KarvoissWalk {
+    pub number: u32,
+    pub place: usize,
+    pub f: u16,
+    pub g: u16,
+    pub done: u8,
+    pub type_f: u8,
+    pub type_g: u8,
+    pub want_f: u16,
+    pub want_g: u16,
+    pub length: usize,
+    pub start_f: usize,
+    pub start_g: usize,
+    pub count_f: usize,
+    pub count_g: usize,
+    pub taken_f: usize,
+    pub taken_g: usize,
+    pub degree_f: usize,
+    pub degree_g: usize,
+}
+
+// Beside a refusal.
+const NO_WALK: KarvoissWalk = KarvoissWalk {
+    number: 0,
+    place: 0,
+    f: 0,
+    g: 0,
+    done: 0,
+    type_f: 0,
+    type_g: 0,
+    want_f: 0,
+    want_g: 0,
+    length: 0,
+    start_f: 0,
+    start_g: 0,
+    count_f: 0,
+    count_g: 0,
+    taken_f: 0,
+    taken_g: 0,
+    degree_f: 0,
+    degree_g: 0,
+};
+
+impl From<Walk> for KarvoissWalk {
+    ghost from_gives = { λ walk c. c ≡ state_for_c walk };
+
+    fn from(walk: Walk) -> KarvoissWalk {
+        let shown = walk.vectors();
+        let Walk {
+            length,
+            scene,
+            want,
+            at,
+        } = walk;
+        KarvoissWalk {
+            number: 0,
+            place: 0,
+            f: shown.f,
+            g: shown.g,
+            done: if walk.is_done() { 1 } else { 0 },
+            type_f: scene.f.shape.into(),
+            type_g: scene.g.shape.into(),
+            want_f: want.f,
+            want_g: want.g,
+            length,
+            start_f: scene.f.start,
+            start_g: scene.g.start,
+            count_f: scene.f.count,
+            count_g: scene.g.count,
+            taken_f: at.i,
+            taken_g: at.j,
+            degree_f: at.degrees.f,
+            degree_g: at.degrees.g,
+        }
+    }
+}
+
+impl From<Result<Walk, Refusal>> for KarvoissWalk {
+    ghost from_gives = { λ answer c. c ≡ walk_for_c answer };
+
+    fn from(answer: Result<Walk, Refusal>) -> KarvoissWalk {
+        match answer {
+            Ok(walk) => walk.into(),
+            Err(r) => KarvoissWalk {
+                number: u8::from(r.reason) as u32,
+                place: r.place,
+                ..NO_WALK
+            },
+        }
+    }
+}
+
+// Is it the number of a type?
+fn is_type(n: u8) -> bool
+    ensures { result ≡ type_test n }
+{
+    1 <= n && n <= 3
+}
+
+impl KarvoissWalk {
+    // The state that these numbers stand for; none where a type is none.
+    fn state(self) -> Option<Walk>
+        ensures { result ≡ state_of self }
+    {
+        if !is_type(self.type_f) || !is_type(self.type_g) {
+            return None;
+        }
+        let scene = Scene {
+            f: Layout {
+                shape: records::shape(self.type_f),
+                start: self.start_f,
+                count: self.count_f,
+            },
+            g: Layout {
+                shape: records::shape(self.type_g),
+                start: self.start_g,
+                count: self.count_g,
+            },
+        };
+        Some(Walk {
+            length: self.length,
+            scene,
+            want: FlagMasks {
+                f: self.want_f,
+                g: self.want_g,
+            },
+            at: Spot {
+                i: self.taken_f,
+                j: self.taken_g,
+                degrees: Degrees {
+                    f: self.degree_f,
+                    g: self.degree_g,
+                },
+                found: question::as_given(
+                    scene,
+                    Vectors {
+                        f: self.f,
+                        g: self.g,
+                    },
+                ),
+            },
+        })
+    }
+}
+
+// A walk that may be put down, its beginning, with the ground in a lent buffer: for every byte string, every two masks and every buffer the whole answer and the buffer after it; what is
+// promised of all portions over that ground; and what the verdict says in points.
+#[unsafe(no_mangle)]
+pub extern "C" fn karvoiss_walk_begin(
+    scene: &[u8],
+    want_f: u16,
+    want_g: u16,
+    ground: &mut [u8],
+) -> KarvoissWalk
+    ensures { (result ≡ walk_for_c (begin_of scene.now (these want_f want_g) (length ground.old)))
+        × GroundAfter scene.now ground.old ground.new (begin_of scene.now (these want_f want_g) (length ground.old))
+        × WalkPromised scene.now want_f want_g ground.new (begin_of scene.now (these want_f want_g) (length ground.old))
+        × CheckedMeans scene.now (check_vectors scene.now (these want_f want_g)) }
+{
+    walk::begin::begin(scene, want_f, want_g, ground).into()
+}
+
+// A portion of it: for every ground, every state and every number of events the whole answer; and a state that comes back as it was given away is the same again.
+#[unsafe(no_mangle)]
+pub extern "C" fn karvoiss_walk_portion(
+    ground: &[u8],
+    walk: KarvoissWalk,
+    events: usize,
+) -> KarvoissWalk
+    ensures { (result ≡ portion_for_c ground.now walk events) × ComesBack ground.now walk events result }
+{
+    if walk.number != 0 {
+        return walk;
+    }
+    match walk.state() {
+        Some(state) => state.portion(ground, events).into(),
+        None => Reason::Malformed.at::<Walk>(0).into(),
+    }
 }

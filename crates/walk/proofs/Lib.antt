@@ -4,7 +4,10 @@ pub mod Levels
 pub mod Taken
 pub mod Turning
 pub mod Moving
-pub mod Portioning
+pub mod Placed
+pub mod Running
+pub mod Going
+pub mod Made
 pub mod Beginning
+pub mod Portioning
 pub mod Theorems
-pub mod Resuming

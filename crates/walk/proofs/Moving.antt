@@ -20,7 +20,6 @@ use Rattle.walk_events.specs.Events.{Taken, events}
 use Rattle.walk_events.specs.Portions.{total, is_done, portion}
 use Rattle.walk_events.specs.Stepping.{remaining, Stepped}
 use Rattle.walk_events.proofs.Standing.{ends}
-use Rattle.walk_events.proofs.Portioned.{portions_add, portion_few}
 use Rattle.walk_flags.specs.OneTaken.{alone_of_f, alone_of_g, both_of_f, both_of_g}
 use Rattle.walk.specs.declared.Spot.{Spot}
 use Rattle.walk_flags.specs.declared.Degrees.{Degrees}
@@ -61,21 +60,6 @@ module _ (s : List ℕ) (sc : Scene) (notes : List ℕ) (want : FlagMasks) where
         let o = accepted s sc chk in
         let w = stands_of s sc want o h is in
         one_more n (took_both o noted want w p e f (turned at t o key (past_both o at.i at.j w.level p) w.degrees))
-
-  -- ---- several
-
-  pub goes_on : (k m : ℕ) {at by to : Spot} → Goes s sc notes want k at by → Goes s sc notes want m by to → Goes s sc notes want (k + m) at to
-  goes_on k m {to = to} g f chk noted n h is =
-      subst (λ (x : ℕ). to ≡ spot_at s sc want x) (portions_add s sc k m n) (f chk noted (portion s sc k n) (portion_few s sc k n) (g chk noted n h is))
-
-  -- where nothing is left of either object, more events are none
-  pub goes_all : (k m : ℕ) {at to : Spot} → Goes s sc notes want k at to → to.i ≡ sc.f.count → to.j ≡ sc.g.count → k ≤ m → Goes s sc notes want m at to
-  goes_all k m {to = to} g a b l chk noted n h is =
-      let e = g chk noted n h is in
-      let w = stands_of s sc want (accepted s sc chk) (portion_few s sc k n) e in
-      let q = ends s sc w.stands a b in
-      let r : portion s sc k n ≡ portion s sc m n = omega (arith, q) in
-      subst (λ (x : ℕ). to ≡ spot_at s sc want x) r e
 
 -- ---- the end
 

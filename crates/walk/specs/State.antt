@@ -73,11 +73,6 @@ pub record RunFrom (s : List ℕ) (l : Layout) (i k r : ℕ) : Type 0 where
   pub few : i + r ≤ l.count
   pub passed : Passed l.count (keys s l) k i (i + r)
 
--- within the elements of both objects
-pub record Within (sc : Scene) (at : Spot) : Type 0 where
-  pub few_f : at.i ≤ sc.f.count
-  pub few_g : at.j ≤ sc.g.count
-
 -- nothing is left of either object
 abbrev pub at_end : Scene → Spot → Bool
 at_end sc at = eqb at.i sc.f.count && eqb at.j sc.g.count

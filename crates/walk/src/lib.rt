@@ -1,24 +1,20 @@
-// A walk over the events of a scene that may be put down: its state by value, with its own copy of the scene.
+// A walk over the events of a scene that may be put down: a copy of the scene and of the sweep's notes in a lent buffer, the ground, which portions only read,
+// and a small state by value. What comes back as either may be anything: each record is tested where it is taken, and is walked over as a scene's or refused.
 #![tactic(auto)]
 
-ghost use Rattle.std.specs.Prelude.{◌≡◌, ◌≤◌};
-ghost use Rattle.scene.specs.Read.{IsScene};
-
-use arrayvec::ArrayVec;
 use flags_masks::FlagMasks;
 use flags_vectors::Vectors;
 use scene::Scene;
-use sweep_notes::Notes;
 use walk_flags::Degrees;
 
 mod advance;
 pub mod begin;
-mod degrees;
-mod portion;
-pub mod resume;
+mod ground;
+pub mod portion;
+mod records;
 
-// The bytes of the longest scene: two regions of 1,024 halfsegments.
-pub const ROOM: usize = 38_918;
+// How many bytes the notes take.
+const NOTES: usize = 2_048;
 
 // Where a walk stands: how many elements of F and of G are taken, how many of either have the point of the next event, and the wanted flags that are set.
 #[derive(Clone, Copy)]
@@ -29,15 +25,11 @@ pub struct Spot {
     pub found: Vectors,
 }
 
-/// The state of a walk: its copy of the scene's bytes, what the sweep noted of each element, the wanted flags of F and of G, and where it stands.
-#[derive(Drop)]
+/// The state of a walk: how many bytes of its ground are the scene's, where these have the two objects, the wanted flags of F and of G, and where it stands.
+#[derive(Clone, Copy)]
 pub struct Walk {
-    pub bytes: ArrayVec<u8, ROOM>,
+    pub length: usize,
     pub scene: Scene,
-    pub notes: Notes,
     pub want: FlagMasks,
     pub at: Spot,
-    pub ghost read: { IsScene bytes.items scene },
-    pub ghost within_f: { at.i ≤ scene.f.count },
-    pub ghost within_g: { at.j ≤ scene.g.count },
 }

@@ -3,14 +3,30 @@ use Rattle.std.specs.Prelude.{Some, None}
 use Prim.Native.Nat.{ℕ, ◌+◌, ◌<◌, ◌≤◌}
 use native.Mathlib.Omega.{arith}
 use mathlib.Core.Path.{◌≡◌, sym, ap, ap₂, ◌∙◌}
-use mathlib.Core.Bool.{Bool, true, false, cond}
+use mathlib.Core.Bool.{Bool, true, false, cond, ◌&&◌}
 use mathlib.Core.List.{List, ◌∷◌}
+use lib.Dec.{T, leb}
+use Rattle.whole.proofs.Logic.{and_left, and_right}
+use Rattle.plane.specs.Plane.{segment_in_range, ordered}
+use Rattle.scene.specs.declared.Shape.{Shape}
+use Rattle.scene.specs.declared.Shape.TheVariants.{Points, Line, Region}
 use Rattle.scene.specs.declared.Scene.{Scene}
+use Rattle.scene.specs.Read.{byte, segment_at}
+use Rattle.scene_reading.specs.Faultless.{are_fields_good}
 use Rattle.scene_segments.proofs.Walk.{between, between_next, between_none}
 use Rattle.walk_events.specs.declared.Event.{Event}
 use Rattle.walk_events.specs.declared.Step.TheVariants.{OfF, OfG, OfBoth}
 use Rattle.walk_events.specs.Events.{Taken, f_alone, g_alone, of_both, event_of, same_event, event_before, merge, same, earlier}
-use Rattle.walk_events.specs.Stepping.{step_of, remaining, Stepped}
+use Rattle.walk_events.specs.Stepping.{Fair, event_in, step_of, remaining, Stepped}
+
+fair_side : (s : List ℕ) (at : ℕ) (fields : Bool) → T (fields && (segment_in_range (segment_at s at) && ordered (segment_at s at))) → T (segment_in_range (segment_at s at))
+fair_side s at fields t = and_left (segment_in_range (segment_at s at)) (ordered (segment_at s at)) (and_right fields (segment_in_range (segment_at s at) && ordered (segment_at s at)) t)
+
+-- an element without fault is a fair event
+pub good_is_fair : (s : List ℕ) (k : Shape) (at : ℕ) → T (are_fields_good s k at) → Fair (event_in s k at)
+good_is_fair s Points at t = tt
+good_is_fair s Line at t = fair_side s at (leb (byte s (at + 17)) 1) t
+good_is_fair s Region at t = fair_side s at (leb (byte s (at + 17)) 1 && leb (byte s (at + 18)) 1) t
 
 abbrev merged : List ℕ → Scene → List ℕ → List ℕ → List Taken
 merged s sc = merge (same s sc) (earlier s sc)

@@ -1,8 +1,12 @@
 -- What the step of the walk promises: which of F and of G has the next event, from an element of each on.
 use Rattle.std.specs.Prelude.{Option, Some, None, ℕ, ◌+◌, ◌-◌, ◌<◌, ◌≤◌, ◌≡◌, true, false, cond, List, [], ◌∷◌, T, drop}
 use Rattle.plane.specs.Plane.{segment_in_range}
+use Rattle.scene.specs.declared.Shape.{Shape}
+use Rattle.scene.specs.declared.Shape.TheVariants.{Points, Line, Region}
 use Rattle.scene.specs.declared.Scene.{Scene}
+use Rattle.scene.specs.Read.{point_at, halfsegment_at}
 use Rattle.scene.specs.Conditions.{indices}
+use Rattle.scene_reading.specs.Faultless.{are_fields_good}
 use Rattle.walk_events.specs.declared.Event.{Event}
 use Rattle.walk_events.specs.declared.Event.TheVariants.{At, Side}
 use Rattle.walk_events.specs.declared.Step.{Step}
@@ -15,8 +19,28 @@ abbrev pub Fair : Event → Type 0
 Fair (At p) = Unit {0}
 Fair (Side h) = T (segment_in_range h.segment)
 
+abbrev pub FairIfAny : Option Event → Type 0
+FairIfAny (Some e) = Fair e
+FairIfAny None = Unit {0}
+
+-- the element whose record stands at an offset; none where its fields are at fault
+abbrev pub event_in : List ℕ → Shape → ℕ → Event
+event_in s Points at = At (point_at s at)
+event_in s Line at = Side (halfsegment_at s at)
+event_in s Region at = Side (halfsegment_at s at)
+
+abbrev pub event_read : List ℕ → Shape → ℕ → Option Event
+event_read s k at = cond (are_fields_good s k at) (Some (event_in s k at)) None
+
 abbrev pub step_of : Event → Event → Step
 step_of a b = cond (same_event a b) OfBoth (cond (event_before a b) OfF OfG)
+
+-- of the first that are left of F and of G
+abbrev pub next_of : Option Event → Option Event → Option Step
+next_of (Some a) (Some b) = Some (step_of a b)
+next_of (Some a) None = Some OfF
+next_of None (Some b) = Some OfG
+next_of None None = None
 
 module _ (s : List ℕ) (sc : Scene) where
   -- the events that remain where i elements of F and j of G are taken

@@ -1,12 +1,14 @@
 // The events of a scene: the elements of its two objects in the merged order, equal ones of both being one. Which comes next, from an element of each on.
 #![tactic(auto)]
 
-ghost use Rattle.std.specs.Prelude.{◌≡◌, ◌<◌, ◌≤◌};
-ghost use Rattle.walk_events.specs.Events.{event_of, same_event, event_before};
-ghost use Rattle.walk_events.specs.Stepping.{Fair, step_of, Stepped};
+ghost use Rattle.std.specs.Prelude.{◌≡◌, ◌+◌, ◌≤◌, length};
+ghost use Rattle.scene.specs.Read.{size};
+ghost use Rattle.walk_events.specs.Events.{same_event, event_before};
+ghost use Rattle.walk_events.specs.Stepping.{Fair, FairIfAny, event_read, step_of, next_of};
 
 use plane::{Halfsegment, Point};
-use scene_segments::{Object, ReadScene};
+use scene::{Shape, bytes};
+use scene_reading::faultless;
 
 // An element, as the order sees it: without its object and its ia.
 #[derive(Clone, Copy)]
@@ -24,16 +26,21 @@ pub enum Step {
 }
 
 impl Event {
-    // The element i of an object.
-    pub fn of(o: Object<'_>, i: usize) -> Event
-        requires { i < o.layout.count }
-        ensures { (result ≡ event_of o.entry.bytes.now o.entry.layout i) × Fair result }
+    // That of the element whose record stands at an offset; none where its fields are at fault.
+    #[tactic(auto, using(crate::proofs::Stepped::good_is_fair))]
+    pub fn read(s: &[u8], k: Shape, at: usize) -> Option<Event>
+        requires { at + size k ≤ length s.now }
+        ensures is { result ≡ event_read s.now k at }
+        ensures fair { FairIfAny result }
     {
-        if o.has_segments() {
-            Event::Side(o.half(i))
-        } else {
-            Event::At(o.point(i))
+        if !faultless::are_fields_good(s, k, at) {
+            return None;
         }
+        Some(if k.has_segments() {
+            Event::Side(bytes::halfsegment(s, at))
+        } else {
+            Event::At(bytes::point(s, at))
+        })
     }
 
     // Halfsegments by ends and d alone; a point is never equal to a halfsegment.
@@ -77,17 +84,15 @@ fn first(a: Event, b: Event) -> Step
     }
 }
 
-// From the element i of F and the element j of G on; none where nothing is left of either.
-pub fn next(read: ReadScene<'_>, i: usize, j: usize) -> Option<Step>
-    requires { (i ≤ read.scene.f.count) × (j ≤ read.scene.g.count) }
-    ensures { Stepped read.entry.bytes.now read.entry.scene i j result }
+// Of the first that are left of F and of G; none where nothing is left of either.
+pub fn next(a: Option<Event>, b: Option<Event>) -> Option<Step>
+    requires { FairIfAny a × FairIfAny b }
+    ensures { result ≡ next_of a b }
 {
-    let f = read.object(true);
-    let g = read.object(false);
-    match (i < f.layout.count, j < g.layout.count) {
-        (true, true) => Some(first(Event::of(f, i), Event::of(g, j))),
-        (true, false) => Some(Step::OfF),
-        (false, true) => Some(Step::OfG),
-        (false, false) => None,
+    match (a, b) {
+        (Some(a), Some(b)) => Some(first(a, b)),
+        (Some(_), None) => Some(Step::OfF),
+        (None, Some(_)) => Some(Step::OfG),
+        (None, None) => None,
     }
 }

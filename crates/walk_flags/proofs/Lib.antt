@@ -1,5 +1,4 @@
 -- What taking one element sets, off the table of flags.
-pub mod Few
 pub mod OfClass
 pub mod OfPoints
 pub mod LineLine

@@ -1,6 +1,7 @@
 -- One element as the table of flags reads it: the meeting at its point, by the degrees that the point has in both objects and by the element's note, and the
 -- class of its segment. proofs/OneTaken.antt says that the table read off these gives what taking the element sets.
 use Rattle.std.specs.Prelude.{ℕ, ◌+◌, ◌&&◌, cond, List, get_or}
+use Rattle.scene.specs.declared.Shape.{Shape}
 use Rattle.scene.specs.declared.Layout.{Layout}
 use Rattle.scene.specs.declared.Scene.{Scene}
 use Rattle.scene.specs.Conditions.{ia, left_test}
@@ -15,6 +16,7 @@ use Rattle.flags_table.specs.Table.{flags_of_f_by, flags_of_g_by}
 use Rattle.flags_masks.specs.declared.FlagMasks.{FlagMasks}
 use Rattle.flags_masks.specs.Wanted.{only}
 use Rattle.walk_flags.specs.declared.Degrees.{Degrees}
+use Rattle.walk_flags.specs.declared.Side.{Side}
 
 -- of a point of degree a in F and b in G, with the note n
 abbrev pub met_at : (a b n : ℕ) → Meetings
@@ -59,34 +61,36 @@ module _ (s : List ℕ) (sc : Scene) (notes : List ℕ) where
 
 -- ---- the class by the event: of an object alone, or of both
 
--- the mark of an element that is an event of its object alone, with its note
-abbrev pub alone_marks : List ℕ → Layout → (i note : ℕ) → ℕ
-alone_marks s l i note = cond (left_test s l i) (unshared_marks (ia s l i) note) 0
+abbrev pub side_of : List ℕ → Layout → ℕ → Side
+side_of s l i = record { is_left = left_test s l i; ia = ia s l i }
 
--- and of one that is the same event as the element j of the other object
-abbrev pub both_marks : List ℕ → (own other : Layout) → (i j : ℕ) → ℕ
-both_marks s own other i j = cond (left_test s own i) (shared_marks (ia s own i) (ia s other j)) 0
+-- of an element that is an event of its object alone, with its note, and of one that is the same event as one of the other object
+abbrev pub class_of_one : Side → (note : ℕ) → Classes
+class_of_one own note = named (cond own.is_left (unshared_marks own.ia note) 0)
+
+abbrev pub class_of_two : (own other : Side) → Classes
+class_of_two own other = named (cond own.is_left (shared_marks own.ia other.ia) 0)
 
 -- ---- the wanted flags of the next event
 
--- what the table gives, as far as it is wanted
-module _ (sc : Scene) (want : FlagMasks) (m : Meetings) (c : Classes) where
+-- what the table gives of two types, as far as it is wanted
+module _ (f g : Shape) (want : FlagMasks) (m : Meetings) (c : Classes) where
   abbrev pub wanted_f : ℕ
-  wanted_f = only want.f (pack (flags_of_f_by sc.f.shape sc.g.shape m c))
+  wanted_f = only want.f (pack (flags_of_f_by f g m c))
 
   abbrev pub wanted_g : ℕ
-  wanted_g = only want.g (pack (flags_of_g_by sc.f.shape sc.g.shape m c))
+  wanted_g = only want.g (pack (flags_of_g_by f g m c))
 
 -- of a point with these degrees: the element i of F alone, the element j of G alone, and each of the two where they are one event
 module _ (s : List ℕ) (sc : Scene) (notes : List ℕ) (want : FlagMasks) (at : Degrees) where
   abbrev pub alone_of_f : ℕ → ℕ
-  alone_of_f i = let note = get_or notes i 0 in wanted_f sc want (met_at at.f at.g note) (named (alone_marks s sc.f i note))
+  alone_of_f i = let note = get_or notes i 0 in wanted_f sc.f.shape sc.g.shape want (met_at at.f at.g note) (class_of_one (side_of s sc.f i) note)
 
   abbrev pub alone_of_g : ℕ → ℕ
-  alone_of_g j = let note = get_or notes (1024 + j) 0 in wanted_g sc want (met_at at.f at.g note) (named (alone_marks s sc.g j note))
+  alone_of_g j = let note = get_or notes (1024 + j) 0 in wanted_g sc.f.shape sc.g.shape want (met_at at.f at.g note) (class_of_one (side_of s sc.g j) note)
 
   abbrev pub both_of_f : ℕ → ℕ → ℕ
-  both_of_f i j = wanted_f sc want (met_at at.f at.g (get_or notes i 0)) (named (both_marks s sc.f sc.g i j))
+  both_of_f i j = wanted_f sc.f.shape sc.g.shape want (met_at at.f at.g (get_or notes i 0)) (class_of_two (side_of s sc.f i) (side_of s sc.g j))
 
   abbrev pub both_of_g : ℕ → ℕ → ℕ
-  both_of_g i j = wanted_g sc want (met_at at.f at.g (get_or notes i 0)) (named (both_marks s sc.g sc.f j i))
+  both_of_g i j = wanted_g sc.f.shape sc.g.shape want (met_at at.f at.g (get_or notes i 0)) (class_of_two (side_of s sc.g j) (side_of s sc.f i))

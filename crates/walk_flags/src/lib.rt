@@ -2,22 +2,18 @@
 // searched for.
 #![tactic(auto)]
 
-ghost use Rattle.std.specs.Prelude.{◌≡◌, ◌<◌};
-ghost use Rattle.scene.specs.Read.{IsScene};
-ghost use Rattle.scene.specs.Conditions.{left_test};
+ghost use Rattle.std.specs.Prelude.{◌≡◌};
 ghost use Rattle.flags_meetings.specs.Met.{is_inner};
-ghost use Rattle.flags_classes.specs.Marked.{named};
 ghost use Rattle.sweep_notes.specs.Numbers.{note_number};
-ghost use Rattle.walk_flags.specs.OneTaken.{met_at, alone_marks, both_marks, wanted_f, wanted_g, alone_of_f, alone_of_g, both_of_f, both_of_g};
+ghost use Rattle.walk_flags.specs.OneTaken.{met_at, class_of_one, class_of_two, wanted_f, wanted_g};
 
 use flags::MarkSet;
 use flags_classes::Classes;
 use flags_masks::FlagMasks;
 use flags_meetings::Meetings;
 use flags_vectors::Vectors;
-use scene::Scene;
-use scene_segments::{Object, Pair, ReadScene};
-use sweep_notes::{Note, Notes};
+use scene::Shape;
+use sweep_notes::Note;
 
 /// How many elements of F and of G have a point.
 #[derive(Clone, Copy)]
@@ -26,15 +22,19 @@ pub struct Degrees {
     pub g: usize,
 }
 
-/// What a walk goes over: a scene where it was read, the notes of its elements, and the wanted flags of F and of G.
-// Kept flat, as `NotedScene` is: bytes and notes are lent for different times.
+/// What the flags of an event ask of an element's segment: whether the element is a left halfsegment, and its ia.
 #[derive(Clone, Copy)]
-pub struct Ground<'a> {
-    pub bytes: &'a [u8],
-    pub scene: Scene,
-    pub notes: &'a Notes,
+pub struct Side {
+    pub is_left: bool,
+    pub ia: bool,
+}
+
+/// What is asked of each event: the types of F and of G, and the wanted flags of each.
+#[derive(Clone, Copy)]
+pub struct Asked {
+    pub f: Shape,
+    pub g: Shape,
     pub want: FlagMasks,
-    pub ghost read: { IsScene bytes.now scene },
 }
 
 // Some element has the point, and it is no boundary point.
@@ -65,102 +65,69 @@ fn met(at: Degrees, note: Note) -> Meetings
     }
 }
 
-// Is the element a left halfsegment?
-fn is_left(o: Object<'_>, i: usize) -> bool
-    requires { i < o.layout.count }
-    ensures { result ≡ left_test o.entry.bytes.now o.entry.layout i }
-{
-    o.has_segments() && o.half(i).is_left
-}
-
 // The class of an element that is an event of its object alone.
-fn class_alone(o: Object<'_>, i: usize, note: Note) -> Classes
-    requires { i < o.layout.count }
-    ensures { result ≡ named (alone_marks o.entry.bytes.now o.entry.layout i (note_number note)) }
+fn class_alone(own: Side, note: Note) -> Classes
+    ensures { result ≡ class_of_one own (note_number note) }
 {
-    let marks = if is_left(o, i) {
-        flags_classes::unshared(o.ia(i), note)
+    let marks = if own.is_left {
+        flags_classes::unshared(own.ia, note)
     } else {
         MarkSet::NONE
     };
     marks.into()
 }
 
-// The class of an element that is the same event as the element j of the other object.
-fn class_of_both(pair: Pair<'_>, i: usize, j: usize) -> Classes
-    requires { (i < pair.own.count) × (j < pair.other.count) }
-    ensures { result ≡ named (both_marks pair.entry.bytes.now pair.entry.own pair.entry.other i j) }
+// The class of an element that is the same event as one of the other object.
+fn class_of_both(own: Side, other: Side) -> Classes
+    ensures { result ≡ class_of_two own other }
 {
-    let own = pair.own();
-    let marks = if is_left(own, i) {
-        flags_classes::shared(own.ia(i), pair.other().ia(j))
+    let marks = if own.is_left {
+        flags_classes::shared(own.ia, other.ia)
     } else {
         MarkSet::NONE
     };
     marks.into()
 }
 
-impl<'a> Ground<'a> {
-    pub fn read(self) -> ReadScene<'a>
-        ensures { (result.bytes.now ≡ self.entry.bytes.now) × (result.scene ≡ self.entry.scene) }
-    {
-        let Ground { bytes, scene, .. } = self;
-        ReadScene { bytes, scene }
-    }
-
+impl Asked {
     // The wanted flags of an element of F, and of one of G, by the meeting at its point and its class.
     fn of_f(self, m: Meetings, c: Classes) -> u16
-        ensures { result ≡ wanted_f self.entry.scene self.entry.want m c }
+        ensures { result ≡ wanted_f self.f self.g self.want m c }
     {
-        flags_table::flags_of_f(self.scene.f.shape, self.scene.g.shape, m, c) & self.want.f
+        flags_table::flags_of_f(self.f, self.g, m, c) & self.want.f
     }
 
     fn of_g(self, m: Meetings, c: Classes) -> u16
-        ensures { result ≡ wanted_g self.entry.scene self.entry.want m c }
+        ensures { result ≡ wanted_g self.f self.g self.want m c }
     {
-        flags_table::flags_of_g(self.scene.f.shape, self.scene.g.shape, m, c) & self.want.g
+        flags_table::flags_of_g(self.f, self.g, m, c) & self.want.g
     }
 
     // ---- the wanted flags of an event, of a point with these degrees
 
-    // The element i of F, an event of F alone.
-    #[tactic(auto, using(crate::proofs::Few::few_f))]
-    pub fn alone_f(self, i: usize, at: Degrees) -> u16
-        requires { i < self.scene.f.count }
-        ensures { result ≡ alone_of_f self.entry.bytes.now self.entry.scene self.entry.notes.now self.entry.want at i }
+    // An element of F, with its note, that is an event of F alone.
+    pub fn alone_f(self, at: Degrees, note: Note, own: Side) -> u16
+        ensures { result ≡ wanted_f self.f self.g self.want (met_at at.f at.g (note_number note)) (class_of_one own (note_number note)) }
     {
-        let note = self.notes.of(true, i);
-        self.of_f(
-            met(at, note),
-            class_alone(self.read().object(true), i, note),
-        )
+        self.of_f(met(at, note), class_alone(own, note))
     }
 
-    // The element j of G, an event of G alone.
-    #[tactic(auto, using(crate::proofs::Few::few_g))]
-    pub fn alone_g(self, j: usize, at: Degrees) -> u16
-        requires { j < self.scene.g.count }
-        ensures { result ≡ alone_of_g self.entry.bytes.now self.entry.scene self.entry.notes.now self.entry.want at j }
+    // One of G.
+    pub fn alone_g(self, at: Degrees, note: Note, own: Side) -> u16
+        ensures { result ≡ wanted_g self.f self.g self.want (met_at at.f at.g (note_number note)) (class_of_one own (note_number note)) }
     {
-        let note = self.notes.of(false, j);
-        self.of_g(
-            met(at, note),
-            class_alone(self.read().object(false), j, note),
-        )
+        self.of_g(met(at, note), class_alone(own, note))
     }
 
-    // The element i of F, the same event as the element j of G; and that element of G.
-    #[tactic(auto, using(crate::proofs::Few::few_f))]
-    pub fn both(self, i: usize, j: usize, at: Degrees) -> Vectors
-        requires { (i < self.scene.f.count) × (j < self.scene.g.count) }
-        ensures of_f { result.f ≡ both_of_f self.entry.bytes.now self.entry.scene self.entry.notes.now self.entry.want at i j }
-        ensures of_g { result.g ≡ both_of_g self.entry.bytes.now self.entry.scene self.entry.notes.now self.entry.want at i j }
+    // An element of F, with its note, that is the same event as one of G; and that one of G.
+    pub fn both(self, at: Degrees, note: Note, of_f: Side, of_g: Side) -> Vectors
+        ensures of_f { result.f ≡ wanted_f self.f self.g self.want (met_at at.f at.g (note_number note)) (class_of_two of_f of_g) }
+        ensures of_g { result.g ≡ wanted_g self.f self.g self.want (met_at at.f at.g (note_number note)) (class_of_two of_g of_f) }
     {
-        let meeting = met(at, self.notes.of(true, i));
-        let pair = self.read().pair();
+        let meeting = met(at, note);
         Vectors {
-            f: self.of_f(meeting, class_of_both(pair, i, j)),
-            g: self.of_g(meeting, class_of_both(pair.exchanged(), j, i)),
+            f: self.of_f(meeting, class_of_both(of_f, of_g)),
+            g: self.of_g(meeting, class_of_both(of_g, of_f)),
         }
     }
 }

@@ -1,0 +1,2 @@
+-- What crosses to C and comes back.
+pub mod Walks

@@ -1,0 +1,2 @@
+-- Notes as numbers, and back.
+pub mod Numbers
