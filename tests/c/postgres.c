@@ -1,4 +1,4 @@
-/* What the functions of the extension for PostgreSQL must answer, by the calls in C: reads lines of a sort and bytes in hexadecimal (tests/reference/listed.rs), and writes each as a row for COPY: its
+/* What the functions of the extension for PostgreSQL must answer, by the calls in C: reads lines of a sort and bytes in hexadecimal (`listed` of tests/reference), and writes each as a row for COPY: its
    number, where its second object begins, the bytes, and the answer to each question in the order of tests/postgres.sql. An answer is a value as the server prints it, "null", or a refusal as its
    SQLSTATE and its DETAIL. Nothing of sql/ is used: places, masks, patterns and boxes are made here once more. */
 #define _POSIX_C_SOURCE 200809L

@@ -1,6 +1,6 @@
 /* The functions of the extension for PostgreSQL without the server, to be run under valgrind: what they take of the server is made here of the C library, so that each argument and each lent buffer has
    its own memory and not a byte more, and a byte beyond, or one that was never written, is seen. Reads, first, the functions as "argument types : result : name in C" up to an empty line, then lines of a sort and
-   bytes in hexadecimal (tests/reference/listed.rs). Each function gets the bytes, the first object, and its summary; in a second argument the rest and its summary. */
+   bytes in hexadecimal (`listed` of tests/reference). Each function gets the bytes, the first object, and its summary; in a second argument the rest and its summary. */
 #include "postgres.h"
 
 #include "fmgr.h"

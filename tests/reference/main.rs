@@ -64,6 +64,7 @@ const USAGE: &str = "usage: reference answer < scene    the line that explore wr
        reference wkb SEED          writes the well-known binary that a seed names
        reference raw SEED          writes the raw pair that a seed names
        reference many WHAT COUNT   writes what the seeds 1 to COUNT name, scene, object, wkb or raw, each after its length in 4 bytes, low byte first
+       reference listed SEED COUNT a line for each of what COUNT seeds from SEED on name, its sort, scene, raw, wkb or object, and its bytes in hexadecimal
        reference self              the scenes made by hand against their known answers
        reference compare             the fixed run: all must agree, and it must reach enough
            --scenes N, --seed N      another number of scenes, another seed
@@ -125,6 +126,10 @@ fn main() {
         ["raw", seed] => std::io::stdout().write_all(&Case::raw_of_seed(number(seed)).bytes).is_ok(),
         ["scene", seed] => std::io::stdout().write_all(&Case::of_seed(number(seed)).bytes).is_ok(),
         ["many", what, count] => write_many(maker(what), number(count)).is_ok(),
+        ["listed", seed, count] => {
+            (0..number(count)).for_each(|n| list(number(seed) + n));
+            true
+        }
         ["self"] => self_test(),
         ["compare", "--mistakes"] => all_mistakes(),
         ["compare", ref rest @ ..] => compare(rest),
@@ -157,6 +162,14 @@ fn maker(what: &str) -> fn(u64) -> Vec<u8> {
         "raw" => |seed| Case::raw_of_seed(seed).bytes,
         _ => usage(),
     }
+}
+
+/// What a seed names, a line for each sort.
+fn list(seed: u64) {
+    println!("scene {}", hexadecimal(&Case::of_seed(seed).bytes));
+    println!("raw {}", hexadecimal(&Case::raw_of_seed(seed).bytes));
+    println!("wkb {}", hexadecimal(&Case::wkb_of_seed(seed).bytes));
+    println!("object {}", hexadecimal(&Case::object_of_seed(seed)));
 }
 
 /// What is made of the seeds 1 to `count`, each after its length.
