@@ -8,7 +8,7 @@ use crate::Spot;
 use crate::ground::Ground;
 use crate::records::Head;
 use flags_vectors::Vectors;
-use scene::Refusal;
+use scene::{Reason, Refusal};
 use walk_events::Step;
 use walk_flags::{Degrees, Marks};
 
@@ -38,17 +38,38 @@ impl<'a> Ground<'a> {
         }
     }
 
-    // The next event; none where nothing is left of either object.
+    // The next event of a point that both objects have, or none where nothing is left of either: by all of the two elements.
+    fn level(self, i: usize, j: usize) -> Result<Option<Step>, Refusal>
+        ensures is { result ≡ next_at self.entry.bytes.now self.entry.scene i j }
+        ensures there { StepIsThere self.entry.scene i j result }
+    {
+        match (self.f().event(i), self.g().event(j)) {
+            (Err(r), _) => Err(r),
+            (Ok(_), Err(r)) => Err(r),
+            (Ok(a), Ok(b)) => Ok(walk_events::next(a, b)),
+        }
+    }
+
+    // The next event; none where nothing is left of either object. Of different points the keys tell it.
+    #[tactic(auto, using(crate::proofs::ByKeys::fault_f, crate::proofs::ByKeys::fault_g, crate::proofs::ByKeys::first_f, crate::proofs::ByKeys::first_g))]
     fn next(self, p: &Place) -> Result<Option<Step>, Refusal>
         requires { PlaceIs self.bytes.now self.scene p.now }
         ensures is { result ≡ next_at self.entry.bytes.now self.entry.scene p.now.at.i p.now.at.j }
         ensures there { StepIsThere self.entry.scene p.now.at.i p.now.at.j result }
     {
-        match (p.f.event, p.g.event) {
-            (Err(r), _) => Err(r),
-            (Ok(_), Err(r)) => Err(r),
-            (Ok(a), Ok(b)) => Ok(walk_events::next(a, b)),
+        if !p.f.is_good {
+            return Reason::Malformed.at(self.scene.f.place(p.at.i));
         }
+        if !p.g.is_good {
+            return Reason::Malformed.at(self.scene.g.place(p.at.j));
+        }
+        if p.f.key < p.g.key {
+            return Ok(Some(Step::OfF));
+        }
+        if p.g.key < p.f.key {
+            return Ok(Some(Step::OfG));
+        }
+        self.level(p.at.i, p.at.j)
     }
 
     // How many elements of either object have the point with the key `next`, after an event of the point with the key k, which has these degrees: they are counted when the point

@@ -7,6 +7,7 @@ ghost use Rattle.walk.specs.Walking.{FairIfTaken, event_left, key_left, run_left
 ghost use Rattle.walk.specs.Heads.{HeadIs};
 
 use scene::{Layout, Reason, Refusal, bytes};
+use scene_reading::faultless;
 use walk_events::Event;
 use walk_flags::Side;
 
@@ -17,10 +18,10 @@ pub struct Records<'a> {
     pub ghost fits: { Fits bytes.now layout },
 }
 
-/// The first element that is left of an object: as an event, and the key of its point.
+/// The first element that is left of an object: whether its fields are without fault, and the key of its point. Where none is left, without fault and at the top.
 #[derive(Clone, Copy)]
 pub struct Head {
-    pub event: Result<Option<Event>, Refusal>,
+    pub is_good: bool,
     pub key: u64,
 }
 
@@ -77,12 +78,22 @@ impl<'a> Records<'a> {
         }
     }
 
-    // Kept, with the key beside the event: both are of the same bytes, so that reading them at once costs little more than either.
+    #[tactic(auto, using(crate::proofs::Placed::there))]
     pub fn head(self, i: usize) -> Head
         ensures { HeadIs self.entry.bytes.now self.entry.layout i result }
     {
+        if self.layout.count <= i {
+            return Head {
+                is_good: true,
+                key: scene_keys::TOP,
+            };
+        }
         Head {
-            event: self.event(i),
+            is_good: faultless::are_fields_good(
+                self.bytes,
+                self.layout.shape,
+                self.layout.place(i),
+            ),
             key: self.key(i),
         }
     }
