@@ -1,6 +1,6 @@
 // From event to event: where the walk stands next. The events of a portion leave marks, and the table of flags is read once, when it is over.
 ghost use Rattle.std.specs.Prelude.{◌≡◌, ◌<◌};
-ghost use Rattle.walk.specs.Walking.{StepIsThere, StepFits, next_at, taken_at, walked, key_at, turned_at};
+ghost use Rattle.walk.specs.Walking.{StepIsThere, StepFits, next_at, taken_at, walked, key_left, turned_at};
 ghost use Rattle.walk_events.specs.declared.Step.TheVariants.{OfF, OfG, OfBoth};
 ghost use Rattle.walk.specs.Heads.{PlaceIs, settled};
 
@@ -72,16 +72,17 @@ impl<'a> Ground<'a> {
         self.level(p.at.i, p.at.j)
     }
 
-    // How many elements of either object have the point with the key `next`, after an event of the point with the key k, which has these degrees: they are counted when the point
-    // changes, and kept until it changes again.
-    fn turned(self, k: u64, next: u64, i: usize, j: usize, at: Degrees) -> Degrees
-        requires { next ≡ key_at self.bytes.now self.scene i j }
+    // How many elements of either object have the point of the next event, by the keys of the elements i and j, after an event of the point with the key k, which has these degrees: they
+    // are counted when the point changes, and kept until it changes again.
+    fn turned(self, k: u64, of_f: u64, of_g: u64, i: usize, j: usize, at: Degrees) -> Degrees
+        requires { (of_f ≡ key_left self.bytes.now self.scene.f i) × (of_g ≡ key_left self.bytes.now self.scene.g j) }
         ensures { result ≡ turned_at self.entry.bytes.now self.entry.scene k i j at }
     {
+        let next = of_f.min(of_g);
         if next == k {
             at
         } else {
-            self.counted(next, i, j)
+            self.counted(of_f, of_g, i, j)
         }
     }
 
@@ -101,7 +102,7 @@ impl<'a> Ground<'a> {
         p.of_f = p.of_f.with(marks);
         p.at.i = i + 1;
         p.f = self.f().head(i + 1);
-        p.at.degrees = self.turned(k, p.f.key.min(p.g.key), p.at.i, p.at.j, p.at.degrees);
+        p.at.degrees = self.turned(k, p.f.key, p.g.key, p.at.i, p.at.j, p.at.degrees);
     }
 
     // Of G alone.
@@ -118,7 +119,7 @@ impl<'a> Ground<'a> {
         p.of_g = p.of_g.with(marks);
         p.at.j = j + 1;
         p.g = self.g().head(j + 1);
-        p.at.degrees = self.turned(k, p.f.key.min(p.g.key), p.at.i, p.at.j, p.at.degrees);
+        p.at.degrees = self.turned(k, p.f.key, p.g.key, p.at.i, p.at.j, p.at.degrees);
     }
 
     // Of both: the note is that of the element of F.
@@ -141,7 +142,7 @@ impl<'a> Ground<'a> {
         p.at.j = j + 1;
         p.f = self.f().head(i + 1);
         p.g = self.g().head(j + 1);
-        p.at.degrees = self.turned(k, p.f.key.min(p.g.key), p.at.i, p.at.j, p.at.degrees);
+        p.at.degrees = self.turned(k, p.f.key, p.g.key, p.at.i, p.at.j, p.at.degrees);
     }
 
     fn take(self, p: &mut Place, step: Step)

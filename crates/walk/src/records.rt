@@ -98,12 +98,16 @@ impl<'a> Records<'a> {
         }
     }
 
-    // How many elements in a row have the key k, from the element i on.
-    pub fn run(self, k: u64, i: usize) -> usize
+    // How many elements in a row have the key k, from the element i on, whose own key is known.
+    pub fn run(self, k: u64, i: usize, own: u64) -> usize
+        requires { (k < top) × (own ≡ key_left self.bytes.now self.layout i) }
         ensures { result ≡ run_left self.entry.bytes.now self.entry.layout k (self.entry.layout.count - i) i }
     {
-        let mut n = 0;
-        for m in i..self.layout.count {
+        if own != k {
+            return 0;
+        }
+        let mut n = 1;
+        for m in i + 1..self.layout.count {
             if self.key(m) != k {
                 return n;
             }
