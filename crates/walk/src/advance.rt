@@ -74,9 +74,9 @@ impl<'a> Ground<'a> {
 
     // How many elements of either object have the point of the next event, by the keys of the elements i and j, after an event of the point with the key k, which has these degrees: they
     // are counted when the point changes, and kept until it changes again.
-    fn turned(self, k: u64, of_f: u64, of_g: u64, i: usize, j: usize, at: Degrees) -> Degrees
-        requires { (of_f ≡ key_left self.bytes.now self.scene.f i) × (of_g ≡ key_left self.bytes.now self.scene.g j) }
-        ensures { result ≡ turned_at self.entry.bytes.now self.entry.scene k i j at }
+    fn turned(&self, k: u64, of_f: u64, of_g: u64, i: usize, j: usize, at: Degrees) -> Degrees
+        requires { (of_f ≡ key_left self.now.bytes.now self.now.scene.f i) × (of_g ≡ key_left self.now.bytes.now self.now.scene.g j) }
+        ensures { result ≡ turned_at self.now.bytes.now self.now.scene k i j at }
     {
         let next = of_f.min(of_g);
         if next == k {

@@ -63,9 +63,9 @@ impl<'a> Ground<'a> {
     // ---- how many elements of either object have the point of the next event
 
     // Those of the point with the lesser of the keys of the elements i and j, where no element before them has it; at the end there is none.
-    pub fn counted(self, of_f: u64, of_g: u64, i: usize, j: usize) -> Degrees
-        requires { (of_f ≡ key_left self.bytes.now self.scene.f i) × (of_g ≡ key_left self.bytes.now self.scene.g j) }
-        ensures { result ≡ counted_at self.entry.bytes.now self.entry.scene (key_at self.entry.bytes.now self.entry.scene i j) i j }
+    pub fn counted(&self, of_f: u64, of_g: u64, i: usize, j: usize) -> Degrees
+        requires { (of_f ≡ key_left self.now.bytes.now self.now.scene.f i) × (of_g ≡ key_left self.now.bytes.now self.now.scene.g j) }
+        ensures { result ≡ counted_at self.now.bytes.now self.now.scene (key_at self.now.bytes.now self.now.scene i j) i j }
     {
         let k = of_f.min(of_g);
         if k < scene_keys::TOP {

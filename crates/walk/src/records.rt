@@ -79,6 +79,7 @@ impl<'a> Records<'a> {
     }
 
     #[tactic(auto, using(crate::proofs::Placed::there))]
+    #[inline(always)]
     pub fn head(self, i: usize) -> Head
         ensures { HeadIs self.entry.bytes.now self.entry.layout i result }
     {

@@ -1,7 +1,7 @@
 -- The table is additive: the flags of marks put together are those of either, put together. So the marks of several events are collected, and the table is read once.
 use Prim.Native.Nat.{ℕ, zero, suc}
 use mathlib.Core.Path.{◌≡◌, refl, sym, ap, ap₂, ◌∙◌}
-use mathlib.Core.Bool.{Bool, true, false, ◌&&◌, ◌||◌}
+use mathlib.Core.Bool.{Bool, true, false, ◌&&◌, ◌||◌, and-false}
 use mathlib.Core.List.{List, [], ◌∷◌}
 use lib.Bits.{bit_or, or_zero_r}
 use lib.ListN.{get_or}
@@ -9,6 +9,7 @@ use Rattle.scene.specs.declared.Shape.{Shape}
 use Rattle.scene.specs.declared.Shape.TheVariants.{Points, Line, Region}
 use Rattle.flags.specs.Flags.{pack, has_bit}
 use Rattle.flags.proofs.Bits.{no_bit, and_bit, or_bit, pack_bit, same_number}
+use Rattle.flags.proofs.Boundary.{boundary_none}
 use Rattle.flags.proofs.Marks.{or_assoc}
 use Rattle.flags_meetings.specs.declared.Meetings.{Meetings}
 use Rattle.flags_meetings.specs.Keyed as keyed
@@ -18,7 +19,7 @@ use Rattle.flags_table.specs.Table.{flags_of_f_by, flags_of_g_by}
 use Rattle.flags_masks.specs.declared.FlagMasks.{FlagMasks}
 use Rattle.flags_masks.specs.Wanted.{only}
 use Rattle.walk_flags.specs.declared.Marks.{Marks}
-use Rattle.walk_flags.specs.OneTaken.{met_at, met_tests, met_marks, wanted_f, wanted_g, marked_f, marked_g}
+use Rattle.walk_flags.specs.OneTaken.{met_at, met_tests, alone_marks, met_marks, wanted_f, wanted_g, marked_f, marked_g}
 
 -- ---- lists of tests
 
@@ -277,6 +278,9 @@ module _ (f g : Shape) (want : FlagMasks) (found : ℕ) where
       go Region Points = refl
       go Region Line = refl
       go Region Region = refl
+
+pub alone_is : (a n : ℕ) → alone_marks a n ≡ met_marks a 0 n
+alone_is a n = simp (boundary_none, and-false)
 
 pub met_of_marks : (a b n : ℕ) → keyed.named (met_marks a b n) ≡ met_at a b n
 met_of_marks a b n = λ j. record {

@@ -1,6 +1,7 @@
 -- One element as the table of flags reads it: the meeting at its point, by the degrees that the point has in both objects and by the element's note, and the
 -- class of its segment. proofs/OneTaken.antt says that the table read off these gives what taking the element sets.
-use Rattle.std.specs.Prelude.{ℕ, ◌+◌, Bool, ◌&&◌, cond, List, [], ◌∷◌, get_or}
+use Rattle.std.specs.Prelude.{ℕ, ◌+◌, Bool, ◌&&◌, cond, List, [], ◌∷◌, eqb, ltb, get_or}
+use Rattle.plane.specs.Plane.{is_boundary}
 use Rattle.scene.specs.declared.Shape.{Shape}
 use Rattle.scene.specs.declared.Layout.{Layout}
 use Rattle.scene.specs.declared.Scene.{Scene}
@@ -46,6 +47,10 @@ met_tests a b n =
     ∷ inner_inner_test a b n
     ∷ bound_of_g_test a b
     ∷ []
+
+-- of a point that is none of G's
+abbrev pub alone_marks : (a n : ℕ) → ℕ
+alone_marks a n = pack ((is_boundary a && eqb n 0) ∷ (is_boundary a && eqb n 1) ∷ (is_boundary a && ltb 1 n) ∷ [])
 
 abbrev pub met_marks : (a b n : ℕ) → ℕ
 met_marks a b n = pack (met_tests a b n)

@@ -2,11 +2,11 @@
 // searched for.
 #![tactic(auto)]
 
-ghost use Rattle.std.specs.Prelude.{◌≡◌};
+ghost use Rattle.std.specs.Prelude.{ℕ, ◌≡◌, ◌<◌};
 ghost use Rattle.std.specs.Int.Bits.{bit_or};
 ghost use Rattle.flags_meetings.specs.Met.{is_inner};
 ghost use Rattle.sweep_notes.specs.Numbers.{note_number};
-ghost use Rattle.walk_flags.specs.OneTaken.{met_marks, marks_of_one, marks_of_two, marked_f, marked_g};
+ghost use Rattle.walk_flags.specs.OneTaken.{alone_marks, met_marks, marks_of_one, marks_of_two, marked_f, marked_g};
 
 use flags::{MarkSet, packed};
 use flags_masks::FlagMasks;
@@ -50,25 +50,48 @@ fn is_inner(degree: usize) -> bool
     degree > 0 && !flags_meetings::is_bound(degree)
 }
 
-// The marks of the meeting at a point, by an element with this note.
-fn met(at: Degrees, note: Note) -> MarkSet
-    ensures { result.0 ≡ met_marks at.f at.g (note_number note) }
+// The marks of the meeting at a point that is none of G's, by an element with this note.
+fn met_alone(of_f: usize, note: Note) -> MarkSet
+    ensures { result.0 ≡ alone_marks of_f (note_number note) }
+{
+    let bound = flags_meetings::is_bound(of_f);
+    MarkSet(packed([
+        bound && note == Note::Even,
+        bound && note == Note::Odd,
+        bound && note == Note::On,
+    ]))
+}
+
+// At a point of G's, whatever the note.
+fn met_of_g(at: Degrees) -> MarkSet
+    requires { 0 < at.g }
+    ensures { (n : ℕ) → result.0 ≡ met_marks at.f at.g n }
 {
     let bound_f = flags_meetings::is_bound(at.f);
     let bound_g = flags_meetings::is_bound(at.g);
     let inner_f = is_inner(at.f);
-    let inner_g = is_inner(at.g);
-    let alone = bound_f && at.g == 0;
     MarkSet(packed([
-        alone && note == Note::Even,
-        alone && note == Note::Odd,
-        alone && note == Note::On,
+        false,
+        false,
+        false,
         bound_f && bound_g,
-        bound_f && inner_g,
+        bound_f && !bound_g,
         inner_f && bound_g,
-        inner_f && inner_g,
+        inner_f && !bound_g,
         at.f == 0 && bound_g,
     ]))
+}
+
+// The marks of the meeting at a point, by an element with this note.
+#[tactic(auto, using(crate::proofs::Additive::alone_is))]
+fn met(at: Degrees, note: Note) -> MarkSet
+    ensures { result.0 ≡ met_marks at.f at.g (note_number note) }
+{
+    if at.g == 0 {
+        met_alone(at.f, note)
+    } else {
+        met_of_g(at)
+    }
 }
 
 // The mark of an element's class: a right halfsegment and a point have none.
