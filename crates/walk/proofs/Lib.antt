@@ -6,6 +6,7 @@ pub mod Turning
 pub mod Moving
 pub mod Placed
 pub mod Running
+pub mod ByKeys
 pub mod Going
 pub mod Made
 pub mod Beginning

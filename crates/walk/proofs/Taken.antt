@@ -3,7 +3,7 @@ use Rattle.std.specs.Prelude.{Some, None}
 use Prim.Native.Nat.{ℕ, ◌+◌, ◌<◌, ◌≤◌}
 use native.Mathlib.Omega.{arith}
 use mathlib.Core.Path.{◌≡◌, refl, sym, ap, ap₂, subst, ◌∙◌}
-use mathlib.Core.Bool.{Bool, true, false, ◌&&◌, ◌||◌}
+use mathlib.Core.Bool.{true, false}
 use mathlib.Core.List.{List, ◌∷◌}
 use lib.Bits.{bit_or}
 use lib.Dec.{eqb}
@@ -20,8 +20,6 @@ use Rattle.scene_segments.proofs.Indices.{in_element}
 use Rattle.sweep_laws.specs.Noted.{Noted}
 use Rattle.check_verdict.proofs.Laws.{SoundScene}
 use Rattle.scene_keys.specs.Keyed.{top, element_point, keys, next_key}
-use Rattle.flags.specs.Flags.{has_bit}
-use Rattle.flags.proofs.Bits.{and_bit, or_bit, same_number}
 use Rattle.flags_meetings.specs.Met.{degree}
 use Rattle.flags_meetings.specs.Keyed.{Passed}
 use Rattle.flags_meetings.proofs.Runs.{run_count}
@@ -37,6 +35,7 @@ use Rattle.walk_events.proofs.Standing.{steps_f, steps_g, steps_both}
 use Rattle.walk_flags.specs.declared.Degrees.{Degrees}
 use Rattle.flags_vectors.specs.declared.Vectors.{Vectors}
 use Rattle.walk_flags.specs.OneTaken.{alone_of_f, alone_of_g, both_of_f, both_of_g}
+use Rattle.walk_flags.proofs.Additive.{only_or}
 use Rattle.walk_flags.proofs.Stepping.{flags_alone_f, flags_alone_g, flags_both_f, flags_both_g}
 use Rattle.walk.specs.declared.Spot.{Spot}
 use Rattle.walk.specs.State.{point_key, degree_by, degrees_at, found_at, spot_at}
@@ -52,20 +51,6 @@ module _ (s : List ℕ) (l : Layout) (is : IsObject s l) (order : out_of_order s
 
   pub counted_none : {k : ℕ} → top ≤ k → 0 ≡ degree_by s l k
   counted_none {k} h = sym (count_none (λ m. eqb (keys s l m) k) (elements l) (λ m w. ne_eqb (keys s l m) k (λ e. omega (arith, (in_order s l is order).below m (in_element l m w)))))
-
--- ---- masks
-
-only_or : (mask a b : ℕ) → only mask (bit_or a b) ≡ bit_or (only mask a) (only mask b)
-only_or mask a b =
-    same_number (only mask (bit_or a b)) (bit_or (only mask a) (only mask b))
-    (λ k. and_bit (bit_or a b) mask k ∙ ap (λ x. x && has_bit mask k) (or_bit a b k) ∙ go (has_bit a k) (has_bit b k) (has_bit mask k) ∙ sym (or_bit (only mask a) (only mask b) k ∙ ap₂ ◌||◌ (and_bit a mask k) (and_bit b mask k)))
-  where
-    go : (x y z : Bool) → (x || y) && z ≡ x && z || y && z
-    go true true true = refl
-    go true true false = refl
-    go true false true = refl
-    go true false false = refl
-    go false y z = refl
 
 -- ---- where a walk stands
 

@@ -33,7 +33,7 @@ impl<'a> Ground<'a> {
         Spot {
             i: 0,
             j: 0,
-            degrees: self.counted(self.key(0, 0), 0, 0),
+            degrees: self.counted(self.f().key(0), self.g().key(0), 0, 0),
             found: Vectors { f: 0, g: 0 },
         }
     }

@@ -3,7 +3,7 @@ ghost use Rattle.std.specs.Prelude.{◌≡◌, ◌<◌, ◌≤◌, length, get_o
 ghost use Rattle.sweep_laws.specs.Swept.{slot};
 ghost use Rattle.sweep_notes.specs.Numbers.{note_number};
 ghost use Rattle.walk.specs.Placed.{Fits};
-ghost use Rattle.walk.specs.Walking.{notes_in, counted_at, key_at};
+ghost use Rattle.walk.specs.Walking.{notes_in, counted_at, key_at, key_left};
 
 use crate::records::Records;
 use flags_masks::FlagMasks;
@@ -62,21 +62,16 @@ impl<'a> Ground<'a> {
 
     // ---- how many elements of either object have the point of the next event
 
-    // The key of that point, or the top where no event remains.
-    pub fn key(self, i: usize, j: usize) -> u64
-        ensures { result ≡ key_at self.entry.bytes.now self.entry.scene i j }
+    // Those of the point with the lesser of the keys of the elements i and j, where no element before them has it; at the end there is none.
+    pub fn counted(&self, of_f: u64, of_g: u64, i: usize, j: usize) -> Degrees
+        requires { (of_f ≡ key_left self.now.bytes.now self.now.scene.f i) × (of_g ≡ key_left self.now.bytes.now self.now.scene.g j) }
+        ensures { result ≡ counted_at self.now.bytes.now self.now.scene (key_at self.now.bytes.now self.now.scene i j) i j }
     {
-        self.f().key(i).min(self.g().key(j))
-    }
-
-    // Those with the key k, where no element before i and j has it; at the end there is none.
-    pub fn counted(self, k: u64, i: usize, j: usize) -> Degrees
-        ensures { result ≡ counted_at self.entry.bytes.now self.entry.scene k i j }
-    {
+        let k = of_f.min(of_g);
         if k < scene_keys::TOP {
             Degrees {
-                f: self.f().run(k, i),
-                g: self.g().run(k, j),
+                f: self.f().run(k, i, of_f),
+                g: self.g().run(k, j, of_g),
             }
         } else {
             Degrees { f: 0, g: 0 }

@@ -7,6 +7,7 @@ ghost use Rattle.walk.specs.Walking.{FairIfTaken, event_left, key_left, run_left
 ghost use Rattle.walk.specs.Heads.{HeadIs};
 
 use scene::{Layout, Reason, Refusal, bytes};
+use scene_reading::faultless;
 use walk_events::Event;
 use walk_flags::Side;
 
@@ -17,10 +18,10 @@ pub struct Records<'a> {
     pub ghost fits: { Fits bytes.now layout },
 }
 
-/// The first element that is left of an object: as an event, and the key of its point.
+/// The first element that is left of an object: whether its fields are without fault, and the key of its point. Where none is left, without fault and at the top.
 #[derive(Clone, Copy)]
 pub struct Head {
-    pub event: Result<Option<Event>, Refusal>,
+    pub is_good: bool,
     pub key: u64,
 }
 
@@ -77,22 +78,37 @@ impl<'a> Records<'a> {
         }
     }
 
-    // Kept, with the key beside the event: both are of the same bytes, so that reading them at once costs little more than either.
+    #[tactic(auto, using(crate::proofs::Placed::there))]
+    #[inline(always)]
     pub fn head(self, i: usize) -> Head
         ensures { HeadIs self.entry.bytes.now self.entry.layout i result }
     {
+        if self.layout.count <= i {
+            return Head {
+                is_good: true,
+                key: scene_keys::TOP,
+            };
+        }
         Head {
-            event: self.event(i),
+            is_good: faultless::are_fields_good(
+                self.bytes,
+                self.layout.shape,
+                self.layout.place(i),
+            ),
             key: self.key(i),
         }
     }
 
-    // How many elements in a row have the key k, from the element i on.
-    pub fn run(self, k: u64, i: usize) -> usize
+    // How many elements in a row have the key k, from the element i on, whose own key is known.
+    pub fn run(self, k: u64, i: usize, own: u64) -> usize
+        requires { (k < top) × (own ≡ key_left self.bytes.now self.layout i) }
         ensures { result ≡ run_left self.entry.bytes.now self.entry.layout k (self.entry.layout.count - i) i }
     {
-        let mut n = 0;
-        for m in i..self.layout.count {
+        if own != k {
+            return 0;
+        }
+        let mut n = 1;
+        for m in i + 1..self.layout.count {
             if self.key(m) != k {
                 return n;
             }

@@ -6,3 +6,4 @@ pub mod LineRegion
 pub mod RegionRegion
 pub mod OneTaken
 pub mod Stepping
+pub mod Additive

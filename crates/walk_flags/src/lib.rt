@@ -1,17 +1,15 @@
-// What taking one event of a scene sets, off the table of flags: by the degrees of its point, by its note, and by the class of its segment. Nothing is
+// What taking events of a scene sets, off the table of flags: each leaves marks, by the degrees of its point, by its note, and by the class of its segment. Nothing is
 // searched for.
 #![tactic(auto)]
 
-ghost use Rattle.std.specs.Prelude.{◌≡◌};
+ghost use Rattle.std.specs.Prelude.{ℕ, ◌≡◌, ◌<◌};
+ghost use Rattle.std.specs.Int.Bits.{bit_or};
 ghost use Rattle.flags_meetings.specs.Met.{is_inner};
 ghost use Rattle.sweep_notes.specs.Numbers.{note_number};
-ghost use Rattle.walk_flags.specs.OneTaken.{met_at, class_of_one, class_of_two, wanted_f, wanted_g};
+ghost use Rattle.walk_flags.specs.OneTaken.{alone_marks, met_marks, marks_of_one, marks_of_two, marked_f, marked_g};
 
-use flags::MarkSet;
-use flags_classes::Classes;
+use flags::{MarkSet, packed};
 use flags_masks::FlagMasks;
-use flags_meetings::Meetings;
-use flags_vectors::Vectors;
 use scene::Shape;
 use sweep_notes::Note;
 
@@ -29,6 +27,14 @@ pub struct Side {
     pub ia: bool,
 }
 
+/// The marks that elements of an object leave: of the meetings at their points, and of the classes of their segments. Those of several elements are put together, and the table is read
+/// off all of them at once.
+#[derive(Clone, Copy)]
+pub struct Marks {
+    pub met: MarkSet,
+    pub classes: MarkSet,
+}
+
 /// What is asked of each event: the types of F and of G, and the wanted flags of each.
 #[derive(Clone, Copy)]
 pub struct Asked {
@@ -44,90 +50,122 @@ fn is_inner(degree: usize) -> bool
     degree > 0 && !flags_meetings::is_bound(degree)
 }
 
-// The meeting at a point, by an element with this note.
-fn met(at: Degrees, note: Note) -> Meetings
-    ensures { result ≡ met_at at.f at.g (note_number note) }
+// The marks of the meeting at a point that is none of G's, by an element with this note.
+fn met_alone(of_f: usize, note: Note) -> MarkSet
+    ensures { result.0 ≡ alone_marks of_f (note_number note) }
+{
+    let bound = flags_meetings::is_bound(of_f);
+    MarkSet(packed([
+        bound && note == Note::Even,
+        bound && note == Note::Odd,
+        bound && note == Note::On,
+    ]))
+}
+
+// At a point of G's, whatever the note.
+fn met_of_g(at: Degrees) -> MarkSet
+    requires { 0 < at.g }
+    ensures { (n : ℕ) → result.0 ≡ met_marks at.f at.g n }
 {
     let bound_f = flags_meetings::is_bound(at.f);
     let bound_g = flags_meetings::is_bound(at.g);
     let inner_f = is_inner(at.f);
-    let inner_g = is_inner(at.g);
-    let alone = bound_f && at.g == 0;
-    Meetings {
-        bound_outside: alone && note == Note::Even,
-        bound_inside: alone && note == Note::Odd,
-        bound_on: alone && note == Note::On,
-        bound_bound: bound_f && bound_g,
-        bound_inner: bound_f && inner_g,
-        inner_bound: inner_f && bound_g,
-        inner_inner: inner_f && inner_g,
-        bound_of_g: at.f == 0 && bound_g,
+    MarkSet(packed([
+        false,
+        false,
+        false,
+        bound_f && bound_g,
+        bound_f && !bound_g,
+        inner_f && bound_g,
+        inner_f && !bound_g,
+        at.f == 0 && bound_g,
+    ]))
+}
+
+// The marks of the meeting at a point, by an element with this note.
+#[tactic(auto, using(crate::proofs::Additive::alone_is))]
+fn met(at: Degrees, note: Note) -> MarkSet
+    ensures { result.0 ≡ met_marks at.f at.g (note_number note) }
+{
+    if at.g == 0 {
+        met_alone(at.f, note)
+    } else {
+        met_of_g(at)
     }
 }
 
-// The class of an element that is an event of its object alone.
-fn class_alone(own: Side, note: Note) -> Classes
-    ensures { result ≡ class_of_one own (note_number note) }
+// The mark of an element's class: a right halfsegment and a point have none.
+fn class_alone(own: Side, note: Note) -> MarkSet
+    ensures { result.0 ≡ marks_of_one own (note_number note) }
 {
-    let marks = if own.is_left {
+    if own.is_left {
         flags_classes::unshared(own.ia, note)
     } else {
         MarkSet::NONE
-    };
-    marks.into()
+    }
 }
 
-// The class of an element that is the same event as one of the other object.
-fn class_of_both(own: Side, other: Side) -> Classes
-    ensures { result ≡ class_of_two own other }
+fn class_of_both(own: Side, other: Side) -> MarkSet
+    ensures { result.0 ≡ marks_of_two own other }
 {
-    let marks = if own.is_left {
+    if own.is_left {
         flags_classes::shared(own.ia, other.ia)
     } else {
         MarkSet::NONE
+    }
+}
+
+impl Marks {
+    pub const NONE: Marks = Marks {
+        met: MarkSet::NONE,
+        classes: MarkSet::NONE,
     };
-    marks.into()
+
+    pub fn with(self, more: Marks) -> Marks
+        ensures { (result.met.0 ≡ bit_or self.met.0 more.met.0) × (result.classes.0 ≡ bit_or self.classes.0 more.classes.0) }
+    {
+        Marks {
+            met: self.met.with(more.met),
+            classes: self.classes.with(more.classes),
+        }
+    }
+
+    // ---- of one event, at a point with these degrees
+
+    // Of an element, with its note, that is an event of its object alone.
+    pub fn alone(at: Degrees, note: Note, own: Side) -> Marks
+        ensures { (result.met.0 ≡ met_marks at.f at.g (note_number note)) × (result.classes.0 ≡ marks_of_one own (note_number note)) }
+    {
+        Marks {
+            met: met(at, note),
+            classes: class_alone(own, note),
+        }
+    }
+
+    // Of an element that is the same event as one of the other object. The note is that of the element of F.
+    pub fn of_both(at: Degrees, note: Note, own: Side, other: Side) -> Marks
+        ensures { (result.met.0 ≡ met_marks at.f at.g (note_number note)) × (result.classes.0 ≡ marks_of_two own other) }
+    {
+        Marks {
+            met: met(at, note),
+            classes: class_of_both(own, other),
+        }
+    }
 }
 
 impl Asked {
-    // The wanted flags of an element of F, and of one of G, by the meeting at its point and its class.
-    fn of_f(self, m: Meetings, c: Classes) -> u16
-        ensures { result ≡ wanted_f self.f self.g self.want m c }
+    // The wanted flags that marks of elements of F make, and those of G.
+    pub fn of_f(self, marks: Marks) -> u16
+        ensures { result ≡ marked_f self.f self.g self.want marks }
     {
-        flags_table::flags_of_f(self.f, self.g, m, c) & self.want.f
+        flags_table::flags_of_f(self.f, self.g, marks.met.into(), marks.classes.into())
+            & self.want.f
     }
 
-    fn of_g(self, m: Meetings, c: Classes) -> u16
-        ensures { result ≡ wanted_g self.f self.g self.want m c }
+    pub fn of_g(self, marks: Marks) -> u16
+        ensures { result ≡ marked_g self.f self.g self.want marks }
     {
-        flags_table::flags_of_g(self.f, self.g, m, c) & self.want.g
-    }
-
-    // ---- the wanted flags of an event, of a point with these degrees
-
-    // An element of F, with its note, that is an event of F alone.
-    pub fn alone_f(self, at: Degrees, note: Note, own: Side) -> u16
-        ensures { result ≡ wanted_f self.f self.g self.want (met_at at.f at.g (note_number note)) (class_of_one own (note_number note)) }
-    {
-        self.of_f(met(at, note), class_alone(own, note))
-    }
-
-    // One of G.
-    pub fn alone_g(self, at: Degrees, note: Note, own: Side) -> u16
-        ensures { result ≡ wanted_g self.f self.g self.want (met_at at.f at.g (note_number note)) (class_of_one own (note_number note)) }
-    {
-        self.of_g(met(at, note), class_alone(own, note))
-    }
-
-    // An element of F, with its note, that is the same event as one of G; and that one of G.
-    pub fn both(self, at: Degrees, note: Note, of_f: Side, of_g: Side) -> Vectors
-        ensures of_f { result.f ≡ wanted_f self.f self.g self.want (met_at at.f at.g (note_number note)) (class_of_two of_f of_g) }
-        ensures of_g { result.g ≡ wanted_g self.f self.g self.want (met_at at.f at.g (note_number note)) (class_of_two of_g of_f) }
-    {
-        let meeting = met(at, note);
-        Vectors {
-            f: self.of_f(meeting, class_of_both(of_f, of_g)),
-            g: self.of_g(meeting, class_of_both(of_g, of_f)),
-        }
+        flags_table::flags_of_g(self.f, self.g, marks.met.into(), marks.classes.into())
+            & self.want.g
     }
 }
