@@ -609,7 +609,7 @@ karvoiss_split_t karvoiss_split(const uint8_t *scene, size_t length,
  * over what stands there else. All fields but the number and the place are then 0. The fields
  * after `done` are for the next portion.
  *
- * A portion costs what its events cost, some 50 nanoseconds each: none searches an object
+ * A portion costs what its events cost, some 40 nanoseconds each: none searches an object
  * or reads the scene again.
  */
 typedef struct {
