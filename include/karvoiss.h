@@ -131,8 +131,8 @@ extern "C" {
  * to need about 6,000 bytes, karvoiss_summary 25,520, since it copies its object,
  * karvoiss_far 160, karvoiss_estimate 40 and karvoiss_in_window 216;
  * karvoiss_read_wkb 166,552 and karvoiss_write_wkb 26,792, since they build and
- * check an object, karvoiss_split 305,896, and karvoiss_walk_begin 10,136, since it
- * has the notes twice, and karvoiss_walk_portion 1,104; the numbers leave room for
+ * check an object, karvoiss_split 305,896, and karvoiss_walk_begin 10,088, since it
+ * has the notes twice, and karvoiss_walk_portion 1,273; the numbers leave room for
  * other compilers.
  */
 #define KARVOISS_VECTORS_STACK 11200
