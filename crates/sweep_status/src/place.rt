@@ -150,14 +150,6 @@ impl<'a> Entries<'a> {
         high
     }
 
-    // A place for p among all entries.
-    pub fn first_over(self, p: Point) -> usize
-        requires { T (in_range p) }
-        ensures { Place self.entry.bytes.now self.entry.offsets.now p result }
-    {
-        self.search(p, 0, self.offsets.len())
-    }
-
     // Where to look for a place for p, by a hint, the place of the event before: there and just above it are looked at first, since where several halfsegments
     // meet at a point, the next one is there.
     fn span_near(self, p: Point, hint: usize) -> Span
