@@ -1,7 +1,7 @@
 -- From the right end to the left one, the side value is that from the left to the right with the other sign.
-use Rattle.std.proofs.Common.{◌≡◌, Bool, true, false, ℤ, pos, refl, ap, ◌∙◌, [], ◌∷◌}
+use Rattle.std.proofs.Common.{◌≡◌, true, false, ℤ, pos, refl, ap, ◌∙◌, [], ◌∷◌}
 use Rattle.std.specs.Int.Signed.{lt_z}
-use Rattle.whole.proofs.Solver.{var, con, ◌:+◌, ◌:-◌, ◌:*◌, solve}
+use Rattle.whole.proofs.Solver.{var, con, ◌:-◌, ◌:*◌, solve}
 use Rattle.whole.proofs.Sign.{lt_z_shift}
 use Rattle.plane.specs.declared.Point.{Point}
 use Rattle.plane.specs.declared.Halfsegment.{Halfsegment}
