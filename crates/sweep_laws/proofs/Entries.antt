@@ -135,9 +135,6 @@ parity_one f l i h {odd} e =
 -- ---- the entries beside a place
 
 module _ (l : List ℕ) (k : ℕ) (P : ℕ → Type 0) where
-  pub none_below : k ≡ 0 → BelowPlace l k P
-  none_below e i q = absurd (omega arith)
-
   pub by_below : {r : Bool} (i : ℕ) → suc i ≡ k → Decides (P (get_or l i 0)) r → Decides (BelowPlace l k P) r
   by_below i e = same_as (λ p j q. subst (λ (m : ℕ). P (get_or l m 0)) (omega arith) p) (λ p. p i e)
 

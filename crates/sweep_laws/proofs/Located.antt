@@ -8,12 +8,11 @@ use mathlib.Core.Logic.{⊎_elim}
 use mathlib.Core.Bool.{Bool, true, false, not, ◌&&◌, ◌||◌, cond, true≢false}
 use mathlib.Core.List.{List, [], ◌∷◌, map}
 use lib.Dec.{T, ltb}
-use lib.IntN.{ℤ, pos}
-use lib.Signed.{lt_z}
+use lib.IntN.{pos}
 use lib.ListN.{length, get_or, take, drop, take-append-drop}
 use lib.Seq.{length-take-le}
 use Rattle.whole.specs.Count.{◌∈◌, here, there, bit, odd, some, count}
-use Rattle.whole.proofs.Sign.{zero_pos, zero_neg, pos_clash, lt_z0_pos, pos_lt_z0, lt_z0_neg, neg_lt_z0, Half, at_least_lem, under, half, Weak, weak_zero, weak_plus, weak}
+use Rattle.whole.proofs.Sign.{zero_pos, zero_neg, pos_clash, lt_z0_pos, pos_lt_z0, lt_z0_neg}
 use Rattle.whole.proofs.Logic.{and_left, and_right, or_left, or_right, refute, same_test, and_follows, true_is, in_map, in_at, in_append, some_find, some_make, none_of}
 use Rattle.whole.proofs.Counted.{count_append, count_none, count_same, some_count}
 use Rattle.plane.specs.declared.Point.{Point}
@@ -51,18 +50,6 @@ module _ (t : Segment) (v : Point) where
 
   over_not_under : T (passes_over t v) → passes_under t v ≡ false
   over_not_under u = refute (passes_under t v) (λ w. pos_clash (lt_z0_pos (side t.left t.right v) w) (lt_z0_neg (side t.left t.right v) u))
-
--- or under it, where it passes neither over it nor through it
-pub under_else : (x : ℤ) → (x ≡ pos 0 → ⊥) → lt_z x (pos 0) ≡ false → T (lt_z (pos 0) x)
-under_else x off none = go (half x)
-  where
-    go : Half x → T (lt_z (pos 0) x)
-    go (under k) = absurd (true≢false (sym (true_is (lt_z x (pos 0)) (neg_lt_z0 x k)) ∙ none))
-    go (at_least_lem k) = by_weak (weak k)
-      where
-        by_weak : Weak x → T (lt_z (pos 0) x)
-        by_weak (weak_zero e) = absurd (off e)
-        by_weak (weak_plus w) = pos_lt_z0 x w
 
 count_all : {A : Type 0} (f : A → Bool) (l : List A) → ((a : A) → a ∈ l → T (f a)) → count f l ≡ length l
 count_all f [] h = refl

@@ -1,6 +1,6 @@
 // Where an event stands in the status, and whether its neighbours there let it in. Each function looks at a few entries only: that the others stand
 // in order follows, since every two neighbours were tested when they became neighbours.
-ghost use Rattle.std.specs.Prelude.{◌≡◌, not, ◌&&◌, ◌||◌, ◌<◌, ◌≤◌, T, length, get_or};
+ghost use Rattle.std.specs.Prelude.{◌≡◌, true, not, ◌&&◌, ◌||◌, ◌<◌, ◌≤◌, T, length, get_or};
 ghost use Rattle.whole.specs.Decides.{Decides};
 ghost use Rattle.plane.specs.Plane.{in_range, segment_in_range, is_same_point, is_same_segment};
 ghost use Rattle.scene.specs.Read.{segment_at};
@@ -32,6 +32,45 @@ fn is_over(u: Segment, p: Point) -> bool
     plane::turns(u.left, u.right, p, Turn::Right)
 }
 
+// The same of a segment that may well begin or end at p: it passes through p then.
+#[tactic(auto, using(plane::proofs::Machine::turn_asks))]
+fn is_over_unless_end(u: Segment, p: Point) -> bool
+    requires { T (segment_in_range u) × T (in_range p) }
+    ensures { result ≡ passes_over u p }
+{
+    if u.left == p {
+        return false;
+    }
+    if u.right == p {
+        return false;
+    }
+    is_over(u, p)
+}
+
+// Does the box of its ends tell that p is above it?
+fn is_told_under(u: Segment, p: Point) -> bool
+    ensures { result ≡ true → passes_under u p ≡ true }
+{
+    matches!(plane::beside_box(u.left, u.right, p), Some(Turn::Left))
+}
+
+// Does it tell that p is below it?
+fn is_told_over(u: Segment, p: Point) -> bool
+    ensures { result ≡ true → passes_over u p ≡ true }
+{
+    matches!(plane::beside_box(u.left, u.right, p), Some(Turn::Right))
+}
+
+// Does the turn at the right end of one of the two tell that u is the lower?
+// Kept out of `is_lower`, of which few come here: a call in it would have it save registers each time.
+#[inline(never)]
+fn is_lower_by_turns(u: Segment, t: Segment) -> bool
+    requires { T (segment_in_range u) × T (segment_in_range t) }
+    ensures { result ≡ (passes_under u t.right || passes_over t u.right) }
+{
+    is_under(u, t.right) || is_over(t, u.right)
+}
+
 // Is it the lower of itself and t at the right?
 // Asked first is the one whose end lies within the width of the other: the box tells that, and of entries in order the answer is yes at once.
 #[tactic(auto, using(plane::proofs::Compared::same_points))]
@@ -43,10 +82,13 @@ fn is_lower(u: Segment, t: Segment) -> bool
         return true;
     }
     if t.right.x <= u.right.x {
-        is_under(u, t.right) || is_over(t, u.right)
-    } else {
-        is_over(t, u.right) || is_under(u, t.right)
+        if is_told_under(u, t.right) {
+            return true;
+        }
+    } else if is_told_over(t, u.right) {
+        return true;
     }
+    is_lower_by_turns(u, t)
 }
 
 // Does it belong under t, which begins, and is it the lower of the two at the right? Own: it is of the same object.
@@ -75,8 +117,15 @@ pub struct Entries<'a> {
     pub ghost readable: { Readable bytes.now offsets.now },
 }
 
-// With fewer entries than these, a search costs no more than a look at two places.
-const FEW: usize = 32;
+// With fewer entries than these, a search costs no more than a look at two places. With 32 in its place the calls took 1.02 times the instructions.
+const FEW: usize = 8;
+
+// Between which places one is looked for, from low to high.
+#[derive(Clone, Copy)]
+struct Span {
+    low: usize,
+    high: usize,
+}
 
 impl<'a> Entries<'a> {
     // The segment of the entry i.
@@ -116,52 +165,48 @@ impl<'a> Entries<'a> {
         high
     }
 
-    // A place for p among all entries.
-    pub fn first_over(self, p: Point) -> usize
+    // Where to look for a place for p, by a hint, the place of the event before: there and just above it are looked at first, since where several halfsegments
+    // meet at a point, the next one is there.
+    fn span_near(self, p: Point, hint: usize) -> Span
         requires { T (in_range p) }
-        ensures { Place self.entry.bytes.now self.entry.offsets.now p result }
-    {
-        self.search(p, 0, self.offsets.len())
-    }
-
-    // A place for p from low on, the entry just below which does not pass over p: looked for first at low, and just above it.
-    fn from_place(self, p: Point, low: usize) -> usize
-        requires { T (in_range p) × Bracket self.bytes.now self.offsets.now p low (length self.offsets.now) }
-        ensures { Place self.entry.bytes.now self.entry.offsets.now p result }
+        ensures { Bracket self.entry.bytes.now self.entry.offsets.now p result.low result.high }
     {
         let n = self.offsets.len();
-        if low == n {
-            return n;
+        if n < FEW || n < hint {
+            return Span { low: 0, high: n };
         }
-        if self.is_over(low, p) {
-            return low;
+        if hint != 0 && is_over_unless_end(self.segment(hint - 1), p) {
+            return Span {
+                low: 0,
+                high: hint - 1,
+            };
         }
-        if low + 1 == n {
-            return n;
+        if hint == n || self.is_over(hint, p) {
+            return Span {
+                low: hint,
+                high: hint,
+            };
         }
-        if self.is_over(low + 1, p) {
-            return low + 1;
+        if hint + 1 == n || self.is_over(hint + 1, p) {
+            return Span {
+                low: hint + 1,
+                high: hint + 1,
+            };
         }
-        self.search(p, low + 2, n)
+        Span {
+            low: hint + 2,
+            high: n,
+        }
     }
 
-    // A place for p, looked for first at a hint, the place of the event before, and just above it: where several halfsegments meet at a point, the next one
-    // is there.
+    // A place for p, looked for first at a hint.
+    // Kept with one search, from wherever the looks at the hint lead: with a search for each the calls took 1.02 times the instructions.
     pub fn find(self, p: Point, hint: usize) -> usize
         requires { T (in_range p) }
         ensures { Place self.entry.bytes.now self.entry.offsets.now p result }
     {
-        let n = self.offsets.len();
-        if n < FEW || n < hint {
-            return self.first_over(p);
-        }
-        if hint == 0 {
-            return self.from_place(p, 0);
-        }
-        if self.is_over(hint - 1, p) {
-            return self.search(p, 0, hint - 1);
-        }
-        self.from_place(p, hint)
+        let span = self.span_near(p, hint);
+        self.search(p, span.low, span.high)
     }
 
     // ---- a place for a segment, and a place that falls free

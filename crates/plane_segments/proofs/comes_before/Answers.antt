@@ -34,21 +34,14 @@ module _ (h k : Halfsegment) where
     other_side true e f = rw (same_not_before (dominating h) (dominating k) same, same, e, f)
     other_side false e f = rw (same_not_before (dominating h) (dominating k) same, same, e, f)
 
--- both ends of a halfsegment in range are within the range of doubled coordinates
-module _ (h : Halfsegment) (t : T (segment_in_range h.segment)) where
-  chosen : (b : Bool) (p q : Point) → T (within (2 * limit) p) → T (within (2 * limit) q) → T (within (2 * limit) (choose b p q))
-  chosen true p q u v = u
-  chosen false p q u v = v
+-- the far end of a halfsegment in range is within the range of doubled coordinates
+chosen : (b : Bool) (p q : Point) → T (within (2 * limit) p) → T (within (2 * limit) q) → T (within (2 * limit) (choose b p q))
+chosen true p q u v = u
+chosen false p q u v = v
 
-  dominating_in : T (within (2 * limit) (dominating h))
-  unfolding dominating
-  dominating_in =
-      chosen h.is_left h.segment.left h.segment.right (left_in_doubled h.segment t) (right_in_doubled h.segment t)
-
-  far_in : T (within (2 * limit) (far_end h))
-  unfolding far_end
-  far_in =
-      chosen h.is_left h.segment.right h.segment.left (right_in_doubled h.segment t) (left_in_doubled h.segment t)
+far_in : (h : Halfsegment) → T (segment_in_range h.segment) → T (within (2 * limit) (far_end h))
+unfolding far_end
+far_in h t = chosen h.is_left h.segment.right h.segment.left (right_in_doubled h.segment t) (left_in_doubled h.segment t)
 
 -- what `p != q` answers, of the dominating points themselves
 differ_is : (h k : Halfsegment) (p q : Point) → p ≡ dominating h → q ≡ dominating k → not (int_eq p.x q.x && int_eq p.y q.y) ≡ not (is_same_point (dominating h) (dominating k))
@@ -56,9 +49,9 @@ differ_is h k p q e f = ap not (same_points p q ∙ ap₂ is_same_point e f)
 
 pub turns-requires : goal.turns-requires
 turns-requires c = (
-  rw c.dominating_point-p.ensures (dominating_in c.args.h c.requires.0),
-  rw c.far_end.ensures (far_in c.args.h c.requires.0),
-  rw c.far_end-else-h-k.ensures (far_in c.args.k c.requires.1),
+  left_in_doubled c.args.h.segment c.requires.0,
+  right_in_doubled c.args.h.segment c.requires.0,
+  rw c.far_end.ensures (far_in c.args.k c.requires.1),
 )
 
 pub returns-then-ne : goal.returns-then-ne
@@ -83,6 +76,6 @@ returns-else-h-k c =
     let q = c.dominating_point-q in
     let h = c.args.h in
     let k = c.args.k in
-    (rw (p.ensures, c.far_end.ensures, c.far_end-else-h-k.ensures) at c.turns.ensures)
+    (rw c.far_end.ensures at c.turns.ensures) ∙ c.left_way.ensures (far_end k)
     ∙ same_side_lem h k (not-false _ (sym (c.ne.ensures ∙ differ_is h k _ _ p.ensures q.ensures) ∙ c.if-ne.false)) k.is_left
     (beq_same h.is_left k.is_left (not-false (beq h.is_left k.is_left) c.if-h-k.false)) refl

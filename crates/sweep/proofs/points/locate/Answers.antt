@@ -1,41 +1,65 @@
--- By the entry just below the place that is found.
-use Rattle.std.proofs.Common.{◌≡◌, ℕ, ◌-◌, T, ℤ, pos, get_or, refl, sym, ap, ◌∙◌, arith}
-use Rattle.whole.specs.Count.{eq_z, bit, odd}
+-- Each turn that is asked moves one end of the part in question, or tells that the line of the entry passes through the point.
+use Rattle.std.proofs.Common.{◌≡◌, ℕ, suc, ◌+◌, ◌-◌, ◌/◌, T, ℤ, pos, get_or, refl, sym, subst, ◌∙◌, arith}
+use Rattle.std.specs.Int.Signed.{lt_z}
+use Rattle.whole.specs.Count.{eq_z, odd}
 use Rattle.whole.proofs.Logic.{is_true}
+use Rattle.plane.specs.declared.Point.{Point}
 use Rattle.plane.specs.declared.Segment.{Segment}
-use Rattle.plane.specs.Plane.{side}
-use Rattle.plane.proofs.Machine.{turn_asks, eq_z_false}
+use Rattle.plane.specs.declared.Turn.TheVariants.{Left, Straight, Right}
+use Rattle.plane.specs.Plane.{turn}
+use Rattle.plane.proofs.Machine.{turn_asks, told, left_test, left_is, is_straight, straight_is, is_right, right_is}
 use Rattle.scene.specs.Read.{segment_at}
-use Rattle.sweep_laws.specs.Lower.{passes_under}
-use Rattle.sweep_laws.specs.Located.{on_entry, between}
-use Rattle.sweep_laws.proofs.Entries.{none_below}
-use Rattle.sweep_laws.proofs.Located.{under_else}
+use Rattle.sweep_laws.specs.Lower.{passes_under, passes_over}
+use Rattle.sweep_laws.specs.Located.{on_line, on_entry, between}
 use Rattle.sweep.proofs.points.locate.Goals as goal
 
-pub returns-then-k-eq0 : goal.returns-then-k-eq0
-unfolding odd
-returns-then-k-eq0 c =
+module _ (u : Segment) (v : Point) where
+  under_it : Left ≡ turn u.left u.right v → T (passes_under u v)
+  under_it e = is_true _ (sym (told left_test (λ (z : ℤ). lt_z (pos 0) z) left_is u.left u.right v e refl))
+
+  through_it : Straight ≡ turn u.left u.right v → T (on_line u v)
+  through_it e = is_true _ (sym (told is_straight (λ (z : ℤ). eq_z z (pos 0)) straight_is u.left u.right v e refl))
+
+  over_it : Right ≡ turn u.left u.right v → T (passes_over u v)
+  over_it e = is_true _ (sym (told is_right (λ (z : ℤ). lt_z z (pos 0)) right_is u.left u.right v e refl))
+
+pub turn_from-requires : goal.turn_from-requires
+turn_from-requires c = turn_asks c.segment-u.result c.args.v c.segment-u.ensures.1 c.requires
+
+pub loop-low-preserved-in-Left : goal.loop-low-preserved-in-Left
+loop-low-preserved-in-Left c =
     let e = c.args.entries in
-    let k = c.first_over-k.result in
-    let p = c.first_over-k.ensures in
-    between k p.within (none_below e.offsets.now k (λ at. T (passes_under (segment_at e.bytes.now at) c.args.v)) c.if-k-eq0.true) p.over_it (ap (λ (m : ℕ). bit (odd m)) (sym c.if-k-eq0.true))
+    let v = c.args.v in
+    let l = c.loop-low in
+    let m = l.low + (l.high - l.low) / 2 in
+    let u = subst (λ (u : Segment). T (passes_under u v)) c.segment-u.ensures.0 (under_it c.segment-u.result v c.in-Left.ensures) in
+    let next : (i : ℕ) → suc i ≡ m + 1 → m ≡ i = λ i q. omega (arith, q) in (
+      omega (arith, c.loop-low-test.true),
+      l.invariant.1,
+      λ i q. subst (λ (k : ℕ). T (passes_under (segment_at e.bytes.now (get_or e.offsets.now k 0)) v)) (next i q) u,
+      l.invariant.3,
+    )
 
-pub turns-requires : goal.turns-requires
-turns-requires c = turn_asks c.segment-u.result c.args.v c.segment-u.ensures.1 c.requires
+pub returns-in-Straight : goal.returns-in-Straight
+returns-in-Straight c =
+    let v = c.args.v in
+    let l = c.loop-low in
+    on_entry (l.low + (l.high - l.low) / 2) (omega (arith, c.loop-low-test.true, l.invariant.1))
+    (subst (λ (u : Segment). T (on_line u v)) c.segment-u.ensures.0 (through_it c.segment-u.result v c.in-Straight.ensures)) refl
 
-pub returns-then-turns : goal.returns-then-turns
-returns-then-turns c =
-    let test_is = c.turns.ensures ∙ ap (λ (u : Segment). eq_z (side u.left u.right c.args.v) (pos 0)) c.segment-u.ensures.0 in
-    on_entry (c.first_over-k.result - 1) (omega (arith, c.first_over-k.ensures.within)) (is_true _ (sym test_is ∙ c.if-turns.true)) refl
+pub loop-low-preserved : goal.loop-low-preserved
+loop-low-preserved c =
+    let v = c.args.v in
+    let l = c.loop-low in (
+      omega arith,
+      omega (arith, c.loop-low-test.true, l.invariant.1),
+      l.invariant.2,
+      λ q. subst (λ (u : Segment). T (passes_over u v)) c.segment-u.ensures.0 (over_it c.segment-u.result v c.in-Right.ensures),
+    )
 
 pub returns : goal.returns
 unfolding odd
 returns c =
-    let e = c.args.entries in
-    let k = c.first_over-k.result in
-    let p = c.first_over-k.ensures in
-    let side_of : ℕ → ℤ = λ m. let t = segment_at e.bytes.now (get_or e.offsets.now m 0) in side t.left t.right c.args.v in
-    let test_is = c.turns.ensures ∙ ap (λ (u : Segment). eq_z (side u.left u.right c.args.v) (pos 0)) c.segment-u.ensures.0 in
-    between k p.within
-    (λ m q. let below : k - 1 ≡ m = omega arith in
-    under_else (side_of m) (eq_z_false (side_of m) (pos 0) (sym (test_is ∙ ap (λ (n : ℕ). eq_z (side_of n) (pos 0)) below) ∙ c.if-turns.false)) (p.not_below m q)) p.over_it c.from.ensures
+    let l = c.loop-low in
+    let same : l.low ≡ l.high = omega (arith, l.invariant.0, c.loop-low-test.false) in
+    between l.high l.invariant.1 (λ i q. l.invariant.2 i (q ∙ sym same)) l.invariant.3 c.from.ensures
