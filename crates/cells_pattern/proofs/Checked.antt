@@ -6,7 +6,7 @@ use Rattle.check_verdict.specs.Refusals.{Verdict}
 use Prim.Native.Nat.{ℕ, zero, suc, ◌<◌}
 use native.Mathlib.Omega.{arith}
 use mathlib.Core.Path.{◌≡◌, refl, sym, ap, ◌∙◌}
-use mathlib.Core.Bool.{Bool, true, false, ◌&&◌, cond}
+use mathlib.Core.Bool.{Bool, true, false, cond}
 use mathlib.Core.List.{List, [], ◌∷◌}
 use lib.Dec.{T, eqb}
 use lib.ListN.{length, get_or}
@@ -15,14 +15,13 @@ use Rattle.scene.specs.declared.Scene.{Scene}
 use Rattle.whole.proofs.Logic.{true_is}
 use Rattle.scene.specs.Read.{condition, decide, unless, read_scene}
 use Rattle.scene.specs.Conditions.{scene_rules, check_scene_by, check_scene}
-use Rattle.plane_dimensions.specs.declared.Dimension.TheVariants.{Area}
 use Rattle.scene.proofs.Outcomes.{never_taken}
 use Rattle.check_verdict.specs.Refusals.{verdict, settle, geometry_verdict}
 use Rattle.check_verdict.specs.SharedPoints.{CheckedMeans}
 use Rattle.check_verdict.proofs.Verdicts.{check_refused, check_read}
 use Rattle.check_verdict.proofs.CheckedMeans.{checked_means_by}
-use Rattle.cells_pattern.specs.Pattern.{first_other, not_nine, is_character, fits}
-use Rattle.cells_pattern.specs.Asked.{pattern_verdict, asked_cells, named_cells}
+use Rattle.cells_pattern.specs.Pattern.{first_other, not_nine, is_character}
+use Rattle.cells_pattern.specs.Asked.{pattern_verdict}
 use Rattle.cells_pattern.specs.Related.{pattern_rules, check_relate}
 
 -- ---- a pattern alone
@@ -65,23 +64,18 @@ module _ (p : List ℕ) where
       ap (λ b. verdict (condition NotNine (unless b 0) ∷ condition NoCharacter (first_other p 0) ∷ [])) (eq-eqb (length p) 9 nine)
       ∙ ap (λ o. verdict (condition NoCharacter o ∷ [])) (all_six p 0 (λ i h. six i (omega arith)))
 
-  -- the cells that it asks, where some matrix may fit
-  pub asked : (cells : ℕ) → Some cells ≡ asked_cells p → (length p ≡ 9) × T (fits (get_or p 8 0) Area) × (cells ≡ named_cells p)
-  unfolding asked_cells
-  asked cells e = go (eqb (length p) 9) (fits (get_or p 8 0) Area) refl e
-    where
-      go : (a b : Bool) → eqb (length p) 9 ≡ a → Some cells ≡ cond (a && b) (Some (named_cells p)) None → (length p ≡ 9) × T b × (cells ≡ named_cells p)
-      go true true nine e = (eqb-true (length p) 9 nine, tt, cc)
-      go true false nine e = absurd (not_none e)
-      go false b nine e = absurd (not_none e)
-
-  pub none_asked : asked_cells p ≡ None → length p ≡ 9 → fits (get_or p 8 0) Area ≡ false
-  unfolding asked_cells
-  none_asked e nine = go (fits (get_or p 8 0) Area) (sym (ap (λ a. cond (a && fits (get_or p 8 0) Area) (Some (named_cells p)) None) (eq-eqb (length p) 9 nine)) ∙ e)
-    where
-      go : (b : Bool) → cond b (Some (named_cells p)) None ≡ None → b ≡ false
-      go true e = absurd (not_none e)
-      go false e = refl
+-- nine positions
+pub of_nine : (P : ℕ → Type 0) → P 0 → P 1 → P 2 → P 3 → P 4 → P 5 → P 6 → P 7 → P 8 → (i : ℕ) → i < 9 → P i
+of_nine P a b c d e f g h k zero less = a
+of_nine P a b c d e f g h k (suc zero) less = b
+of_nine P a b c d e f g h k (suc (suc zero)) less = c
+of_nine P a b c d e f g h k (suc (suc (suc zero))) less = d
+of_nine P a b c d e f g h k (suc (suc (suc (suc zero)))) less = e
+of_nine P a b c d e f g h k (suc (suc (suc (suc (suc zero))))) less = f
+of_nine P a b c d e f g h k (suc (suc (suc (suc (suc (suc zero)))))) less = g
+of_nine P a b c d e f g h k (suc (suc (suc (suc (suc (suc (suc zero))))))) less = h
+of_nine P a b c d e f g h k (suc (suc (suc (suc (suc (suc (suc (suc zero)))))))) less = k
+of_nine P a b c d e f g h k (suc (suc (suc (suc (suc (suc (suc (suc (suc i))))))))) less = absurd (omega arith)
 
 -- ---- after the scene
 

@@ -1,19 +1,19 @@
 -- The answer: of the flags that a pattern wants it is that of all flags; and it is not wrong in points.
-use Rattle.std.specs.Prelude.{Err, None, Ok}
+use Rattle.std.specs.Prelude.{Err, Ok}
 use Rattle.scene.specs.Read.{CheckedScene}
 use Rattle.flags_vectors.specs.Vectors.{SceneAnswer, with_vectors}
 use Rattle.cells_pattern.specs.Related.{RelateAnswer}
-use Prim.Native.Nat.{ℕ, zero, suc, ◌^◌, ◌<◌}
+use Prim.Native.Nat.{ℕ, ◌^◌}
 use native.Mathlib.Omega.{arith}
 use mathlib.Core.Path.{◌≡◌, refl, sym, ap, ap₂, subst, ◌∙◌, fun_ext}
 use mathlib.Core.Logic.{◌↔◌, ⊎_elim}
-use mathlib.Core.Bool.{Bool, true, false, ◌||◌, cond}
+use mathlib.Core.Bool.{Bool, true, false, ◌&&◌, ◌||◌, cond}
 use mathlib.Core.List.{List}
 use lib.Dec.{T, eqb, eqb→eq}
 use lib.ListN.{length, get_or}
 use borrow.Author.Tests.{eqb-true, eq-eqb, not-false}
 use Rattle.whole.specs.Count.{◌∈◌, here, there, every, odd}
-use Rattle.whole.proofs.Logic.{is_true, refute, or_cases, every_at, every_make, some_make}
+use Rattle.whole.proofs.Logic.{is_true, refute, and_left, or_cases, every_at, every_make, some_make}
 use Rattle.plane.specs.Plane.{FractionPoint}
 use Rattle.plane_dimensions.specs.declared.Dimension.{Dimension}
 use Rattle.plane_dimensions.specs.declared.Dimension.TheVariants.{Empty, Points, Length, Area}
@@ -38,7 +38,7 @@ use Rattle.cells.proofs.Taken.{cells_right}
 use Rattle.cells_pattern.specs.Pattern.{must_be, either, is_sign, is_character, fits, Demands, position, character_for, fits_all}
 use Rattle.cells_pattern.specs.Asked.{pattern_verdict, asks, named_cell, named_cells, asked_cells}
 use Rattle.cells_pattern.specs.Related.{check_relate, answered, relate_of, relate_values, NoPatternWrong}
-use Rattle.cells_pattern.proofs.Checked.{after_scene_lem, taken_scene, relate_means, its_characters, has_characters, none_asked}
+use Rattle.cells_pattern.proofs.Checked.{after_scene_lem, taken_scene, relate_means, its_characters, has_characters, of_nine}
 use Rattle.cells_pattern.proofs.ReadOff.{asked_kept, always_area, small}
 
 part_in : (r : Part) → r ∈ parts
@@ -65,7 +65,7 @@ module _ (p : List ℕ) where
   alike m n h = ap (λ (f : Part → Part → Bool). every (λ r. every (f r) parts) parts) (fun_ext (λ r. fun_ext (λ c. h r c)))
 
   -- where EE does not fit, nothing else matters
-  misfit : fits (get_or p 8 0) Area ≡ false → (m : List (List Dimension)) → cell_at m exterior exterior ≡ Area → fits_all p m ≡ false
+  pub misfit : fits (get_or p 8 0) Area ≡ false → (m : List (List Dimension)) → cell_at m exterior exterior ≡ Area → fits_all p m ≡ false
   misfit e m is = refute (fits_all p m) (λ t. subst T (ap (fits (get_or p 8 0)) is ∙ e) (fits_at m t exterior exterior))
 
 -- ---- the cells that a pattern asks
@@ -95,34 +95,26 @@ module _ (s p : List ℕ) (sc : Scene) (taken : check_scene s ≡ Ok sc) where
   abbrev whole : List (List Dimension)
   whole = matrix_from (explored_in s sc)
 
-  abbrev read : List (List Dimension)
-  read = matrix_from (explored_by sc (vectors_in s sc (Wanted.Cells (named_cells p))))
+  abbrev read : ℕ → List (List Dimension)
+  read cells = matrix_from (explored_by sc (vectors_in s sc (Wanted.Cells cells)))
 
   -- the matrix of the flags that are wanted fits exactly if that of all flags does
-  same_fit : fits_all p read ≡ fits_all p whole
-  same_fit = alike p read whole (λ r c. each r c (asks (character_for p r c)) refl)
+  same_fit : length p ≡ 9 → fits_all p (read (asked_cells p)) ≡ fits_all p whole
+  unfolding asked_cells
+  same_fit nine =
+      ap (λ a. fits_all p (read (cond (a && fits (get_or p 8 0) Area) (named_cells p) 0))) (eq-eqb (length p) 9 nine)
+      ∙ go (fits (get_or p 8 0) Area) refl
     where
-      each : (r c : Part) (b : Bool) → asks (character_for p r c) ≡ b → fits (character_for p r c) (cell_at read r c) ≡ fits (character_for p r c) (cell_at whole r c)
+      each : (r c : Part) (b : Bool) → asks (character_for p r c) ≡ b
+          → fits (character_for p r c) (cell_at (read (named_cells p)) r c) ≡ fits (character_for p r c) (cell_at whole r c)
       each r c true e = ap (fits (character_for p r c)) (asked_kept s sc (accepted s sc taken).taken.by_types (named_cells p) r c (asked_bit p r c e))
-      each r c false e = any_fits (character_for p r c) (eqb-true (character_for p r c) either (not-false _ e)) (cell_at read r c) (cell_at whole r c)
+      each r c false e = any_fits (character_for p r c) (eqb-true (character_for p r c) either (not-false _ e)) (cell_at (read (named_cells p)) r c) (cell_at whole r c)
 
-  -- where no cell is asked it does not
-  never_fits : asked_cells p ≡ None → length p ≡ 9 → fits_all p whole ≡ false
-  never_fits none nine = misfit p (none_asked p none nine) whole (always_area sc (vectors_in s sc Wanted.All))
+      go : (b : Bool) → fits (get_or p 8 0) Area ≡ b → fits_all p (read (cond b (named_cells p) 0)) ≡ fits_all p whole
+      go true e = alike p (read (named_cells p)) whole (λ r c. each r c (asks (character_for p r c)) refl)
+      go false e = misfit p e (read 0) (always_area sc (vectors_in s sc (Wanted.Cells 0))) ∙ sym (misfit p e whole (always_area sc (vectors_in s sc Wanted.All)))
 
 -- ---- what fits is a pattern
-
-at_position : (P : ℕ → Type 0) → ((r c : Part) → P (position r c)) → (i : ℕ) → i < 9 → P i
-at_position P h zero k = h interior interior
-at_position P h (suc zero) k = h interior boundary
-at_position P h (suc (suc zero)) k = h interior exterior
-at_position P h (suc (suc (suc zero))) k = h boundary interior
-at_position P h (suc (suc (suc (suc zero)))) k = h boundary boundary
-at_position P h (suc (suc (suc (suc (suc zero))))) k = h boundary exterior
-at_position P h (suc (suc (suc (suc (suc (suc zero)))))) k = h exterior interior
-at_position P h (suc (suc (suc (suc (suc (suc (suc zero))))))) k = h exterior boundary
-at_position P h (suc (suc (suc (suc (suc (suc (suc (suc zero)))))))) k = h exterior exterior
-at_position P h (suc (suc (suc (suc (suc (suc (suc (suc (suc i))))))))) k = absurd (omega arith)
 
 fits_character : (c : ℕ) (d : Dimension) → T (fits c d) → T (is_character c)
 fits_character c d t = go (eqb c must_be) (is_sign c) (eqb c either) t
@@ -133,7 +125,12 @@ fits_character c d t = go (eqb c must_be) (is_sign c) (eqb c either) t
     go false false e t = t
 
 fitting : (p : List ℕ) (m : List (List Dimension)) → length p ≡ 9 → T (fits_all p m) → pattern_verdict p ≡ Ok tt
-fitting p m nine t = has_characters p nine (at_position (λ i. T (is_character (get_or p i 0))) (λ r c. fits_character (character_for p r c) (cell_at m r c) (fits_at p m t r c)))
+fitting p m nine t =
+    has_characters p nine
+    (of_nine (λ i. T (is_character (get_or p i 0))) (at interior interior) (at interior boundary) (at interior exterior) (at boundary interior) (at boundary boundary) (at boundary exterior) (at exterior interior) (at exterior boundary) (at exterior exterior))
+  where
+    at : (r c : Part) → T (is_character (character_for p r c))
+    at r c = fits_character (character_for p r c) (cell_at m r c) (fits_at p m t r c)
 
 -- ---- in points
 
@@ -208,9 +205,6 @@ module _ (s p : List ℕ) where
       let is : x ≡ answered s p (check_relate s p) = q ∙ ap (answered s p) (sym e) in
       (is, subst (λ (x : RelateAnswer). NoPatternWrong s p (relate_values x).holds) (sym is) no_pattern_wrong, relate_means s p)
 
-  pub refused : (r : Refusal) → check_scene s ≡ Err r → {o : RelateAnswer} → o ≡ Err r → Whole o
-  refused r e x = as_related (Err r) (after_scene_lem s p ∙ rw e) x
-
   module _ (sc : Scene) (e : check_scene s ≡ Ok sc) where
     abbrev held : Bool
     held = fits_all p (matrix_from (explored_in s sc))
@@ -226,22 +220,24 @@ module _ (s p : List ℕ) where
         go (Err r) q x = as_related (Err r) (after_scene_lem s p ∙ rw (e, q)) x
         go (Ok tt) q x = subst Whole (sym x) (holding q (sym (misfits q)))
 
-    pub unasked : asked_cells p ≡ None → {o : RelateAnswer} → o ≡ settle Err (pattern_verdict p) (Ok false) → Whole o
-    unasked none x = not_holding (λ q. never_fits s p sc e none (its_characters p q).0) x
-
-  module _ (cells : ℕ) (named : cells ≡ named_cells p) {a : SceneAnswer} (is : a ≡ answer_of s (Wanted.Cells cells)) where
+  module _ {a : SceneAnswer} (is : a ≡ answer_of s (Wanted.Cells (asked_cells p))) where
     pub scene_refused : (r : Refusal) → a ≡ Err r → {o : RelateAnswer} → o ≡ Err r → Whole o
-    scene_refused r e x = refused r (was_refused (Wanted.Cells cells) (cells_tidy cells) s is r e) x
+    scene_refused r e x = as_related (Err r) (after_scene_lem s p ∙ rw (was_refused (Wanted.Cells (asked_cells p)) (cells_tidy (asked_cells p)) s is r e)) x
 
-    module _ (sc : Scene) (v : Vectors) (e : a ≡ Ok (with_vectors sc v)) where
-      pub its : (check_scene s ≡ Ok sc) × (v ≡ vectors_in s sc (Wanted.Cells cells))
-      its = was_taken (Wanted.Cells cells) (cells_tidy cells) s is sc v e
+    module _ (sc : Scene) (v : Vectors) (e : a ≡ Ok (with_vectors sc v)) {b : Bool} (h : b ≡ (eqb (length p) 9 && fits_all p (matrix_from (explored_by sc v)))) where
+      its : (check_scene s ≡ Ok sc) × (v ≡ vectors_in s sc (Wanted.Cells (asked_cells p)))
+      its = was_taken (Wanted.Cells (asked_cells p)) (cells_tidy (asked_cells p)) s is sc v e
 
-      pub is_held : {holds : Bool} → holds ≡ fits_all p (matrix_from (explored_by sc v)) → holds ≡ held sc its.0
-      is_held h = h ∙ ap (λ (v : Vectors). fits_all p (matrix_from (explored_by sc v))) (its.1 ∙ ap (λ n. vectors_in s sc (Wanted.Cells n)) named) ∙ same_fit s p sc its.0
+      is_held : length p ≡ 9 → b ≡ held sc its.0
+      is_held nine =
+          h
+          ∙ ap₂ ◌&&◌ (eq-eqb (length p) 9 nine) (ap (λ (v : Vectors). fits_all p (matrix_from (explored_by sc v))) its.1 ∙ same_fit s p sc its.0 nine)
 
-      pub holds : length p ≡ 9 → {b : Bool} → b ≡ fits_all p (matrix_from (explored_by sc v)) → b ≡ true → Whole (Ok true)
-      holds nine h t = holding sc its.0 (fitting p (matrix_from (explored_in s sc)) nine (is_true _ (sym (is_held h) ∙ t))) (sym t ∙ is_held h)
+      pub holds : b ≡ true → Whole (Ok true)
+      holds t =
+          let nine = eqb→eq (length p) 9 (and_left (eqb (length p) 9) (fits_all p (matrix_from (explored_by sc v))) (is_true _ (sym h ∙ t))) in
+          let yes = sym (is_held nine) ∙ t in
+          holding sc its.0 (fitting p (matrix_from (explored_in s sc)) nine (is_true _ yes)) (sym yes)
 
-      pub holds_not : {b : Bool} → b ≡ fits_all p (matrix_from (explored_by sc v)) → b ≡ false → {o : RelateAnswer} → o ≡ settle Err (pattern_verdict p) (Ok false) → Whole o
-      holds_not h f x = not_holding sc its.0 (λ q. sym (is_held h) ∙ f) x
+      pub holds_not : b ≡ false → {o : RelateAnswer} → o ≡ settle Err (pattern_verdict p) (Ok false) → Whole o
+      holds_not f x = not_holding sc its.0 (λ q. sym (is_held (its_characters p q).0) ∙ f) x

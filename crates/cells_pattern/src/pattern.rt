@@ -1,11 +1,11 @@
 // A pattern, read where its bytes stand: the cells that it asks, whether a matrix fits it, and what is turned away.
 #![tactic(auto)]
 
-ghost use Rattle.std.specs.Prelude.{◌≡◌, ◌+◌, ◌<◌, [], Ok, Err, T, false, get_or, length};
+ghost use Rattle.std.specs.Prelude.{◌≡◌, ◌+◌, ◌<◌, ◌&&◌, [], Ok, Err, false, eqb, get_or, length};
 ghost use Rattle.plane_dimensions.specs.declared.Dimension.TheVariants.{Empty, Area};
 ghost use Rattle.check_verdict.specs.Refusals.{settle};
 ghost use Rattle.cells_pattern.specs.Pattern.{fits, fits_row, fits_all, is_character};
-ghost use Rattle.cells_pattern.specs.Asked.{asked_cells, pattern_verdict};
+ghost use Rattle.cells_pattern.specs.Asked.{may_hold, asked_cells, pattern_verdict};
 
 use plane_dimensions::Dimension;
 use plane_dimensions::Dimension::{Area, Empty, Length, Points};
@@ -31,13 +31,20 @@ fn fits_row(p: &[u8], at: usize, row: [Dimension; 3]) -> bool
     fits(p[at], row[0]) & fits(p[at + 1], row[1]) & fits(p[at + 2], row[2])
 }
 
-// A bit for each cell that is asked; nothing where no matrix fits, since the characters are not nine or the last of them does not take an area, which EE has.
+// May a matrix fit? The characters are nine, and the last of them takes an area, which EE has.
+fn may_hold(p: &[u8]) -> bool
+    ensures { result ≡ may_hold p.now }
+{
+    p.len() == 9 && fits(p[8], Area)
+}
+
+// A bit for each cell that is asked, none where no matrix fits.
 #[tactic(auto, unfolding(crate::specs::Asked::asked_cells))]
-pub fn asked_cells(p: &[u8]) -> Option<u16>
+pub fn asked_cells(p: &[u8]) -> u16
     ensures { result ≡ asked_cells p.now }
 {
-    if p.len() != 9 || !fits(p[8], Area) {
-        return None;
+    if !may_hold(p) {
+        return 0;
     }
     let mut cells: u16 = 0;
     for at in 0..9 {
@@ -45,19 +52,41 @@ pub fn asked_cells(p: &[u8]) -> Option<u16>
             cells |= 1 << at;
         }
     }
-    Some(cells)
+    cells
 }
 
-// Do all nine cells fit, row by row? Of EE it is known.
+// Are there nine characters, and do all nine cells fit, row by row? EE has an area.
+// Kept out of its caller, where the cells would be gathered byte by byte.
+#[inline(never)]
 #[tactic(auto, unfolding(crate::specs::Pattern::fits_all))]
 pub fn fits_all(p: &[u8], m: [[Dimension; 3]; 3]) -> bool
-    requires { (length p.now ≡ 9) × T (fits (get_or p.now 8 0) Area) × (get_or (get_or m 2 []) 2 Empty ≡ Area) }
-    ensures { result ≡ fits_all p.now m }
+    requires { get_or (get_or m 2 []) 2 Empty ≡ Area }
+    ensures { result ≡ (eqb (length p.now) 9 && fits_all p.now m) }
 {
-    fits_row(p, 0, m[0]) & fits_row(p, 3, m[1]) & fits(p[6], m[2][0]) & fits(p[7], m[2][1])
+    may_hold(p)
+        && fits_row(p, 0, m[0]) & fits_row(p, 3, m[1]) & fits(p[6], m[2][0]) & fits(p[7], m[2][1])
 }
 
-// The answer where no cells fit: 22, then 23 at the first character outside the six, and no.
+// One of the six?
+fn is_character(byte: u8) -> bool
+    ensures { result ≡ is_character byte }
+{
+    (byte == b'T')
+        | (byte == b'F')
+        | (byte == b'0')
+        | (byte == b'1')
+        | (byte == b'2')
+        | (byte == b'*')
+}
+
+fn is_row(p: &[u8], at: usize) -> bool
+    requires { at + 2 < length p.now }
+    ensures { result ≡ (is_character (get_or p.now at 0) && is_character (get_or p.now (at + 1) 0) && is_character (get_or p.now (at + 2) 0)) }
+{
+    is_character(p[at]) & is_character(p[at + 1]) & is_character(p[at + 2])
+}
+
+// The answer where no matrix fits: 22, then 23 at the first character outside the six, and no. It is looked for only where there is one.
 #[tactic(auto, unfolding(crate::specs::Asked::pattern_verdict))]
 pub fn misfit(p: &[u8]) -> Result<bool, Refusal>
     ensures { result ≡ settle Err (pattern_verdict p.now) (Ok false) }
@@ -65,8 +94,11 @@ pub fn misfit(p: &[u8]) -> Result<bool, Refusal>
     if p.len() != 9 {
         return Reason::NotNine.at(0);
     }
+    if is_row(p, 0) & is_row(p, 3) & is_row(p, 6) {
+        return Ok(false);
+    }
     for (place, byte) in p.iter().enumerate() {
-        if !matches!(*byte, b'T' | b'F' | b'0' | b'1' | b'2' | b'*') {
+        if !is_character(*byte) {
             return Reason::NoCharacter.at(place);
         }
     }

@@ -16,11 +16,7 @@ pub fn relate(s: &[u8], p: &[u8]) -> Result<bool, Refusal>
         × NoPatternWrong s.now p.now (relate_values result).holds
         × CheckedMeans s.now (check_relate s.now p.now) }
 {
-    let Some(cells) = pattern::asked_cells(p) else {
-        check_verdict::check_scene(s)?;
-        return pattern::misfit(p);
-    };
-    let answer = question::answer(s, Wanted::Cells(cells))?;
+    let answer = question::answer(s, Wanted::Cells(pattern::asked_cells(p)))?;
     let explored = cells::question::explored(answer.scene, answer.vectors);
     if pattern::fits_all(p, table::matrix(explored)) {
         Ok(true)

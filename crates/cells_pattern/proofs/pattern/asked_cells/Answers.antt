@@ -1,12 +1,12 @@
 -- `cells_pattern::pattern::asked_cells` meets its contract: a character other than "*" gives its cell's bit, and "*" gives none.
-use Rattle.std.proofs.Common.{arith, ℕ, ◌*◌, ◌%◌, ◌<◌, ◌≡◌, ◌^◌, ◌∙◌, not, cond, sym, ap, get_or, Some}
+use Rattle.std.proofs.Common.{arith, ℕ, ◌*◌, ◌%◌, ◌<◌, ◌≡◌, ◌^◌, ◌∙◌, not, cond, sym, ap, get_or}
 use Rattle.std.proofs.Math.Pow.{pow_mono}
 use lib.Bits.{or_zero_r}
 use lib.Dec.{eqb, eqb→eq}
 use borrow.Author.Tests.{eq-eqb}
 use Rattle.whole.proofs.Logic.{refute}
 use Rattle.flags.proofs.Marks.{gathered_one, gathered_all}
-use Rattle.cells_pattern.specs.Asked.{named_cell, asked_cells}
+use Rattle.cells_pattern.specs.Asked.{named_cell, named_cells, asked_cells}
 use Rattle.cells_pattern.proofs.pattern.asked_cells.Goals as goal
 use Rattle.cells_pattern.proofs.pattern.asked_cells.Goals.{then-p-at-ne42, else-p-at-ne42}
 
@@ -26,4 +26,4 @@ loop-at-preserved c =
 
 pub returns : goal.returns
 unfolding asked_cells
-returns c = ap Some (gathered_all _ 9 c.loop-at.invariant.named (omega arith)) ∙ sym (rw (c.if-p-ne9.false, sym c.fits.ensures ∙ c.if-not-fits.false))
+returns c = gathered_all _ 9 c.loop-at.invariant.named (omega arith) ∙ ap (λ b. cond b (named_cells c.args.p.now) 0) (sym (sym c.may_hold.ensures ∙ c.if-not-may_hold.false))

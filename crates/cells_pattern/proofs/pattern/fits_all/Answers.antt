@@ -1,22 +1,17 @@
--- `cells_pattern::pattern::fits_all` meets its contract: EE fits, since it has an area.
-use Rattle.std.proofs.Common.{◌≡◌, ◌∙◌, [], Bool, true, false, ◌&&◌, T, refl, sym, ap, ap₂, subst}
-use Rattle.std.specs.Prelude.{get_or}
-use Rattle.plane_dimensions.specs.declared.Dimension.TheVariants.{Empty}
+-- `cells_pattern::pattern::fits_all` meets its contract: where no matrix fits, this one does not.
+use Rattle.std.proofs.Common.{◌≡◌, ◌∙◌, Bool, true, false, ◌&&◌, refl, sym, length}
+use Rattle.std.specs.Prelude.{eqb, get_or}
+use Rattle.plane_dimensions.specs.declared.Dimension.TheVariants.{Area}
 use Rattle.cells_pattern.specs.Pattern.{fits, fits_all}
+use Rattle.cells_pattern.proofs.Related.{misfit}
 use Rattle.cells_pattern.proofs.pattern.fits_all.Goals as goal
 
--- with EE
-four : (a b c d e : Bool) → T e → ((a && b) && c) && d ≡ a && (b && ((c && (d && (e && true))) && true))
-four false b c d e t = refl
-four true false c d e t = refl
-four true true false d e t = refl
-four true true true false e t = refl
-four true true true true true t = refl
-four true true true true false t = absurd t
+no_longer : (a b f : Bool) → (b ≡ false → f ≡ false) → a && b ≡ false → false ≡ a && f
+no_longer false b f h e = refl
+no_longer true b f h e = sym (h e)
 
-pub returns : goal.returns
-unfolding fits_all
-returns c =
+pub returns-else-may_hold : goal.returns-else-may_hold
+returns-else-may_hold c =
     let p = c.args.p.now in
-    four c.fits_row.result c.fits_row-2.result c.fits.result c.fits-2.result (fits (get_or p 8 0) (get_or (get_or c.args.m 2 []) 2 Empty)) (subst (λ d. T (fits (get_or p 8 0) d)) (sym c.requires.2) c.requires.1)
-    ∙ ap₂ ◌&&◌ c.fits_row.ensures (ap₂ ◌&&◌ c.fits_row-2.ensures (ap (λ b. b && true) (ap₂ ◌&&◌ c.fits.ensures (ap (λ b. b && (fits (get_or p 8 0) (get_or (get_or c.args.m 2 []) 2 Empty) && true)) c.fits-2.ensures))))
+    c.if-may_hold.false
+    ∙ no_longer (eqb (length p) 9) (fits (get_or p 8 0) Area) (fits_all p c.args.m) (λ e. misfit p e c.args.m c.requires) (sym c.may_hold.ensures ∙ c.if-may_hold.false)
