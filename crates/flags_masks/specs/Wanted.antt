@@ -47,6 +47,10 @@ cell_masks =
     ∷ ((60, 12) ∷ (0, 12) ∷ (67, 12) ∷ (12, 0) ∷ (240, 0) ∷ (3, 0) ∷ (76, 3) ∷ (0, 3) ∷ (0, 0) ∷ [])
     ∷ []
 
+-- an entry as the code has it
+abbrev pub entry_of : ℕ × ℕ → FlagMasks
+entry_of p = record { f = p.0; g = p.1 }
+
 -- a cell's place in the row of its pair of types: where the objects were exchanged, rows are columns
 abbrev pub place_in : Bool → ℕ → ℕ
 place_in exchanged at = cond exchanged (at % 3 * 3 + at / 3) at

@@ -1,9 +1,9 @@
 // The wanted masks: which flags each pair of types has, which of them are wanted, and whether a wanted bit has no flag; and the flags that a cell of the matrix is read off.
 #![tactic(auto)]
 
-ghost use Rattle.std.specs.Prelude.{◌≡◌, ◌<◌};
+ghost use Rattle.std.specs.Prelude.{◌≡◌, cond, map, ◌<◌, get_or};
 ghost use Rattle.scene.specs.Read.{shape_number};
-ghost use Rattle.flags_masks.specs.Wanted.{mask_of_f, mask_of_g, place_in, cell_masks_in, is_nothing, masks_for, any_stray, exceeds, meets};
+ghost use Rattle.flags_masks.specs.Wanted.{mask_of_f, mask_of_g, entry_of, place_in, cell_masks_in, is_nothing, masks_for, any_stray, exceeds, meets};
 
 use scene::{Scene, Shape};
 
@@ -78,87 +78,80 @@ pub fn masks_of(f: Shape, g: Shape) -> FlagMasks
     }
 }
 
-// The flags that each cell is read off, of F and of G: a row for each pair of types, and in it the cells row by row.
-// Kept as one table of numbers, as the definition has it: a cell's entry is then read where it stands.
-const CELL_MASKS: [[(u16, u16); 9]; 9] = [
-    [
-        (2, 0),
-        (0, 0),
-        (1, 0),
-        (0, 0),
-        (0, 0),
-        (0, 0),
-        (0, 1),
-        (0, 0),
-        (0, 0),
-    ],
-    [
-        (2, 0),
-        (4, 0),
-        (1, 0),
-        (0, 0),
-        (0, 0),
-        (0, 0),
-        (0, 0),
-        (0, 1),
-        (0, 0),
-    ],
-    [
-        (1, 0),
-        (2, 0),
-        (4, 0),
-        (0, 0),
-        (0, 0),
-        (0, 0),
-        (0, 0),
-        (0, 0),
-        (0, 0),
-    ],
-    [(0, 0); 9],
-    [
-        (3, 0),
-        (0, 2),
-        (4, 0),
-        (8, 0),
-        (16, 0),
-        (32, 0),
-        (0, 1),
-        (0, 4),
-        (0, 0),
-    ],
-    [
-        (1, 0),
-        (10, 0),
-        (4, 0),
-        (16, 0),
-        (32, 0),
-        (64, 0),
-        (0, 0),
-        (0, 1),
-        (0, 0),
-    ],
-    [(0, 0); 9],
-    [(0, 0); 9],
-    [
-        (60, 12),
-        (0, 12),
-        (67, 12),
-        (12, 0),
-        (240, 0),
-        (3, 0),
-        (76, 3),
-        (0, 3),
-        (0, 0),
-    ],
-];
-
-// The row of a scene's pair of types.
-fn cell_masks(scene: Scene) -> [(u16, u16); 9]
-    ensures { result ≡ cell_masks_in scene }
+// The flags that each cell of a scene's pair of types is read off, row by row.
+fn cell_masks(scene: Scene) -> [FlagMasks; 9]
+    ensures { result ≡ map entry_of (cell_masks_in scene) }
 {
-    let f = u8::from(scene.f.shape) as usize;
-    let g = u8::from(scene.g.shape) as usize;
-    CELL_MASKS[(f - 1) * 3 + (g - 1)]
+    match (scene.f.shape, scene.g.shape) {
+        (Shape::Points, Shape::Points) => [
+            FlagMasks { f: 2, g: 0 },
+            FlagMasks::NONE,
+            FlagMasks { f: 1, g: 0 },
+            FlagMasks::NONE,
+            FlagMasks::NONE,
+            FlagMasks::NONE,
+            FlagMasks { f: 0, g: 1 },
+            FlagMasks::NONE,
+            FlagMasks::NONE,
+        ],
+        (Shape::Points, Shape::Line) => [
+            FlagMasks { f: 2, g: 0 },
+            FlagMasks { f: 4, g: 0 },
+            FlagMasks { f: 1, g: 0 },
+            FlagMasks::NONE,
+            FlagMasks::NONE,
+            FlagMasks::NONE,
+            FlagMasks::NONE,
+            FlagMasks { f: 0, g: 1 },
+            FlagMasks::NONE,
+        ],
+        (Shape::Points, Shape::Region) => [
+            FlagMasks { f: 1, g: 0 },
+            FlagMasks { f: 2, g: 0 },
+            FlagMasks { f: 4, g: 0 },
+            FlagMasks::NONE,
+            FlagMasks::NONE,
+            FlagMasks::NONE,
+            FlagMasks::NONE,
+            FlagMasks::NONE,
+            FlagMasks::NONE,
+        ],
+        (Shape::Line, Shape::Line) => [
+            FlagMasks { f: 3, g: 0 },
+            FlagMasks { f: 0, g: 2 },
+            FlagMasks { f: 4, g: 0 },
+            FlagMasks { f: 8, g: 0 },
+            FlagMasks { f: 16, g: 0 },
+            FlagMasks { f: 32, g: 0 },
+            FlagMasks { f: 0, g: 1 },
+            FlagMasks { f: 0, g: 4 },
+            FlagMasks::NONE,
+        ],
+        (Shape::Line, Shape::Region) => [
+            FlagMasks { f: 1, g: 0 },
+            FlagMasks { f: 10, g: 0 },
+            FlagMasks { f: 4, g: 0 },
+            FlagMasks { f: 16, g: 0 },
+            FlagMasks { f: 32, g: 0 },
+            FlagMasks { f: 64, g: 0 },
+            FlagMasks::NONE,
+            FlagMasks { f: 0, g: 1 },
+            FlagMasks::NONE,
+        ],
+        (Shape::Region, Shape::Region) => [
+            FlagMasks { f: 60, g: 12 },
+            FlagMasks { f: 0, g: 12 },
+            FlagMasks { f: 67, g: 12 },
+            FlagMasks { f: 12, g: 0 },
+            FlagMasks { f: 240, g: 0 },
+            FlagMasks { f: 3, g: 0 },
+            FlagMasks { f: 76, g: 3 },
+            FlagMasks { f: 0, g: 3 },
+            FlagMasks::NONE,
+        ],
+        (Shape::Line, Shape::Points) | (Shape::Region, Shape::Points | Shape::Line) =>
+            [FlagMasks::NONE; 9],
+    }
 }
 
 // Where a cell of the caller's stands in the row of its pair: with the objects exchanged, rows are columns.
@@ -182,9 +175,9 @@ fn masks_of_cells(cells: u16, scene: Scene) -> FlagMasks
     let mut g: u16 = 0;
     for at in 0..9 {
         if flags::has_bit(cells, at) {
-            let (of_f, of_g) = row[cell_place(turned, at)];
-            f |= of_f;
-            g |= of_g;
+            let masks = row[cell_place(turned, at)];
+            f |= masks.f;
+            g |= masks.g;
         }
     }
     FlagMasks { f, g }
