@@ -9,7 +9,7 @@ const BATCHES: usize = 5;
 const BATCH: f64 = 4_000.0;
 const MOST: f64 = 2_000_000.0;
 /// The length of a short batch.
-const SHORT: f64 = 500.0;
+const SHORT: f64 = 300.0;
 
 #[repr(C)]
 #[derive(Default)]

@@ -124,7 +124,7 @@ fn growth(results: &Results) -> String {
     text
 }
 
-/// Patterns beside the cells in every row, and beside GEOS's pattern from the same bytes.
+/// Patterns beside the cells in every row, and beside GEOS's pattern from the same bytes; and both patterns beside the cells in instructions.
 fn patterns(results: &Results) -> String {
     let new = &results.versions[0];
     let mut text = format!(
@@ -132,20 +132,30 @@ fn patterns(results: &Results) -> String {
          Beside GEOS {new} from the same bytes: build, validity, `GEOSRelatePattern` with the same pattern as (w).\n\n\
          | ratio | segments | rows | median | most | rows above 1.05 |\n|---|---|---|---|---|---|\n"
     );
-    let mut line = |what: &str, size: usize, ratio: &dyn Fn(&Times) -> Option<f64>| {
-        let all: Vec<(String, f64)> =
-            rows(results, size).iter().filter_map(|(family, kinds, times)| Some((title(family, *kinds), ratio(times)?))).collect();
-        let ratios: Vec<f64> = all.iter().map(|(_, ratio)| *ratio).collect();
-        let above = ratios.iter().filter(|ratio| **ratio > 1.05).count();
-        let (name, most) = worst(&all);
-        let _ = writeln!(text, "| {what} | {size} | {} | {:.3} | {most:.2}, {name} | {above} |", all.len(), median(&ratios));
-    };
     for size in SIZES {
-        line("(p)/(a)", size, &|times| Some(times.nine / times.cells));
-        line("(w)/(a)", size, &|times| Some(times.within / times.cells));
-        line("(w)/GEOS", size, &|times| times.new.right.then_some(times.within / times.new.pattern));
+        text += &pattern_line(results, "(p)/(a)", size, 1.05, &|_, times| Some(times.nine / times.cells));
+        text += &pattern_line(results, "(w)/(a)", size, 1.05, &|_, times| Some(times.within / times.cells));
+        text += &pattern_line(results, "(w)/GEOS", size, 1.05, &|_, times| times.new.right.then_some(times.within / times.new.pattern));
+    }
+    text += "\nThe same in instructions, one call each, which do not depend on the machine's moments:\n\n| ratio | segments | rows | median | most | rows above 1 |\n|---|---|---|---|---|---|\n";
+    let counted = |row: &str, which: usize| results.pattern_counts.get(row).map(|counts| counts[which] as f64 / counts[0] as f64);
+    for size in SIZES {
+        text += &pattern_line(results, "(p)/(a)", size, 1.0, &|row, _| counted(row, 1));
+        text += &pattern_line(results, "(w)/(a)", size, 1.0, &|row, _| counted(row, 2));
     }
     text
+}
+
+/// A ratio over the rows of one size: the median, the largest, and how many rows are above a limit.
+fn pattern_line(results: &Results, what: &str, size: usize, limit: f64, ratio: Ratio) -> String {
+    let all: Vec<(String, f64)> = rows(results, size)
+        .iter()
+        .filter_map(|(family, kinds, times)| Some((title(family, *kinds), ratio(&name(family, *kinds, size), times)?)))
+        .collect();
+    let ratios: Vec<f64> = all.iter().map(|(_, ratio)| *ratio).collect();
+    let above = ratios.iter().filter(|ratio| **ratio > limit).count();
+    let (name, most) = worst(&all);
+    format!("| {what} | {size} | {} | {:.3} | {most:.3}, {name} | {above} |\n", all.len(), median(&ratios))
 }
 
 fn ground(results: &Results) -> String {

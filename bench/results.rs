@@ -127,6 +127,8 @@ pub struct Results {
     pub versions: [String; 2],
     pub times: HashMap<String, Times>,
     pub counts: [HashMap<String, u64>; 2],
+    /// The instructions of a row's cells, of its own pattern and of "within".
+    pub pattern_counts: HashMap<String, [u64; 3]>,
     pub compared: [Vec<Compared>; 2],
     pub turns: Vec<Turns>,
     pub summaries: Vec<Summaries>,
@@ -169,6 +171,10 @@ fn times(directory: &Path) -> HashMap<String, Times> {
 
 fn counts(directory: &Path, file: &str) -> HashMap<String, u64> {
     lines(directory, file, "count").iter().map(|words| (words[0].clone(), number(&words[1]))).collect()
+}
+
+fn pattern_counts(directory: &Path) -> HashMap<String, [u64; 3]> {
+    lines(directory, "count-patterns", "count").iter().map(|words| (words[0].clone(), [1, 2, 3].map(|column| number(&words[column])))).collect()
 }
 
 fn compared(directory: &Path, file: &str) -> Vec<Compared> {
@@ -247,6 +253,7 @@ pub fn read(directory: &Path) -> Results {
         versions: [version("time-new"), version("time-old")],
         times: times(directory),
         counts: [counts(directory, "count-ours"), counts(directory, "count-geos")],
+        pattern_counts: pattern_counts(directory),
         compared: [compared(directory, "compared-new"), compared(directory, "compared-old")],
         turns: turns(directory),
         summaries: summaries(directory),

@@ -1,6 +1,5 @@
 -- What the proofs of the line share.
 pub mod Decimal
 pub mod Numbered
-pub mod Lent
 pub mod FirstBytes
 pub mod Examples

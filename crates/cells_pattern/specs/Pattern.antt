@@ -1,10 +1,9 @@
 -- An OGC relate pattern: document 02's Paper 7, "a scene and an OGC relate pattern of nine characters, row by row: T for a cell that must be yes, F for no, * for
 -- either. The answer is yes exactly when all nine cells fit"; and its Paper 8, "In patterns T means any but F, the digits 0, 1 and 2 may stand".
-use Rattle.scene.specs.declared.Reason.{Reason}
 use Rattle.scene.specs.declared.Reason.TheVariants.{NotNine, NoCharacter}
-use Rattle.std.specs.Prelude.{Result, Ok, Err, None, Some}
+use Rattle.std.specs.Prelude.{None, Some}
 use Rattle.scene.specs.Read.{Fault}
-use Rattle.std.specs.Prelude.{ℕ, suc, ◌+◌, ◌*◌, ◌≡◌, Bool, true, false, ◌||◌, cond, List, [], ◌∷◌, eqb, length, get_or}
+use Rattle.std.specs.Prelude.{ℕ, suc, ◌+◌, ◌*◌, ◌≡◌, Bool, ◌||◌, cond, List, [], ◌∷◌, eqb, length, get_or}
 use Rattle.whole.specs.Count.{every}
 use Rattle.plane.specs.Plane.{FractionPoint}
 use Rattle.plane_dimensions.specs.declared.Dimension.{Dimension}
@@ -12,8 +11,6 @@ use Rattle.plane_dimensions.specs.declared.Dimension.TheVariants.{Empty, Points,
 use Rattle.plane_dimensions.specs.Dimensions.{Value, sign, not_empty}
 use Rattle.scene.specs.Read.{Condition, condition, unless}
 use Rattle.cells_matrix.specs.Matrix.{Part, index, parts}
-use Rattle.cells_pattern.specs.declared.pattern.Character.{Character}
-use Rattle.cells_pattern.specs.declared.pattern.Character.TheVariants.{NotEmpty, Is, Any}
 
 -- ---- a character and a cell
 
@@ -28,9 +25,9 @@ either = 42
 abbrev pub is_sign : ℕ → Bool
 is_sign c = eqb c (sign Empty) || eqb c (sign Points) || eqb c (sign Length) || eqb c (sign Area)
 
--- "T means any but F", a sign its own value, "* for either"
+-- "T means any but F", a sign its own value, "* for either"; and no cell fits what is none of the six
 abbrev pub fits : ℕ → Dimension → Bool
-fits c cell = cond (eqb c must_be) (not_empty cell) (cond (is_sign c) (eqb c (sign cell)) true)
+fits c cell = cond (eqb c must_be) (not_empty cell) (cond (is_sign c) (eqb c (sign cell)) (eqb c either))
 
 -- the same of the points of a cell: some point is one of them, or they have the value of the sign
 abbrev pub Demands : ℕ → (FractionPoint → Type 0) → Type 0
@@ -39,17 +36,6 @@ Demands c A = (c ≡ must_be → (p : FractionPoint) × A p) × ((d : Dimension)
 -- one of the six
 abbrev pub is_character : ℕ → Bool
 is_character c = eqb c must_be || is_sign c || eqb c either
-
--- the byte of each
-abbrev pub byte_of : Character → ℕ
-byte_of NotEmpty = must_be
-byte_of (Is d) = sign d
-byte_of Any = either
-
--- what a byte may be read as: the character that it is, or, of none of the six, the reason to turn it away
-abbrev pub ReadAs : ℕ → Result Character Reason → Type 0
-ReadAs c (Ok k) = byte_of k ≡ c
-ReadAs c (Err reason) = (is_character c ≡ false) × (reason ≡ NoCharacter)
 
 -- ---- a pattern and a matrix
 
