@@ -1,7 +1,7 @@
 // The halves of segments in order.
-ghost use Rattle.std.specs.Prelude.{ℕ, ◌≡◌, T, ◌+◌, ◌<◌, ◌≤◌, length, get_or};
+ghost use Rattle.std.specs.Prelude.{ℕ, ◌≡◌, T, ◌+◌, ◌*◌, ◌<◌, ◌≤◌, length, get_or};
 ghost use Rattle.plane.specs.Plane.{dominating};
-ghost use Rattle.scene_keys.specs.Keyed.{key};
+ghost use Rattle.scene_keys.specs.Keyed.{key, IsKey};
 ghost use Rattle.arrayvec.specs.ArrayVec.{array_vec_len};
 ghost use Rattle.scene_writing.specs.Rows.{AreGood};
 ghost use Rattle.scene_writing.specs.Settled.{Stops, Between, sink};
@@ -158,8 +158,8 @@ fn sink(row: Row<'_>, order: &mut ArrayVec<Half, 1024>, rises: bool, h: Half) ->
     still
 }
 
-// The halves of all the segments, in order.
-pub fn settled(row: Row<'_>) -> ArrayVec<Half, 1024>
+// The halves of all the segments, in order: one after the other, as the segments come.
+fn one_by_one(row: Row<'_>) -> ArrayVec<Half, 1024>
     ensures { IsSettled row.entry.ends.now result.items }
 {
     let mut order = ArrayVec::new();
@@ -185,4 +185,77 @@ pub fn settled(row: Row<'_>) -> ArrayVec<Half, 1024>
         );
     }
     order
+}
+
+// ---- the same by sorted numbers. Halves in strict order can be in no other, so no clause says how they come here.
+
+// A half as a number: by the key of its dominating point, right before left, then by its segment.
+fn number(key: u64, is_left: bool, index: usize) -> u64
+    requires { IsKey key × (index < 512) }
+{
+    (2 * key + is_left as u64) * 512 + index as u64
+}
+
+fn numbered(n: u64) -> Half
+    ensures { result.index < 512 }
+{
+    Half {
+        index: (n % 512) as u16,
+        is_left: n / 512 % 2 == 1,
+    }
+}
+
+// All of them, sorted.
+fn numbers(row: Row<'_>) -> [u64; 1024] {
+    let mut all = [0; 1024];
+    for index in 0..row.ends.len() {
+        let ends = row.ends[index];
+        all[2 * index] = number(ends.left, true, index);
+        all[2 * index + 1] = number(ends.right, false, index);
+    }
+    all[..2 * row.ends.len()].sort_unstable();
+    all
+}
+
+// A half behind the last one, or else where it goes. Do they still rise?
+fn put(row: Row<'_>, order: &mut ArrayVec<Half, 1024>, h: Half) -> bool
+    requires h_in { h.index < length row.ends.now }
+    requires order_in { AreHalves row.ends.now order.old.items }
+    requires room { array_vec_len order.old < 1024 }
+    requires rising { AreRising row.ends.now order.old.items }
+    ensures still_in { AreHalves row.entry.ends.now order.new.items }
+    ensures one_more { array_vec_len order.new ≡ array_vec_len order.old + 1 }
+    ensures still_rising { T result → AreRising row.entry.ends.now order.new.items }
+{
+    if follows(row, order.as_slice(), order.len(), h) {
+        order.push(h);
+        return true;
+    }
+    sink(row, order, true, h)
+}
+
+// Are they in strict order now?
+fn by_numbers(row: Row<'_>, order: &mut ArrayVec<Half, 1024>) -> bool
+    requires { array_vec_len order.old ≡ 0 }
+    ensures { T result → IsSettled row.entry.ends.now order.new.items }
+{
+    let all = numbers(row);
+    for k in 0..2 * row.ends.len() {
+        let h = numbered(all[k]);
+        if row.ends.len() <= h.index as usize || !put(row, order, h) {
+            return false;
+        }
+    }
+    true
+}
+
+// The halves of all the segments, in order.
+pub fn settled(row: Row<'_>) -> ArrayVec<Half, 1024>
+    ensures { IsSettled row.entry.ends.now result.items }
+{
+    let mut order = ArrayVec::new();
+    if by_numbers(row, &mut order) {
+        return order;
+    }
+    one_by_one(row)
 }
