@@ -130,8 +130,8 @@ extern "C" {
  * was measured on scenes of full size, of every pair of types in either order,
  * to need about 6,000 bytes, karvoiss_summary 25,520, since it copies its object,
  * karvoiss_far 160, karvoiss_estimate 40 and karvoiss_in_window 216;
- * karvoiss_read_wkb 166,552 and karvoiss_write_wkb 26,792, since they build and
- * check an object, karvoiss_split 305,896, and karvoiss_walk_begin 10,088, since it
+ * karvoiss_read_wkb 104,328 and karvoiss_write_wkb 26,792, since they build and
+ * check an object, karvoiss_split 332,440, and karvoiss_walk_begin 10,088, since it
  * has the notes twice, and karvoiss_walk_portion 1,273; the numbers leave room for
  * other compilers.
  */

@@ -80,7 +80,7 @@ module _ {A : Type 0} (less : A → A → Bool) where
         more (sink_sorted a (qs a here) ps (λ b m. parted a b here m) s)
 
 -- of two members of a list in strict order one comes first, or they are one
-sorted_compared : {A : Type 0} (less : A → A → Bool) {l : List A} → Sorted (λ b c. T (less b c)) l → AllCompared less l
+pub sorted_compared : {A : Type 0} (less : A → A → Bool) {l : List A} → Sorted (λ b c. T (less b c)) l → AllCompared less l
 sorted_compared less sorted_nil a b m n = absurd (in_nil m)
 sorted_compared {A} less (sorted_cons {a = c} {l = l} before rest) a b m n =
     ⊎_elim

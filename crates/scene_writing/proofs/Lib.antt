@@ -8,3 +8,4 @@ pub mod Items
 pub mod Wrote
 pub mod SettledBack
 pub mod InOrder
+pub mod Strict

@@ -1,7 +1,7 @@
 // The halves of segments in order.
-ghost use Rattle.std.specs.Prelude.{ℕ, ◌≡◌, T, ◌+◌, ◌<◌, ◌≤◌, length, get_or};
+ghost use Rattle.std.specs.Prelude.{ℕ, ◌≡◌, T, ◌+◌, ◌*◌, ◌<◌, ◌≤◌, length, get_or};
 ghost use Rattle.plane.specs.Plane.{dominating};
-ghost use Rattle.scene_keys.specs.Keyed.{key};
+ghost use Rattle.scene_keys.specs.Keyed.{key, IsKey};
 ghost use Rattle.arrayvec.specs.ArrayVec.{array_vec_len};
 ghost use Rattle.scene_writing.specs.Rows.{AreGood};
 ghost use Rattle.scene_writing.specs.Settled.{Stops, Between, sink};
@@ -9,7 +9,7 @@ ghost use Rattle.scene_writing.specs.Named.{half_in, earlier_in, AreHalves, AreR
 
 use arrayvec::ArrayVec;
 use plane::Halfsegment;
-use scene_keys::Ends;
+use scene_keys::{Ends, ROOM};
 
 /// A half of a segment in a row.
 #[derive(Clone, Copy, Default)]
@@ -47,6 +47,7 @@ impl<'a> Row<'a> {
     }
 
     // Does the one come before the other? By the keys of their dominating points, and only if these are equal by more.
+    #[inline(always)]
     fn is_earlier(self, h: Half, other: Half) -> bool
         requires h_in { h.index < length self.ends.now }
         requires other_in { other.index < length self.ends.now }
@@ -57,6 +58,16 @@ impl<'a> Row<'a> {
         if p != q {
             return p < q;
         }
+        self.is_earlier_there(h, other)
+    }
+
+    // The same in full.
+    #[inline(never)]
+    fn is_earlier_there(self, h: Half, other: Half) -> bool
+        requires h_in { h.index < length self.ends.now }
+        requires other_in { other.index < length self.ends.now }
+        ensures { result ≡ earlier_in self.entry.ends.now h other }
+    {
         plane_segments::comes_before(self.half(h), self.half(other))
     }
 }
@@ -158,8 +169,8 @@ fn sink(row: Row<'_>, order: &mut ArrayVec<Half, 1024>, rises: bool, h: Half) ->
     still
 }
 
-// The halves of all the segments, in order.
-pub fn settled(row: Row<'_>) -> ArrayVec<Half, 1024>
+// The halves of all the segments, in order: one after the other, as the segments come.
+fn one_by_one(row: Row<'_>) -> ArrayVec<Half, 1024>
     ensures { IsSettled row.entry.ends.now result.items }
 {
     let mut order = ArrayVec::new();
@@ -185,4 +196,110 @@ pub fn settled(row: Row<'_>) -> ArrayVec<Half, 1024>
         );
     }
     order
+}
+
+// ---- the same by sorted numbers. Halves in strict order can be in no other, so no clause says how they come here.
+
+// A half as a number, by the keys of its dominating point and of its other end: by point, right before left, then as it mostly goes around the point, by
+// whether it rises or falls; and last its segment.
+fn number(near: u64, far: u64, is_left: bool, index: usize) -> u64
+    requires { IsKey near × (index < 512) }
+{
+    let is_second = (near % ROOM < far % ROOM) == is_left;
+    (4 * near + 2 * is_left as u64 + is_second as u64) * 512 + index as u64
+}
+
+fn numbered(n: u64) -> Half
+    ensures { result.index < 512 }
+{
+    Half {
+        index: (n % 512) as u16,
+        is_left: n / 1024 % 2 == 1,
+    }
+}
+
+// The left halves. They come by their points; where two have one point, they change places.
+fn lefts(row: Row<'_>) -> [u64; 512] {
+    let mut all = [0; 512];
+    for k in 0..row.ends.len() {
+        let ends = row.ends[k];
+        all[k] = number(ends.left, ends.right, true, k);
+        if k != 0 && all[k] < all[k - 1] {
+            all.swap(k - 1, k);
+        }
+    }
+    all
+}
+
+// The right halves, sorted.
+fn rights(row: Row<'_>) -> [u64; 512] {
+    let mut all = [0; 512];
+    for k in 0..row.ends.len() {
+        let ends = row.ends[k];
+        all[k] = number(ends.right, ends.left, false, k);
+    }
+    all[..row.ends.len()].sort_unstable();
+    all
+}
+
+// The first n of both, one after the other as they rise.
+fn merged(lefts: &[u64; 512], rights: &[u64; 512], n: usize) -> [u64; 1024]
+    requires { n ≤ 512 }
+{
+    let mut all = [0; 1024];
+    let mut i = 0;
+    let mut j = 0;
+    for k in 0..2 * n {
+        if i < n && (n <= j || lefts[i] < rights[j]) {
+            all[k] = lefts[i];
+            i += 1;
+        } else if j < n {
+            all[k] = rights[j];
+            j += 1;
+        }
+    }
+    all
+}
+
+// A half behind the last one, or else where it goes. Do they still rise?
+fn put(row: Row<'_>, order: &mut ArrayVec<Half, 1024>, h: Half) -> bool
+    requires h_in { h.index < length row.ends.now }
+    requires order_in { AreHalves row.ends.now order.old.items }
+    requires room { array_vec_len order.old < 1024 }
+    requires rising { AreRising row.ends.now order.old.items }
+    ensures still_in { AreHalves row.entry.ends.now order.new.items }
+    ensures one_more { array_vec_len order.new ≡ array_vec_len order.old + 1 }
+    ensures still_rising { T result → AreRising row.entry.ends.now order.new.items }
+{
+    if follows(row, order.as_slice(), order.len(), h) {
+        order.push(h);
+        return true;
+    }
+    sink(row, order, true, h)
+}
+
+// Are they in strict order now?
+fn by_numbers(row: Row<'_>, order: &mut ArrayVec<Half, 1024>) -> bool
+    requires { array_vec_len order.old ≡ 0 }
+    ensures { T result → IsSettled row.entry.ends.now order.new.items }
+{
+    let all = merged(&lefts(row), &rights(row), row.ends.len());
+    for k in 0..2 * row.ends.len() {
+        let h = numbered(all[k]);
+        if row.ends.len() <= h.index as usize || !put(row, order, h) {
+            return false;
+        }
+    }
+    true
+}
+
+// The halves of all the segments, in order.
+pub fn settled(row: Row<'_>) -> ArrayVec<Half, 1024>
+    ensures { IsSettled row.entry.ends.now result.items }
+{
+    let mut order = ArrayVec::new();
+    if by_numbers(row, &mut order) {
+        return order;
+    }
+    one_by_one(row)
 }

@@ -7,11 +7,46 @@ ghost use Rattle.scene_writing.specs.Named.{AreHalves};
 
 use arrayvec::ArrayVec;
 use plane::{Point, Turn};
-use scene_keys::Ends;
+use scene_keys::{Ends, ROOM};
 use scene_writing::{Half, Row};
 
-// Segments of a row by their indices: those that may be active.
-type Active = ArrayVec<u16, 512>;
+// A segment of a row that may be active: the key of its right end, the lower and the upper row of the grid that its ends are in, and its index.
+#[derive(Clone, Copy, Default)]
+struct Span {
+    right: u64,
+    low: u64,
+    high: u64,
+    index: usize,
+}
+
+type Active = ArrayVec<Span, 512>;
+
+impl Span {
+    fn new(ends: Ends, index: usize) -> Span {
+        let left = ends.left % ROOM;
+        let right = ends.right % ROOM;
+        Span {
+            right: ends.right,
+            low: left.min(right),
+            high: left.max(right),
+            index,
+        }
+    }
+
+    // Does it pass under a point, that has this row? Mostly its rows tell.
+    fn passes_under(self, row: Row<'_>, p: Point, y: u64) -> bool
+        requires { T (in_range p) }
+    {
+        if self.high < y {
+            return true;
+        }
+        if y <= self.low {
+            return false;
+        }
+        let i = self.index;
+        i < row.ends.len() && passes_under(row.ends[i], p)
+    }
+}
 
 // Does a segment pass under a point?
 fn passes_under(ends: Ends, p: Point) -> bool
@@ -24,28 +59,30 @@ fn passes_under(ends: Ends, p: Point) -> bool
 // Those that begin before a point, from a place in the row on: the place of the first that does not.
 fn begin_before(row: Row<'_>, active: &mut Active, from: usize, key: u64) -> usize {
     for k in from..row.ends.len() {
-        if key <= row.ends[k].left {
+        let ends = row.ends[k];
+        if key <= ends.left {
             return k;
         }
-        let _ = active.try_push(k as u16);
+        let _ = active.try_push(Span::new(ends, k));
     }
     row.ends.len()
 }
 
-// Do an odd number of those that are active pass under the beginning of the segment i? The others go.
+// Do an odd number of those that are active pass under the beginning of the segment i? Those that ended before it go.
 fn has_odd_under(row: Row<'_>, active: &mut Active, i: usize) -> bool
     requires { i < length row.ends.now }
 {
     let it = row.ends[i];
     let p = it.segment().left;
+    let y = it.left % ROOM;
     let mut odd = false;
     let mut kept = 0;
     for k in 0..active.len() {
-        let j = active.as_slice()[k] as usize;
-        if j < row.ends.len() && it.left < row.ends[j].right {
-            active.as_mut_slice()[kept] = j as u16;
+        let span = active.as_slice()[k];
+        if it.left < span.right {
+            active.as_mut_slice()[kept] = span;
             kept += 1;
-            odd = odd != passes_under(row.ends[j], p);
+            odd = odd != span.passes_under(row, p, y);
         }
     }
     active.truncate(kept);

@@ -7,6 +7,7 @@ ghost use Rattle.wkb_reading.specs.declared.ReadFault.TheVariants.{Bytes, TooMan
 ghost use Rattle.wkb_reading.specs.Reading.{handed, filled, read_file, buffer_after};
 
 use arrayvec::CapacityError;
+use object::ObjectBytes;
 use scene::{Reason, Refusal};
 use wkb_grammar::Fault;
 
@@ -62,6 +63,7 @@ pub fn read(wkb: &[u8], object: &mut [u8]) -> Result<usize, ReadFault>
     ensures { (result ≡ read_file wkb.now (length object.old)) × (object.new ≡ buffer_after wkb.now object.old) }
 {
     wkb_scan::scan(wkb)?;
-    let bytes = object::of_file(wkb)?;
+    let mut bytes = ObjectBytes::new();
+    object::of_file(wkb, &mut bytes)?;
     hand_over(bytes.as_slice(), object)
 }

@@ -1,4 +1,4 @@
-use Rattle.std.proofs.Common.{T, get_or, sym, subst}
+use Rattle.std.proofs.Common.{T, sym, subst}
 use Rattle.whole.proofs.Logic.{in_at}
 use Rattle.plane.specs.Plane.{segment_in_range}
 use Rattle.plane.proofs.Machine.{left_in_range}
@@ -11,7 +11,5 @@ segment-requires c = c.args.row.good _ (in_at c.args.row.ends.now no_ends c.args
 
 pub passes_under-odd-requires : goal.passes_under-odd-requires
 passes_under-odd-requires c =
-    let row = c.args.row.ends.now in (
-      c.args.row.good _ (in_at row no_ends (get_or c.as_slice.result.now c.loop-k.k 0) c.if-j-row.true),
-      left_in_range c.segment.result (subst (λ t. T (segment_in_range t)) (sym c.segment.ensures) (in_range_lem _ (c.args.row.good _ (in_at row no_ends c.args.i c.requires)))),
-    )
+    left_in_range c.segment.result
+    (subst (λ t. T (segment_in_range t)) (sym c.segment.ensures) (in_range_lem _ (c.args.row.good _ (in_at c.args.row.ends.now no_ends c.args.i c.requires))))

@@ -11,7 +11,7 @@ invariant_of-write_line c = record { few = c.keys-ends.ensures.few; good = good 
 
 pub check-requires : goal.check-requires
 check-requires c =
-    line_alone c.args.wkb.now c.keys-ends.result.now (c.keys-ends.ensures.same ∙ c.in_ok-row.ensures) c.keys-ends.ensures.few (rw c.new-bytes.ensures at c.write_line.ensures)
+    line_alone c.args.wkb.now c.keys-ends.result.now (c.keys-ends.ensures.same ∙ c.in_ok-row.ensures) c.keys-ends.ensures.few (rw c.requires.empty at c.write_line.ensures)
 
 pub returns-in_err-check : goal.returns-in_err-check
 returns-in_err-check c =
@@ -20,7 +20,7 @@ returns-in_err-check c =
     let e = c.keys-ends.ensures.same ∙ c.in_ok-row.ensures in
     rw (p.1, p.2)
     (not_accepted (line (segments_of (parts_of s))) (halves_few s c.keys-ends.result.now e c.keys-ends.ensures.few)
-    (line_bytes s c.keys-ends.result.now e (rw c.new-bytes.ensures at c.write_line.ensures)) c.in_err-check.field-0.0 c.in_err-check.ensures.checked)
+    (line_bytes s c.keys-ends.result.now e (rw c.requires.empty at c.write_line.ensures)) c.in_err-check.field-0.0 c.in_err-check.ensures.checked)
 
 pub returns : goal.returns
 returns c =
@@ -28,4 +28,4 @@ returns c =
     let e = c.keys-ends.ensures.same ∙ c.in_ok-row.ensures in
     rw c.in_ok-check.ensures.same
     (accepted (line (segments_of (parts_of s))) (halves_few s c.keys-ends.result.now e c.keys-ends.ensures.few)
-    (line_bytes s c.keys-ends.result.now e (rw c.new-bytes.ensures at c.write_line.ensures)) _ c.in_ok-check.ensures.checked)
+    (line_bytes s c.keys-ends.result.now e (rw c.requires.empty at c.write_line.ensures)) _ c.in_ok-check.ensures.checked)

@@ -4,7 +4,7 @@ use Rattle.wkb_gathering.proofs.Parts.{file_there}
 use Rattle.wkb_reading.proofs.object.of_file.Goals as goal
 
 pub kind-requires : goal.kind-requires
-kind-requires c = omega (arith, file_there c.args.wkb.now c.requires)
+kind-requires c = omega (arith, file_there c.args.wkb.now c.requires.taken)
 
 pub returns-in-4 : goal.returns-in-4
 returns-in-4 c = rw (← c.kind.ensures, c.in-4.is) c.points.ensures

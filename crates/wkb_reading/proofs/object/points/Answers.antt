@@ -8,11 +8,11 @@ use Rattle.wkb_reading.proofs.object.points.Goals as goal
 
 pub write_points-requires : goal.write_points-requires
 write_points-requires c =
-    (omega arith, (keys c.args.wkb.now c.keys-keys.result.now (c.keys-keys.ensures.same ∙ c.in_ok-row.ensures), omega (arith, ap length c.new-bytes.ensures, c.keys-keys.ensures.few)))
+    (omega arith, (keys c.args.wkb.now c.keys-keys.result.now (c.keys-keys.ensures.same ∙ c.in_ok-row.ensures), omega (arith, ap length c.requires.empty, c.keys-keys.ensures.few)))
 
 pub check-requires : goal.check-requires
 check-requires c =
-    points_alone c.args.wkb.now c.keys-keys.result.now (c.keys-keys.ensures.same ∙ c.in_ok-row.ensures) c.keys-keys.ensures.few (rw c.new-bytes.ensures at c.write_points.ensures)
+    points_alone c.args.wkb.now c.keys-keys.result.now (c.keys-keys.ensures.same ∙ c.in_ok-row.ensures) c.keys-keys.ensures.few (rw c.requires.empty at c.write_points.ensures)
 
 pub returns-in_err-check : goal.returns-in_err-check
 returns-in_err-check c =
@@ -21,7 +21,7 @@ returns-in_err-check c =
     let e = c.keys-keys.ensures.same ∙ c.in_ok-row.ensures in
     rw (p.1, p.2)
     (not_accepted (points (points_of (parts_of s))) (points_few s c.keys-keys.result.now e c.keys-keys.ensures.few)
-    (points_bytes s c.keys-keys.result.now e (rw c.new-bytes.ensures at c.write_points.ensures)) c.in_err-check.field-0.0 c.in_err-check.ensures.checked)
+    (points_bytes s c.keys-keys.result.now e (rw c.requires.empty at c.write_points.ensures)) c.in_err-check.field-0.0 c.in_err-check.ensures.checked)
 
 pub returns : goal.returns
 returns c =
@@ -29,4 +29,4 @@ returns c =
     let e = c.keys-keys.ensures.same ∙ c.in_ok-row.ensures in
     rw c.in_ok-check.ensures.same
     (accepted (points (points_of (parts_of s))) (points_few s c.keys-keys.result.now e c.keys-keys.ensures.few)
-    (points_bytes s c.keys-keys.result.now e (rw c.new-bytes.ensures at c.write_points.ensures)) _ c.in_ok-check.ensures.checked)
+    (points_bytes s c.keys-keys.result.now e (rw c.requires.empty at c.write_points.ensures)) _ c.in_ok-check.ensures.checked)

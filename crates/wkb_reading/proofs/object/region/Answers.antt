@@ -26,8 +26,8 @@ pub is_sound-requires : goal.is_sound-requires
 is_sound-requires c =
     let row = c.keys.result.now in
     let few = c.keys.ensures.few in
-    let read = region_alone c.args.wkb.now row (c.keys.ensures.same ∙ c.in_ok-row.ensures) few _ (length-take-le (length row) c.guess-guessed.result (omega (arith, few))) c.region_of-bytes.ensures in
-    (omega arith, (read, omega (arith, short c.region_of-bytes.result.items _ read)))
+    let read = region_alone c.args.wkb.now row (c.keys.ensures.same ∙ c.in_ok-row.ensures) few _ (length-take-le (length row) c.guess-guessed.result (omega (arith, few))) (rw c.requires.empty at c.write_region_in.ensures) in
+    (omega arith, (read, omega (arith, short c.write_region_in.new.out.items _ read)))
 
 pub returns-then-is_sound : goal.returns-then-is_sound
 returns-then-is_sound c =
@@ -36,17 +36,17 @@ returns-then-is_sound c =
     let e = c.keys.ensures.same ∙ c.in_ok-row.ensures in
     let few = c.keys.ensures.few in
     let many = length-take-le (length row) c.guess-guessed.result (omega (arith, few)) in
-    let read = region_alone s row e few _ many c.region_of-bytes.ensures in
-    let sound = taken c.region_of-bytes.result.items _ read (c.is_sound.ensures.decides.sound (is_true c.is_sound.result c.if-is_sound.true)) in
+    let read = region_alone s row e few _ many (rw c.requires.empty at c.write_region_in.ensures) in
+    let sound = taken c.write_region_in.new.out.items _ read (c.is_sound.ensures.decides.sound (is_true c.is_sound.result c.if-is_sound.true)) in
     rw c.if-is_sound.ensures.same
     (accepted (region (segments_of (parts_of s))) (halves_few s row e few)
-    (accepted_bytes s row e few _ many c.region_of-bytes.ensures sound) (layout Region 0 (2 * length row)) sound)
+    (accepted_bytes s row e few _ many (rw c.requires.empty at c.write_region_in.ensures) sound) (layout Region 0 (2 * length row)) sound)
 
 pub check-requires : goal.check-requires
 check-requires c =
     let row = c.keys.result.now in
     region_alone c.args.wkb.now row (c.keys.ensures.same ∙ c.in_ok-row.ensures) c.keys.ensures.few _
-    (by_counting row _ (c.as_slice-4.ensures.value ∙ c.interiors-ia.ensures)) c.region_of-counted.ensures
+    (by_counting row _ (c.as_slice-4.ensures.value ∙ c.interiors-ia.ensures)) (rw c.clear.ensures at c.write_region_in-2.ensures)
 
 pub returns-in_err-check : goal.returns-in_err-check
 returns-in_err-check c =
@@ -57,7 +57,7 @@ returns-in_err-check c =
     let i = c.as_slice-4.ensures.value ∙ c.interiors-ia.ensures in
     rw (p.1, p.2)
     (not_accepted (region (segments_of (parts_of s))) (halves_few s row e c.keys.ensures.few)
-    (region_bytes s row e c.keys.ensures.few _ (by_counting row _ i) c.region_of-counted.ensures i) c.in_err-check.field-0.0 c.in_err-check.ensures.checked)
+    (region_bytes s row e c.keys.ensures.few _ (by_counting row _ i) (rw c.clear.ensures at c.write_region_in-2.ensures) i) c.in_err-check.field-0.0 c.in_err-check.ensures.checked)
 
 pub returns : goal.returns
 returns c =
@@ -67,4 +67,4 @@ returns c =
     let i = c.as_slice-4.ensures.value ∙ c.interiors-ia.ensures in
     rw c.in_ok-check.ensures.same
     (accepted (region (segments_of (parts_of s))) (halves_few s row e c.keys.ensures.few)
-    (region_bytes s row e c.keys.ensures.few _ (by_counting row _ i) c.region_of-counted.ensures i) _ c.in_ok-check.ensures.checked)
+    (region_bytes s row e c.keys.ensures.few _ (by_counting row _ i) (rw c.clear.ensures at c.write_region_in-2.ensures) i) _ c.in_ok-check.ensures.checked)

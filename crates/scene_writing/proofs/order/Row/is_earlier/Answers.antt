@@ -1,6 +1,4 @@
-use Rattle.std.proofs.Common.{sym, ap₂, subst, ◌∙◌, ltb, T}
-use Rattle.plane.specs.declared.Halfsegment.{Halfsegment}
-use Rattle.plane.specs.Plane.{segment_in_range}
+use Rattle.std.proofs.Common.{sym, ap₂, ◌∙◌, ltb}
 use Rattle.scene_writing.specs.Named.{half_in}
 use Rattle.scene_writing.proofs.Earlier.{by_keys, half_good}
 use Rattle.scene_writing.proofs.order.Row.is_earlier.Goals as goal
@@ -11,10 +9,3 @@ returns-then-p-q c =
     ap₂ ltb c.key-p.ensures c.key-q.ensures
     ∙ by_keys (half_in row c.args.h) (half_in row c.args.other) (half_good row c.args.self.good c.args.h c.requires.h_in).in_range_lem (half_good row c.args.self.good c.args.other c.requires.other_in).in_range_lem
     (λ e. c.if-p-q.true (c.key-p.ensures ∙ e ∙ sym c.key-q.ensures))
-
-pub comes_before-requires : goal.comes_before-requires
-comes_before-requires c =
-    let row = c.args.self.ends.now in (
-      subst (λ (h : Halfsegment). T (segment_in_range h.segment)) (sym c.half.ensures) (half_good row c.args.self.good c.args.h c.requires.h_in).in_range_lem,
-      subst (λ (h : Halfsegment). T (segment_in_range h.segment)) (sym c.half-2.ensures) (half_good row c.args.self.good c.args.other c.requires.other_in).in_range_lem,
-    )

@@ -1,7 +1,7 @@
 use Rattle.std.proofs.Common.{◌≡◌, ◌*◌, [], T, length}
 use Rattle.scene_writing.specs.Settled.{settle}
 use Rattle.scene_writing.specs.Named.{earlier_in, AreHalves, AreRising, names_of}
-use Rattle.scene_writing.proofs.order.settled.Given as goal
+use Rattle.scene_writing.proofs.order.one_by_one.Given as goal
 
 abbrev pub invariant-loop-index : goal.invariant-loop-index
 invariant-loop-index l = record {

@@ -5,7 +5,7 @@ use Rattle.scene_writing.specs.declared.order.Half.{Half}
 use Rattle.scene_writing.specs.Settled.{sink, settle}
 use Rattle.scene_writing.specs.Named.{earlier_in, AreRising, names_of}
 use Rattle.scene_writing.proofs.Items.{settle_next}
-use Rattle.scene_writing.proofs.order.settled.Goals as goal
+use Rattle.scene_writing.proofs.order.one_by_one.Goals as goal
 
 pub loop-index-init : goal.loop-index-init
 loop-index-init c =
