@@ -1,4 +1,4 @@
--- Segments that do not touch cut nothing, and do not cross off the grid.
+-- Segments that do not touch cut nothing.
 use Prim.Native.Nat.{◌+◌}
 use mathlib.Core.Path.{◌≡◌, refl, sym, ap, ap₂, ◌∙◌, subst}
 use mathlib.Core.Logic.{◌⊎◌, inl, inr}
@@ -71,14 +71,3 @@ module _ (t u : Segment) (o : T (ordered t)) (v : T (ordered u)) (f : touch t u 
   pub no_cuts : cuts_by t u ≡ []
   unfolding cuts_by
   no_cuts = ap₂ (λ a b. point_if a u.left ++ b) no_left (ap₂ (λ a r. point_if a u.right ++ crossing_point r) no_right apart)
-
-  pub not_off : crosses_off t u ≡ false
-  not_off = ap is_off apart
-
--- t ends left of where u begins
-pub beyond_clear : (t u : Segment) → T (ordered t) → T (ordered u) → lt_z t.right.x u.left.x ≡ true → touch t u ≡ false
-beyond_clear t u o v e = (parted_across t u o v (lt_z_pos t.right.x u.left.x (is_true (lt_z t.right.x u.left.x) e))).0
-
--- t begins right of where u ends
-pub before_clear : (t u : Segment) → T (ordered t) → T (ordered u) → lt_z u.right.x t.left.x ≡ true → touch t u ≡ false
-before_clear t u o v e = (parted_across u t v o (lt_z_pos u.right.x t.left.x (is_true (lt_z u.right.x t.left.x) e))).1
