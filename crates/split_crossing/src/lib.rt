@@ -59,22 +59,31 @@ fn are_opposite(a: i64, b: i64) -> bool
     (a < 0 && 0 < b) || (0 < a && b < 0)
 }
 
-// What a quotient of floats is raised by: a float just above 2^52 has no fraction, and the last of its bits say how far above it is.
+// 2^52: a float from there to twice as much has no fraction, and the last 52 of its bits say how far above it is.
 const RAISE: f64 = 4_503_599_627_370_496.0;
 
-// How many times `change` is in `before`, by floats: no clause says so, since it is tested. A division of 64 bits takes longer than all else that is done for a crossing.
+const RAISE_BITS: u64 = 4_841_369_599_423_283_200;
+
+// A number below 2^52 as a float, by its bits: no clause says so, since the quotient of two is tested.
 #[inline(always)]
-fn likely(before: i64, change: i64) -> u32 {
-    let quotient = std::num::nearest_i64_to_f64(before) / std::num::nearest_i64_to_f64(change);
-    (std::num::f64_to_bits_with_nan(quotient + RAISE) % 67_108_864) as u32
+fn float_of(n: u64) -> f64 {
+    std::num::f64_from_bits_with_nan(RAISE_BITS + n % 4_503_599_627_370_496) - RAISE
+}
+
+// How many times `change` is in `before`, by floats, to the nearest whole number. Kept as a guess: a division of 64 bits takes longer than all else that is done for a crossing.
+#[inline(always)]
+fn likely(change: u64, before: u64) -> u32 {
+    let bits = std::num::f64_to_bits_with_nan(float_of(before) / float_of(change) + RAISE);
+    (bits % 67_108_864) as u32
 }
 
 // How many times `change` is in `before`, where nothing is left; no more often than `most`. A guess that is right spares the division.
 #[inline(always)]
-fn times_in(change: u64, before: u64, most: u32, guess: u32) -> Option<u32>
+fn times_in(change: u64, before: u64, most: u32) -> Option<u32>
     requires { (0 < change) × (before / change ≤ most) × (most * change < 2 ^ 64) }
     ensures { result ≡ cond (eqb (before % change) 0) (Some (before / change)) None }
 {
+    let guess = likely(change, before);
     if guess <= most && guess as u64 * change == before {
         return Some(guess);
     }
@@ -147,13 +156,7 @@ impl Stepped {
         if !are_opposite(before, before - self.count as i64 * change) {
             return Crossing::Apart;
         }
-        let guess = likely(before, change);
-        match times_in(
-            change.unsigned_abs(),
-            before.unsigned_abs(),
-            self.count,
-            guess,
-        ) {
+        match times_in(change.unsigned_abs(), before.unsigned_abs(), self.count) {
             Some(steps) => Crossing::At(self.reached(steps)),
             None => Crossing::OffGrid,
         }
