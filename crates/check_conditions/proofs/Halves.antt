@@ -7,7 +7,7 @@ use mathlib.Core.Bool.{Bool, true, false, not, ◌&&◌, ◌||◌, not-not, true
 use mathlib.Core.List.{List}
 use lib.Dec.{T}
 use Rattle.whole.specs.Count.{◌∈◌, bit, count}
-use Rattle.whole.proofs.Logic.{and_never, and_left, is_true, true_is, map_in, sorted_nil, sorted_cons}
+use Rattle.whole.proofs.Logic.{and_never, map_in, sorted_nil, sorted_cons}
 use Rattle.whole.proofs.Counted.{count_same}
 use Rattle.plane.specs.declared.Point.{Point}
 use Rattle.plane.specs.declared.Segment.{Segment}

@@ -8,17 +8,17 @@ use mathlib.Core.Path.{◌≡◌, refl, sym, ap, subst, ◌∙◌}
 use mathlib.Core.Logic.{◌⊎◌, inl, inr, ⊎_elim}
 use mathlib.Core.Bool.{Bool, true, false, not, ◌&&◌}
 use mathlib.Core.List.{List}
-use lib.Dec.{T, T_not, ltb}
+use lib.Dec.{T, T_not}
 use borrow.Author.Tests.{lt-ltb}
 use Rattle.whole.specs.Count.{bit, count}
-use Rattle.whole.proofs.Logic.{and_left, is_true, true_is, refute, or_cases}
+use Rattle.whole.proofs.Logic.{and_left, refute, or_cases}
 use Rattle.plane.specs.declared.Point.{Point}
 use Rattle.plane.specs.Plane.{before, is_same_point, dominating, comes_before, grid, ends_at}
 use Rattle.plane.proofs.Equal.{same_point_read, same_point_refl}
 use Rattle.plane.proofs.Order.{before_irreflexive, before_trans}
 use Rattle.scene.specs.declared.Layout.{Layout}
 use Rattle.scene.specs.Read.{IsObject}
-use Rattle.scene.specs.Conditions.{elements, has_segments, half, segments, out_of_order, unpaired}
+use Rattle.scene.specs.Conditions.{has_segments, half, segments, out_of_order, unpaired}
 use Rattle.scene_segments.proofs.Indices.{halves_rise}
 use Rattle.scene_segments.proofs.Until.{all_counted}
 use Rattle.scene_segments.proofs.Walk.{between, all_between, count_next}

@@ -1,26 +1,20 @@
 -- The degree of a point in a sound object: as many of the object's segments end there; in points, 1 where it is one of them.
-use Prim.Native.Nat.{ℕ, zero, suc, ◌+◌, ◌<◌}
-use native.Mathlib.Omega.{arith}
-use mathlib.Core.Path.{◌≡◌, refl, sym, ap, ap₂, subst, ◌∙◌}
-use mathlib.Core.Bool.{Bool, true, false, not, ◌&&◌, ◌||◌, not-not, true≢false}
+use Prim.Native.Nat.{ℕ, ◌<◌}
+use mathlib.Core.Path.{◌≡◌, refl, sym, ap, subst, ◌∙◌}
+use mathlib.Core.Bool.{Bool, true, false, not}
 use mathlib.Core.List.{List}
 use lib.Dec.{T, eqb}
-use Rattle.whole.specs.Count.{◌∈◌, bit, some, count}
-use Rattle.whole.proofs.Logic.{and_never, true_is, same_test, some_make, in_map, sorted_nil, sorted_cons}
+use Rattle.whole.specs.Count.{◌∈◌, bit, some}
+use Rattle.whole.proofs.Logic.{true_is, same_test, some_make, in_map}
 use Rattle.whole.proofs.Counted.{count_same}
 use Rattle.plane.specs.declared.Point.{Point}
-use Rattle.plane.specs.declared.Segment.{Segment}
-use Rattle.plane.specs.Plane.{grid, is_same_point, dominating, is_end, is_boundary, ends_at}
+use Rattle.plane.specs.Plane.{grid, is_same_point, dominating, is_boundary, ends_at}
 use Rattle.plane.proofs.Equal.{same_point_read, same_point_refl}
-use Rattle.plane.proofs.OnSegment.{ordered_read}
-use Rattle.plane.proofs.Order.{ends_differ}
-use Rattle.plane.proofs.Accepted.{is_at_grid}
 use Rattle.scene.specs.declared.Shape.TheVariants.{Points}
 use Rattle.scene.specs.declared.Layout.{Layout}
-use Rattle.scene.specs.Conditions.{indices, elements, has_segments, half, segments}
-use Rattle.scene_segments.proofs.Indices.{indices_in, element_in, in_element}
-use Rattle.scene_segments.proofs.Walk.{all_between, left_passes, count_segments}
-use Rattle.check_verdict.proofs.Laws.{SoundObject, no_half_twice, no_point_twice, partner_of, all_ordered}
+use Rattle.scene.specs.Conditions.{elements, has_segments, half, segments}
+use Rattle.scene_segments.proofs.Indices.{element_in, in_element}
+use Rattle.check_verdict.proofs.Laws.{SoundObject, no_point_twice}
 use Rattle.flags.specs.Flags.{has_point}
 use Rattle.flags.specs.Elements.{point_of, points_of}
 use Rattle.flags.proofs.Boundary.{boundary_none, boundary_one}

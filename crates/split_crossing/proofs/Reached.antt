@@ -1,6 +1,6 @@
 -- Where a segment in steps crosses t, by the size of its left end's side value and the change of it with each step.
 use Prim.Native.Nat.{ℕ, ◌/◌, ◌%◌, ◌<◌, ◌≤◌}
-use mathlib.Core.Path.{◌≡◌, refl, sym, ap, ap₂, ◌∙◌, subst}
+use mathlib.Core.Path.{◌≡◌, sym, ap₂, ◌∙◌, subst}
 use mathlib.Core.Bool.{true}
 use lib.Dec.{T}
 use Rattle.whole.proofs.Logic.{is_true}

@@ -2,12 +2,11 @@
 use Prim.Native.Nat.{◌+◌}
 use mathlib.Core.Path.{◌≡◌, refl, sym, ap, ap₂, ◌∙◌, subst}
 use mathlib.Core.Logic.{◌⊎◌, inl, inr}
-use mathlib.Core.Bool.{true, false, not, ◌&&◌, cond}
+use mathlib.Core.Bool.{false, not, ◌&&◌, cond}
 use mathlib.Core.List.{[], ◌++◌}
 use lib.Dec.{T, T_not}
-use Rattle.std.specs.Int.Signed.{lt_z}
-use Rattle.whole.proofs.Logic.{and_right, and_make, is_true, refute}
-use Rattle.whole.proofs.Sign.{one_pos, lt_z_pos}
+use Rattle.whole.proofs.Logic.{and_right, and_make, refute}
+use Rattle.whole.proofs.Sign.{one_pos}
 use Rattle.plane.specs.declared.Point.{Point}
 use Rattle.plane.specs.declared.Segment.{Segment}
 use Rattle.plane.specs.Plane.{HPoint, SharePoint, fractions, ordered, cross, end_within, touch, grid, is_end, on}
@@ -17,14 +16,13 @@ use Rattle.plane.proofs.Scale.{fractions_pos}
 use Rattle.plane.proofs.Touch.{opposite_differ, cross_read, cross_shares}
 use Rattle.plane.proofs.AlongSegment.{Apart}
 use Rattle.plane.proofs.Accepted.{apart_from_touch}
-use Rattle.scene_segments.proofs.Parted.{left_line, right_line, parted_across}
+use Rattle.scene_segments.proofs.Parted.{left_line, right_line}
 use Rattle.split_pieces.specs.Pieces.{EndPoint}
 use Rattle.split_pieces.proofs.Chain.{inside_along}
 use Rattle.split_pieces.proofs.Pair.{end_of, end_on_it}
 use Rattle.split_crossing.specs.declared.Crossing.{Crossing}
 use Rattle.split_crossing.specs.Crossing.{crossing_of, crossing_of_point, placed_on, size_left, size_right}
 use Rattle.split_crossing.specs.Cuts.{point_if, crossing_point, cuts_by}
-use Rattle.split_cuts.specs.Split.{crosses_off, is_off}
 
 -- strictly inside is no end
 not_inside : (t : Segment) (c : Point) → EndOf t (grid c) → T (end_within t c) → ⊥

@@ -1,9 +1,7 @@
-use Rattle.std.proofs.Common.{sym, ap, ap₂, ◌≡◌, ℕ, List, Bool, ◌∙◌, ◌++◌, [], ◌∷◌, ◌+◌, arith, length, true, false, length-append}
+use Rattle.std.proofs.Common.{sym, ap, ◌≡◌, ◌∙◌, ◌++◌, [], ◌∷◌, ◌+◌, arith, length, true, false, length-append}
 use Rattle.arrayvec.specs.ArrayVec.{ArrayVec}
 use Rattle.split_cuts.specs.declared.Piece.{Piece}
-use Rattle.plane.specs.declared.Halfsegment.{Halfsegment}
-use Rattle.scene.specs.declared.Layout.{Layout}
-use Rattle.scene.specs.Conditions.{has_segments, half, ia, left_test}
+use Rattle.scene.specs.Conditions.{left_test}
 use Rattle.scene_segments.proofs.Walk.{between, few_elements}
 use Rattle.split_cuts.specs.Listed.{listed, piece_at}
 use Rattle.split_cuts.proofs.Listing.{is_left, piece_is, listed_from, listed_all, listed_left, listed_right, no_list}

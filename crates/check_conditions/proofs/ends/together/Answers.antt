@@ -1,4 +1,4 @@
-use Rattle.std.proofs.Common.{◌≡◌, ◌∙◌, sym, ap, ap₂, arith, not}
+use Rattle.std.proofs.Common.{◌∙◌, sym, ap, ap₂, arith, not}
 use borrow.Author.Tests.{not-false}
 use Rattle.plane.specs.Plane.{is_same_point, dominating}
 use Rattle.plane.proofs.Compared.{same_points}

@@ -1,8 +1,5 @@
-use Rattle.std.proofs.Common.{◌≡◌, ◌∙◌, ap, pos, ◌&&◌, arith}
-use Rattle.whole.specs.Count.{eq_z}
-use Rattle.plane.specs.Plane.{before}
+use Rattle.std.proofs.Common.{arith}
 use Rattle.plane.proofs.Compared.{before_is}
-use Rattle.split_crossing.proofs.Inside.{inside_is}
 use Rattle.split_crossing.proofs.Sides.{inside_by}
 use Rattle.split_crossing.proofs.Stepped.has_inside.Goals as goal
 

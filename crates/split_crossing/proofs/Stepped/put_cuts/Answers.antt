@@ -1,8 +1,8 @@
 -- An end on the line of the segment tells that they do not cross; opposite side values that none is.
-use Rattle.std.proofs.Common.{◌≡◌, ◌∙◌, sym, ap, ap₂, pos, T}
+use Rattle.std.proofs.Common.{◌∙◌, sym, ap, ap₂, pos}
 use mir.Syntax.{w64}
 use mir.Val.{to_z, of_z}
-use Rattle.plane.specs.Plane.{in_range, opposite}
+use Rattle.plane.specs.Plane.{opposite}
 use Rattle.plane.proofs.Machine.{eq_z_no, left_in_range, right_in_range}
 use Rattle.split_crossing.proofs.BySides.{apart_is, held_back}
 use Rattle.split_crossing.proofs.Putting.{not_off, both_ends, right_end, crossing_alone}

@@ -1,6 +1,5 @@
 use Rattle.std.proofs.Common.{◌≡◌, arith, refl, ap, sym, ◌∙◌, ◌++◌, ◌+◌, ◌||◌, Bool, true, false, drop, length, length-append, get_or}
 use Rattle.whole.specs.Count.{some}
-use Rattle.plane.specs.declared.Segment.{Segment}
 use Rattle.split_crossing.specs.Cuts.{cuts_by, cuts}
 use Rattle.split_cuts.specs.Listed.{segments_of}
 use Rattle.split_cuts.specs.Split.{crosses_off}
