@@ -1,5 +1,5 @@
 -- The earliest record at fault by the tests of Faults.antt is that of the definitions, where the conditions that the tests rest on find no fault: 10 of the
--- elements searched, and for 14 also 11.
+-- elements searched, and for 13 and 14 also 11.
 use Rattle.std.specs.Prelude.{None, Some}
 use Prim.Native.Nat.{ℕ, zero, suc, ◌+◌, ◌-◌, ◌<◌, ◌≤◌}
 use native.Mathlib.Nat.{eq-or-lt_of_le}
@@ -31,7 +31,8 @@ use Rattle.scene_segments.proofs.Walk.{between, left_passes, some_segments}
 use Rattle.scene_segments.proofs.Beyond.{touches_some, counts_below_lem}
 use Rattle.check_conditions.specs.Partners.{place_for, turned, has_partner}
 use Rattle.check_conditions.proofs.Halving.{Parts, parted}
-use Rattle.check_conditions.specs.Odd.{is_first_at, begins_oddly, interior_by, is_mismarked}
+use Rattle.check_conditions.proofs.Together.{together_all}
+use Rattle.check_conditions.specs.Odd.{is_first_at, together, begins_oddly, interior_by, is_mismarked}
 use Rattle.check_conditions.specs.Faults.{touches_any}
 
 -- ---- two tests with one earliest record: what is tested is wrong, and at or before what is wrong something is tested
@@ -71,13 +72,17 @@ module _ (s : List ℕ) (l : Layout) where
   abbrev odd_at : ℕ → Bool
   odd_at i = odd (ends_at (segments s l) (grid (dominating (half s l i))))
 
+  -- by the number of segments, of the first of them
+  abbrev first_odd : ℕ → Bool
+  first_odd i = is_region l.shape && (is_first_at s l i && odd_at i)
+
   -- the first of them
-  first_of : (i : ℕ) → T (ends_oddly s l i) → (j : ℕ) × (j ≤ i) × T (begins_oddly s l j)
+  first_of : (i : ℕ) → T (ends_oddly s l i) → (j : ℕ) × (j ≤ i) × T (first_odd j)
   first_of zero t = (0, omega arith, and_make (is_region l.shape) (is_first_at s l 0 && odd_at 0) (and_left (is_region l.shape) (odd_at 0) t) (and_right (is_region l.shape) (odd_at 0) t))
   first_of (suc i) t = go (is_same_point (dominating (half s l i)) (dominating (half s l (suc i)))) refl (first_of i)
     where
       go : (b : Bool) → is_same_point (dominating (half s l i)) (dominating (half s l (suc i))) ≡ b
-          → (T (ends_oddly s l i) → (j : ℕ) × (j ≤ i) × T (begins_oddly s l j)) → (j : ℕ) × (j ≤ suc i) × T (begins_oddly s l j)
+          → (T (ends_oddly s l i) → (j : ℕ) × (j ≤ i) × T (first_odd j)) → (j : ℕ) × (j ≤ suc i) × T (first_odd j)
       go true e earlier =
           let same = same_point_read (dominating (half s l i)) (dominating (half s l (suc i))) (is_true _ e) in
           let w = earlier (subst (λ (p : Point). T (is_region l.shape && odd (ends_at (segments s l) (grid p)))) (sym same) t) in
@@ -91,11 +96,11 @@ module _ (s : List ℕ) (l : Layout) where
           first : is_first_at s l (suc i) ≡ true
           first = rw (lt-ltb 0 (suc i) (omega arith), back, e)
 
-  pub fault_13 : earliest l (begins_oddly s l) (elements l) ≡ odd_end s l
+  by_first : earliest l first_odd (elements l) ≡ odd_end s l
   unfolding odd_end
-  fault_13 = same_earliest l (ends_oddly s l) (begins_oddly s l) (record { sound = later; complete = λ i h. first_of i })
+  by_first = same_earliest l (ends_oddly s l) first_odd (record { sound = later; complete = λ i h. first_of i })
     where
-      later : (i : ℕ) → i < l.count → T (begins_oddly s l i) → T (ends_oddly s l i)
+      later : (i : ℕ) → i < l.count → T (first_odd i) → T (ends_oddly s l i)
       later i h t =
           and_make (is_region l.shape) (odd_at i) (and_left (is_region l.shape) (is_first_at s l i && odd_at i) t)
           (and_right (is_first_at s l i) (odd_at i) (and_right (is_region l.shape) (is_first_at s l i && odd_at i) t))
@@ -211,6 +216,19 @@ module _ (s : List ℕ) (l : Layout) (is : IsObject s l) (order : out_of_order s
   pub fault_12 : earliest l (λ i. touches_any s l l (i + 1) i) (elements l) ≡ touching_itself s l
   unfolding touching_itself touching
   fault_12 = same_earliest l (is_touching s l (segments s l)) (λ i. touches_any s l l (i + 1) i) touches_earlier
+
+  -- ---- 13: as many segments end at a point as elements stand together there
+
+  pub fault_13 : unpaired s l ≡ None → earliest l (begins_oddly s l) (elements l) ≡ odd_end s l
+  fault_13 paired = agree l (first_odd s l) (begins_oddly s l) (λ i h. go i h (is_region l.shape) refl) ∙ by_first s l
+    where
+      at_first : (i : ℕ) → i < l.count → is_region l.shape ≡ true → (c : Bool) → is_first_at s l i ≡ c → (c && odd (together s l i)) ≡ (c && odd_at s l i)
+      at_first i h r true f = ap odd (together_all s l is order (region_segments l.shape r) i h paired (is_true (is_first_at s l i) f))
+      at_first i h r false f = refl
+
+      go : (i : ℕ) → i < l.count → (b : Bool) → is_region l.shape ≡ b → (b && (is_first_at s l i && odd (together s l i))) ≡ (b && (is_first_at s l i && odd_at s l i))
+      go i h true e = at_first i h e (is_first_at s l i) refl
+      go i h false e = refl
 
   -- ---- 14: of a halfsegment and its partner, which have one ia, the left one is the earlier
 

@@ -49,7 +49,7 @@ geometry_flawed s sc is_first_lem is_second =
     decide_alike (Flawed Unpaired) (or_else (unpaired s (given_first sc)) (unpaired s (given_second sc))) (scene_fault_under s sc Unpaired) _ _ (ap₂ or_else (sym (fault_11 s (given_first sc) is_first_lem o.0)) (sym (fault_11 s (given_second sc) is_second o.1))) (λ paired.
     let p = neither (unpaired s (given_first sc)) (unpaired s (given_second sc)) paired in
     decide_alike (Flawed Touching) (or_else (touching_itself s (given_first sc)) (touching_itself s (given_second sc))) (scene_fault_under s sc Touching) _ _ (ap₂ or_else (sym (fault_12 s (given_first sc) is_first_lem o.0)) (sym (fault_12 s (given_second sc) is_second o.1))) (λ _.
-    decide_alike (Flawed OddEnd) (or_else (odd_end s (given_first sc)) (odd_end s (given_second sc))) (scene_fault_under s sc OddEnd) _ _ (ap₂ or_else (sym (fault_13 s (given_first sc))) (sym (fault_13 s (given_second sc)))) (λ _.
+    decide_alike (Flawed OddEnd) (or_else (odd_end s (given_first sc)) (odd_end s (given_second sc))) (scene_fault_under s sc OddEnd) _ _ (ap₂ or_else (sym (fault_13 s (given_first sc) is_first_lem o.0 p.0)) (sym (fault_13 s (given_second sc) is_second o.1 p.1))) (λ _.
     decide_alike (Flawed WrongIa) (or_else (wrong_ia s (given_first sc)) (wrong_ia s (given_second sc))) (scene_fault_under s sc WrongIa) _ _ (ap₂ or_else (sym (fault_14 s (given_first sc) is_first_lem o.0 p.0)) (sym (fault_14 s (given_second sc) is_second o.1 p.1))) (λ _.
     decide_alike (Flawed TouchingAcross) (touching_across s sc) (scene_fault_under s sc TouchingAcross) _ _ (sym (fault_15 s (given_second sc) is_second o.1 (given_first sc) is_first_lem)) (λ _. refl))))))
 

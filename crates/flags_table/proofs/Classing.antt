@@ -16,7 +16,7 @@ use Rattle.flags.specs.Elements.{edges, same_edge, has_edge}
 use Rattle.flags.proofs.Elements.{some_same, some_on, some_map, outline_edges}
 use Rattle.flags_classes.specs.Classed.{is_shared, other_above, other_below, above_outside_test, below_outside_test, above_inside_test, below_inside_test, both_above_test, both_below_test, opposite, some_left, classes}
 use Rattle.flags_table.specs.Table.{unshared, shared}
-use Rattle.flags_table.proofs.Counting.{some_or}
+use Rattle.check_conditions.proofs.Counting.{some_or}
 
 -- a segment is one of the object's with the interior above it, or with the interior below it
 pub has_either : (s : List ℕ) (l : Layout) (t : Segment) → has_edge (edges s l) t true || has_edge (edges s l) t false ≡ has_segment (segments s l) t

@@ -30,7 +30,7 @@ use Rattle.flags.proofs.Boundary.{evenly_bounded}
 use Rattle.cells_matrix.proofs.Common.{at_itself, on_find, on_make, end_along, another_end}
 use Rattle.scene_keys.specs.Keyed.{element_point}
 use Rattle.flags_meetings.specs.Met.{degree}
-use Rattle.flags_table.proofs.Counting.{some_count}
+use Rattle.check_conditions.proofs.Counting.{some_count}
 use Rattle.scene_keys.proofs.Elements.{point_of_half}
 use Rattle.flags_table.proofs.Degrees.{degree_ends}
 

@@ -1,5 +1,4 @@
 -- The flags follow from the meetings, the classes and the notes of the sweep.
-pub mod Counting
 pub mod Degrees
 pub mod Ends
 pub mod Noting

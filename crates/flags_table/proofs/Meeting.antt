@@ -18,7 +18,7 @@ use Rattle.scene_keys.specs.Keyed.{element_point}
 use Rattle.flags_meetings.specs.Met.{degree, is_inner, Test, bound_outside_test, bound_inside_test, bound_on_test, bound_bound_test, bound_inner_test, inner_bound_test, inner_inner_test, some_of_f, meetings}
 use Rattle.flags_meetings.proofs.PointKinds.{Kind, none, bound, inner, kind_of}
 use Rattle.flags_table.specs.Table.{alone}
-use Rattle.flags_table.proofs.Counting.{some_or, some_count}
+use Rattle.check_conditions.proofs.Counting.{some_or, some_count}
 use Rattle.flags_table.proofs.Sizes.{Size, nought, one, more, size_of}
 
 -- ---- a point of both objects

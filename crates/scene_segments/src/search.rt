@@ -1,7 +1,7 @@
 // Searches over the segments of an object. Each walks the records once, or until no later one can count, and takes the left halfsegments.
 ghost use Rattle.std.specs.Prelude.{◌≡◌, Bool, ◌*◌, ◌≤◌, T};
 ghost use Rattle.whole.specs.Count.{count};
-ghost use Rattle.plane.specs.Plane.{limit, within, segment_in_range, ordered, grid, halved, midpoint, ends_at, counts_below, touch};
+ghost use Rattle.plane.specs.Plane.{limit, within, segment_in_range, ordered, halved, midpoint, counts_below, touch};
 ghost use Rattle.scene.specs.Conditions.{has_segments, segments};
 ghost use Rattle.scene_segments.specs.Walked.{left_with, beyond, is_below, TakesSegments, Tests, touches_from, count_below};
 ghost use Rattle.plane.specs.declared.Segment.{Segment};
@@ -90,13 +90,6 @@ impl<'a> Object<'a> {
             }
         }
         n
-    }
-
-    // How many segments end at p?
-    pub fn count_ends(self, p: Point) -> usize
-        ensures { result ≡ ends_at (segments self.entry.bytes.now self.entry.layout) (grid p) }
-    {
-        self.count(|t| plane_segments::is_end(t, p))
     }
 
     // How many segments count below the point whose doubled coordinates are m's?

@@ -103,4 +103,5 @@ module _ (s : Segment) (count : ℕ) (o : T (ordered s)) (r : T (segment_in_rang
               (next_small s.left.x s.right.x divides_across (within_x limit s.left (left_in_range s r)) (within_x limit s.right (right_in_range s r)))
               (next_small s.left.y s.right.y divides_up (within_y limit s.left (left_in_range s r)) (within_y limit s.right (right_in_range s r)));
           few = count_small;
+          above_zero = count_above;
         }

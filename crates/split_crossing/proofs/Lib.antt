@@ -8,4 +8,8 @@ pub mod Cutting
 pub mod Range
 pub mod SplitWell
 -- and the numbers on the way: how large a side value is
+pub mod Sides
+pub mod BySides
+pub mod Putting
+pub mod Inside
 pub mod Sizes

@@ -1,15 +1,14 @@
 -- Where a segment in steps crosses t, by the size of its left end's side value and the change of it with each step.
 use Prim.Native.Nat.{ℕ, ◌/◌, ◌%◌, ◌<◌, ◌≤◌}
-use mathlib.Core.Path.{◌≡◌, refl, sym, ap, ap₂, ◌∙◌, subst}
-use mathlib.Core.Bool.{Bool, true, false, not}
-use lib.Dec.{T, eqb}
-use borrow.Author.Tests.{eqb-true, eqb-false}
+use mathlib.Core.Path.{◌≡◌, sym, ap₂, ◌∙◌, subst}
+use mathlib.Core.Bool.{true}
+use lib.Dec.{T}
 use Rattle.whole.proofs.Logic.{is_true}
 use Rattle.plane.specs.declared.Segment.{Segment}
 use Rattle.plane.specs.Plane.{cross}
 use Rattle.split_crossing.specs.declared.Crossing.TheVariants.{OffGrid, At}
 use Rattle.split_crossing.specs.declared.Stepped.{Stepped}
-use Rattle.split_crossing.specs.Crossing.{size_left, crossing_of, is_off, crosses_off}
+use Rattle.split_crossing.specs.Crossing.{size_left, crossing_of}
 use Rattle.split_crossing.specs.Steps.{reached}
 use Rattle.split_crossing.proofs.Stepping.{change, change_above, few_steps, crossing_there, crossing_nowhere}
 
@@ -28,11 +27,3 @@ module _ (o : Stepped) (t : Segment) (x : true ≡ cross o.segment t) (before by
 
   pub nowhere : (before % by ≡ 0 → ⊥) → OffGrid ≡ crossing_of o.segment t
   nowhere n = crossing_nowhere o.segment o.next o.count o.steps t crossed (λ z. n (ap₂ (λ a b. a % b) e f ∙ z))
-
-  -- a rest says that it is off the grid
-  pub rest_off : not (eqb (before % by) 0) ≡ crosses_off o.segment t
-  rest_off = go (eqb (before % by) 0) refl
-    where
-      go : (b : Bool) → eqb (before % by) 0 ≡ b → not b ≡ crosses_off o.segment t
-      go true q = ap is_off (there (eqb-true (before % by) 0 q))
-      go false q = ap is_off (nowhere (eqb-false (before % by) 0 q))

@@ -87,7 +87,7 @@ module _ (s : Segment) (next : Point) (steps : ℕ) (h : InSteps s next steps) (
   N = side t.left t.right next
 
   -- so many times the change in a step is that from end to end
-  even_change : pos steps *ℤ (A -ℤ N) ≡ A -ℤ B
+  pub even_change : pos steps *ℤ (A -ℤ N) ≡ A -ℤ B
   unfolding side
   even_change =
       solve (pos steps ∷ (t.right.x -ℤ t.left.x) ∷ (t.right.y -ℤ t.left.y) ∷ s.left.x ∷ s.left.y ∷ next.x ∷ next.y ∷ t.left.x ∷ t.left.y ∷ [])

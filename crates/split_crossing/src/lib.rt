@@ -1,13 +1,15 @@
 // Where two segments cross: nowhere, at a point of the grid, or off it. All numbers on the way fit 64 bits.
 #![tactic(auto)]
 
-ghost use Rattle.std.specs.Prelude.{◌≡◌, ◌*◌, ◌≤◌, T, ℕ, pos, nat_abs, ◌+ℤ◌, ◌-ℤ◌, ◌*ℤ◌};
+ghost use Rattle.std.specs.Prelude.{◌≡◌, ◌*◌, ◌/◌, ◌%◌, ◌^◌, ◌<◌, ◌≤◌, T, ℕ, cond, eqb, Some, None, pos, nat_abs, ◌+ℤ◌, ◌-ℤ◌, ◌*ℤ◌};
 ghost use Rattle.std.specs.Int.{IsGcd};
-ghost use Rattle.plane.specs.Plane.{limit, in_range, segment_in_range, ordered, side, opposite, cross};
-ghost use Rattle.split_crossing.specs.Crossing.{steps_from, crossing_of, crosses_off, CrossingMeans};
-ghost use Rattle.split_crossing.specs.Steps.{InSteps, reached};
+ghost use Rattle.plane.specs.Plane.{limit, in_range, segment_in_range, ordered, side, opposite};
+ghost use Rattle.split_crossing.specs.Crossing.{steps_from, crossing_of, CrossingMeans};
+ghost use Rattle.split_crossing.specs.Steps.{InSteps, BySteps, reached};
 
 use plane::{Point, Segment};
+
+pub mod cuts;
 
 // Whether two segments cross, and where: a crossing lies strictly inside both.
 #[derive(Clone, Copy, PartialEq, Eq)]
@@ -48,23 +50,8 @@ fn after(m: i32, n: i32, steps: u32) -> i32
     m + steps as i32 * (n - m)
 }
 
-// The size of the side value of p against t, which is in proportion to how far p is from the line of t.
-fn side_size(t: Segment, p: Point) -> u64
-    requires { T (segment_in_range t) × T (in_range p) }
-    ensures { (result ≡ nat_abs (side t.left t.right p)) × (result ≤ 8 * (limit * limit)) }
-{
-    plane::side(t.left, t.right, p).unsigned_abs()
-}
-
-// How far apart the side values of p and q against t are.
-fn side_change(t: Segment, p: Point, q: Point) -> u64
-    requires { T (segment_in_range t) × T (in_range p) × T (in_range q) }
-    ensures { result ≡ nat_abs (side t.left t.right p -ℤ side t.left t.right q) }
-{
-    plane::side(t.left, t.right, p).abs_diff(plane::side(t.left, t.right, q))
-}
-
 // Have they strictly opposite signs?
+#[inline(always)]
 #[tactic(auto, unfolding(plane::specs::Plane::opposite))]
 fn are_opposite(a: i64, b: i64) -> bool
     ensures { result ≡ opposite a b }
@@ -72,24 +59,38 @@ fn are_opposite(a: i64, b: i64) -> bool
     (a < 0 && 0 < b) || (0 < a && b < 0)
 }
 
-// Does the line of t have p and q strictly on opposite sides?
-// Kept beside `crosses` of `plane_segments`, whose turns are of 32-bit products: here the side values themselves are wanted, and most pairs are told apart by two of them.
-fn separates(t: Segment, p: Point, q: Point) -> bool
-    requires { T (segment_in_range t) × T (in_range p) × T (in_range q) }
-    ensures { result ≡ opposite (side t.left t.right p) (side t.left t.right q) }
-{
-    are_opposite(
-        plane::side(t.left, t.right, p),
-        plane::side(t.left, t.right, q),
-    )
+// 2^52: a float from there to twice as much has no fraction, and the last 52 of its bits say how far above it is.
+const RAISE: f64 = 4_503_599_627_370_496.0;
+
+const RAISE_BITS: u64 = 4_841_369_599_423_283_200;
+
+// A number below 2^52 as a float, by its bits: no clause says so, since the quotient of two is tested.
+#[inline(always)]
+fn float_of(n: u64) -> f64 {
+    std::num::f64_from_bits_with_nan(RAISE_BITS + n % 4_503_599_627_370_496) - RAISE
 }
 
-#[tactic(auto, unfolding(plane::specs::Plane::cross))]
-fn crosses(s: Segment, t: Segment) -> bool
-    requires { T (segment_in_range s) × T (segment_in_range t) }
-    ensures { result ≡ cross s t }
+// How many times `change` is in `before`, by floats, to the nearest whole number. Kept as a guess: a division of 64 bits takes longer than all else that is done for a crossing.
+#[inline(always)]
+fn likely(change: u64, before: u64) -> u32 {
+    let bits = std::num::f64_to_bits_with_nan(float_of(before) / float_of(change) + RAISE);
+    (bits % 67_108_864) as u32
+}
+
+// How many times `change` is in `before`, where nothing is left; no more often than `most`. A guess that is right spares the division.
+#[inline(always)]
+fn times_in(change: u64, before: u64, most: u32) -> Option<u32>
+    requires { (0 < change) × (before / change ≤ most) × (most * change < 2 ^ 64) }
+    ensures { result ≡ cond (eqb (before % change) 0) (Some (before / change)) None }
 {
-    separates(s, t.left, t.right) && separates(t, s.left, s.right)
+    let guess = likely(change, before);
+    if guess <= most && guess as u64 * change == before {
+        return Some(guess);
+    }
+    if before % change != 0 {
+        return None;
+    }
+    Some((before / change) as u32)
 }
 
 /// A segment in steps, each from one grid point on it to the next: the first one after its left end, and how many steps lead to its right end.
@@ -134,32 +135,30 @@ impl Stepped {
         }
     }
 
-    // Where it crosses t, and what the answer says in points. With each step the side value against t rises or falls by the same: so a grid point is at the crossing exactly
-    // if that divides the left end's.
-    pub fn crossing_of(self, t: Segment) -> Crossing
-        requires { T (segment_in_range t) }
+    // The side value of p against a step: as often as there are steps it is that against the whole.
+    #[inline(always)]
+    fn side_of(self, p: Point) -> i64
+        requires { T (in_range p) }
+        ensures { result ≡ side self.segment.left self.next p }
+    {
+        plane::side(self.segment.left, self.next, p)
+    }
+
+    // Where it crosses t, whose ends have these side values, and what the answer says in points. With each step the side value against t changes by as much as these
+    // are apart: so a grid point is at the crossing exactly if that divides the left end's.
+    #[inline(always)]
+    fn crossing_by(self, t: Segment, left: i64, right: i64) -> Crossing
+        requires { T (segment_in_range t) × BySteps self.segment self.next t left right × T (opposite left right) }
         ensures { (result ≡ crossing_of self.segment t) × (T (ordered self.segment) → T (ordered t) → CrossingMeans self.segment t result) }
     {
-        if !crosses(self.segment, t) {
+        let before = plane::side(t.left, t.right, self.segment.left);
+        let change = right - left;
+        if !are_opposite(before, before - self.count as i64 * change) {
             return Crossing::Apart;
         }
-        let before = side_size(t, self.segment.left);
-        let change = side_change(t, self.segment.left, self.next);
-        if before % change != 0 {
-            return Crossing::OffGrid;
+        match times_in(change.unsigned_abs(), before.unsigned_abs(), self.count) {
+            Some(steps) => Crossing::At(self.reached(steps)),
+            None => Crossing::OffGrid,
         }
-        Crossing::At(self.reached((before / change) as u32))
-    }
-    // Does it cross t off the grid?
-    // Kept beside `crossing_of`, which says where: this is asked of each pair of two objects, and stands in that loop with no call and no point.
-    pub fn crosses_off(self, t: Segment) -> bool
-        requires { T (segment_in_range t) }
-        ensures { result ≡ crosses_off self.segment t }
-    {
-        if !crosses(self.segment, t) {
-            return false;
-        }
-        let before = side_size(t, self.segment.left);
-        before % side_change(t, self.segment.left, self.next) != 0
     }
 }

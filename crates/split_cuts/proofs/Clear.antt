@@ -1,13 +1,12 @@
--- Segments that do not touch cut nothing, and do not cross off the grid.
+-- Segments that do not touch cut nothing.
 use Prim.Native.Nat.{◌+◌}
 use mathlib.Core.Path.{◌≡◌, refl, sym, ap, ap₂, ◌∙◌, subst}
 use mathlib.Core.Logic.{◌⊎◌, inl, inr}
-use mathlib.Core.Bool.{true, false, not, ◌&&◌, cond}
+use mathlib.Core.Bool.{false, not, ◌&&◌, cond}
 use mathlib.Core.List.{[], ◌++◌}
 use lib.Dec.{T, T_not}
-use Rattle.std.specs.Int.Signed.{lt_z}
-use Rattle.whole.proofs.Logic.{and_right, and_make, is_true, refute}
-use Rattle.whole.proofs.Sign.{one_pos, lt_z_pos}
+use Rattle.whole.proofs.Logic.{and_right, and_make, refute}
+use Rattle.whole.proofs.Sign.{one_pos}
 use Rattle.plane.specs.declared.Point.{Point}
 use Rattle.plane.specs.declared.Segment.{Segment}
 use Rattle.plane.specs.Plane.{HPoint, SharePoint, fractions, ordered, cross, end_within, touch, grid, is_end, on}
@@ -17,14 +16,13 @@ use Rattle.plane.proofs.Scale.{fractions_pos}
 use Rattle.plane.proofs.Touch.{opposite_differ, cross_read, cross_shares}
 use Rattle.plane.proofs.AlongSegment.{Apart}
 use Rattle.plane.proofs.Accepted.{apart_from_touch}
-use Rattle.scene_segments.proofs.Parted.{left_line, right_line, parted_across}
+use Rattle.scene_segments.proofs.Parted.{left_line, right_line}
 use Rattle.split_pieces.specs.Pieces.{EndPoint}
 use Rattle.split_pieces.proofs.Chain.{inside_along}
 use Rattle.split_pieces.proofs.Pair.{end_of, end_on_it}
 use Rattle.split_crossing.specs.declared.Crossing.{Crossing}
 use Rattle.split_crossing.specs.Crossing.{crossing_of, crossing_of_point, placed_on, size_left, size_right}
 use Rattle.split_crossing.specs.Cuts.{point_if, crossing_point, cuts_by}
-use Rattle.split_cuts.specs.Split.{crosses_off, is_off}
 
 -- strictly inside is no end
 not_inside : (t : Segment) (c : Point) → EndOf t (grid c) → T (end_within t c) → ⊥
@@ -71,14 +69,3 @@ module _ (t u : Segment) (o : T (ordered t)) (v : T (ordered u)) (f : touch t u 
   pub no_cuts : cuts_by t u ≡ []
   unfolding cuts_by
   no_cuts = ap₂ (λ a b. point_if a u.left ++ b) no_left (ap₂ (λ a r. point_if a u.right ++ crossing_point r) no_right apart)
-
-  pub not_off : crosses_off t u ≡ false
-  not_off = ap is_off apart
-
--- t ends left of where u begins
-pub beyond_clear : (t u : Segment) → T (ordered t) → T (ordered u) → lt_z t.right.x u.left.x ≡ true → touch t u ≡ false
-beyond_clear t u o v e = (parted_across t u o v (lt_z_pos t.right.x u.left.x (is_true (lt_z t.right.x u.left.x) e))).0
-
--- t begins right of where u ends
-pub before_clear : (t u : Segment) → T (ordered t) → T (ordered u) → lt_z u.right.x t.left.x ≡ true → touch t u ≡ false
-before_clear t u o v e = (parted_across u t v o (lt_z_pos u.right.x t.left.x (is_true (lt_z u.right.x t.left.x) e))).1

@@ -2,4 +2,3 @@
 pub mod Clear
 pub mod Listing
 pub mod Steps
-pub mod Inside

@@ -1,12 +1,13 @@
 -- The elements of an object that are left halfsegments, in a list, one after the other.
-use Rattle.std.proofs.Common.{◌≡◌, ◌+◌, ◌≤◌, ◌<◌, refl, ap, ℕ, true, false, List, [], ◌∷◌, map, length, get_or, pos, T, subst}
+use Rattle.std.proofs.Common.{◌≡◌, ◌∙◌, ◌+◌, ◌≤◌, ◌<◌, refl, sym, ap, ap₂, ℕ, Bool, true, false, List, [], ◌∷◌, map, length, get_or, pos, T, subst}
 use Rattle.whole.specs.Count.{◌∈◌}
 use Rattle.whole.proofs.Logic.{in_at, in_map, map_in, and_left, is_true, true_is}
+use Rattle.plane.specs.declared.Halfsegment.{Halfsegment}
 use Rattle.scene.specs.declared.Layout.{Layout}
 use Rattle.plane.specs.Plane.{segment_in_range, ordered}
 use Rattle.scene.specs.Read.{place, IsObject}
 use Rattle.scene.proofs.Given.{GoodHalfsegment}
-use Rattle.scene.specs.Conditions.{elements, keep, has_segments, half, left_test, segments}
+use Rattle.scene.specs.Conditions.{elements, keep, has_segments, half, ia, left_test, segments}
 use Rattle.scene.proofs.Indices.{keep_in, in_element}
 use Rattle.scene_segments.proofs.Elements.{half_good}
 use Rattle.scene_segments.proofs.Walk.{between, all_between, between_next, between_none}
@@ -60,6 +61,13 @@ module _ (s : List ℕ) (l : Layout) where
 
           g : GoodHalfsegment s (place l w.0)
           g = half_good s l is w.0 (in_element l w.0 k.0) (true_is (has_segments l.shape) (and_left (has_segments l.shape) (half s l w.0).is_left (is_true (left_test s l w.0) k.1)))
+
+-- an element that was read is a left one, or not; and it is listed with its ia
+pub is_left : (s : List ℕ) (l : Layout) (i : ℕ) (b : Bool) → has_segments l.shape ≡ true → {h : Halfsegment} → h ≡ half s l i → h.is_left ≡ b → left_test s l i ≡ b
+is_left s l i b has is e = rw has (ap (λ (k : Halfsegment). k.is_left) (sym is) ∙ e)
+
+pub piece_is : (s : List ℕ) (l : Layout) (i : ℕ) {h : Halfsegment} {b : Bool} → h ≡ half s l i → b ≡ ia s l i → record { segment = h.segment; ia = b } ≡ piece_at s l i
+piece_is s l i is e = ap₂ (λ (k : Halfsegment) (a : Bool). record { segment = k.segment; ia = a }) is e
 
 -- ---- a good one, by where it stands
 

@@ -1,6 +1,6 @@
 -- What is left of a list, one element on: of the cuts of a segment, of the search for the next one, of a test, of the pieces.
 use Rattle.std.proofs.Common.{◌≡◌, ◌∙◌, ◌+◌, ◌≤◌, ◌<◌, refl, sym, ap, ap₂, ℕ, suc, zero, Bool, true, false, ◌||◌, cond, List, [], ◌∷◌, ◌++◌, length, get_or, drop, arith, append_assoc, length-append, Result}
-use Rattle.std.proofs.lemmas.List.{at_drop_more}
+use Rattle.std.proofs.lemmas.List.{at_drop_more, length-map}
 use mathlib.Core.List.{map-append}
 use Rattle.std.proofs.lemmas.Result.{MatchResult-weaker}
 use Rattle.std.specs.Result.{MatchResult}
@@ -89,6 +89,11 @@ module _ (before row : List Piece) (ia : Bool) (l : List Segment) (rest : List P
       → MatchResult r (λ _. new ≡ before ++ with_ia ia l) (λ _. most_pieces < length before + length l)
   last_put p is new r m =
       MatchResult-weaker r m (λ _ k. k ∙ ap (λ x. row ++ x) (sym is) ∙ sym e) (λ _ k. over k (omega (arith, ap length is)))
+
+-- more than all before and those of a segment
+pub over_all : (all row : List Piece) (ia : Bool) (l : List Segment) (rest : List Piece) → all ≡ row ++ (with_ia ia l ++ rest) → most_pieces < length row + length l → most_pieces < length all
+over_all all row ia l rest e h =
+    omega (arith, h, ap length e, length-append row (with_ia ia l ++ rest), length-append (with_ia ia l) rest, length-map {B = Piece} l (λ (t : Segment). record { segment = t; ia = ia }))
 
 pub some_piece : (n : ℕ) (cuts : List Point) (p r : Point) (ia : Bool) → 1 ≤ length (with_ia ia (pieces_from n cuts p r))
 some_piece zero cuts p r ia = omega arith

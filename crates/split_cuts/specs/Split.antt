@@ -1,5 +1,5 @@
 -- The pieces of an object that is split by another, each with the ia of its segment; and the fault of 19.
-use Rattle.std.specs.Prelude.{ℕ, Bool, ◌&&◌, List, [], ◌∷◌, ◌++◌, map}
+use Rattle.std.specs.Prelude.{ℕ, ◌+◌, ◌<◌, ◌≡◌, Bool, true, false, ◌&&◌, length, List, [], ◌∷◌, ◌++◌, map, None, Some}
 use Rattle.whole.specs.Count.{some}
 use Rattle.plane.specs.declared.Segment.{Segment}
 use Rattle.scene.specs.declared.Layout.{Layout}
@@ -9,6 +9,8 @@ use Rattle.split_pieces.specs.Pieces.{pieces}
 pub use Rattle.split_crossing.specs.Crossing.{is_off, crosses_off}
 use Rattle.split_crossing.specs.Cuts.{cuts}
 use Rattle.split_cuts.specs.declared.Piece.{Piece}
+use Rattle.split_cuts.specs.declared.first.Unsplit.{Unsplit}
+use Rattle.split_cuts.specs.declared.first.Unsplit.TheVariants.{OffGrid, TooMany}
 
 -- ---- the pieces
 
@@ -31,3 +33,13 @@ module _ (s : List ℕ) (l : Layout) (other : List Segment) where
 
   unfoldable pub off_grid : Fault
   off_grid = earliest l is_off_grid (elements l)
+
+-- with the pieces of one more segment, while there is room
+abbrev pub Fits : Bool → Bool → List Piece → List Piece → Bool → List Segment → Type 0
+Fits true had before after ia l = (had ≡ true) × (after ≡ before ++ with_ia ia l)
+Fits false had before after ia l = had ≡ true → most_pieces < length before + length l
+
+-- why an object is not split, by its fault under 19 and how many pieces it would have
+abbrev pub Says : Unsplit → Fault → ℕ → Type 0
+Says (OffGrid p) off pieces = off ≡ Some p
+Says TooMany off pieces = (off ≡ None) × (most_pieces < pieces)

@@ -10,7 +10,7 @@ use plane::Segment;
 use scene_segments::Object;
 
 pub mod cuts;
-pub mod off_grid;
+pub mod first;
 pub mod pieces;
 
 /// A segment, or a piece of one, and whether the interior of its region is above it. A line has none.

@@ -6,10 +6,10 @@ ghost use Rattle.split_pieces.specs.Pieces.{between, next_cut, pieces_from};
 ghost use Rattle.split_cuts.specs.Listed.{segments_of};
 ghost use Rattle.split_cuts.specs.Split.{with_ia, split_pieces, most_pieces};
 
-use crate::cuts::Cuts;
 use crate::{Piece, Segments};
 use arrayvec::ArrayVec;
 use plane::{Point, Segment};
+use split_crossing::cuts::Cuts;
 
 // An object that is written has no more elements than one that is read, two for each segment.
 pub const MOST: usize = 512;
@@ -56,7 +56,7 @@ fn put(row: &mut Pieces, p: Point, q: Point, ia: bool) -> Result<(), TooMany>
 }
 
 // Puts the pieces of a segment, which have its ia: up to each cut, and from the last one on.
-fn put_pieces(row: &mut Pieces, cuts: &[Point], whole: Piece) -> Result<(), TooMany>
+pub fn put_pieces(row: &mut Pieces, cuts: &[Point], whole: Piece) -> Result<(), TooMany>
     ensures { MatchResult result
         (λ _. row.new.items ≡ row.old.items ++ with_ia whole.ia (pieces_from (length cuts.now) cuts.now whole.segment.left whole.segment.right))
         (λ _. most_pieces < array_vec_len row.old + length (pieces_from (length cuts.now) cuts.now whole.segment.left whole.segment.right)) }

@@ -1,22 +1,13 @@
-use Rattle.std.proofs.Common.{sym, ap, ap₂, ◌≡◌, ℕ, List, Bool, ◌∙◌, ◌++◌, [], ◌∷◌, ◌+◌, arith, length, true, false, length-append}
+use Rattle.std.proofs.Common.{sym, ap, ◌≡◌, ◌∙◌, ◌++◌, [], ◌∷◌, ◌+◌, arith, length, true, false, length-append}
 use Rattle.arrayvec.specs.ArrayVec.{ArrayVec}
 use Rattle.split_cuts.specs.declared.Piece.{Piece}
-use Rattle.plane.specs.declared.Halfsegment.{Halfsegment}
-use Rattle.scene.specs.declared.Layout.{Layout}
-use Rattle.scene.specs.Conditions.{has_segments, half, ia, left_test}
+use Rattle.scene.specs.Conditions.{left_test}
 use Rattle.scene_segments.proofs.Walk.{between, few_elements}
 use Rattle.split_cuts.specs.Listed.{listed, piece_at}
-use Rattle.split_cuts.proofs.Listing.{listed_from, listed_all, listed_left, listed_right, no_list}
+use Rattle.split_cuts.proofs.Listing.{is_left, piece_is, listed_from, listed_all, listed_left, listed_right, no_list}
 use Rattle.split_cuts.proofs.Steps.{onward}
 use Rattle.split_cuts.proofs.listed.Goals as goal
 use Rattle.split_cuts.proofs.listed.Goals.{then-h, else-h}
-
--- an element that was read is a left one, or not; and it is listed with its ia
-is_left : (s : List ℕ) (l : Layout) (i : ℕ) (b : Bool) → has_segments l.shape ≡ true → {h : Halfsegment} → h ≡ half s l i → h.is_left ≡ b → left_test s l i ≡ b
-is_left s l i b has is e = rw has (ap (λ (k : Halfsegment). k.is_left) (sym is) ∙ e)
-
-piece_is : (s : List ℕ) (l : Layout) (i : ℕ) {h : Halfsegment} {b : Bool} → h ≡ half s l i → b ≡ ia s l i → record { segment = h.segment; ia = b } ≡ piece_at s l i
-piece_is s l i is e = ap₂ (λ (k : Halfsegment) (a : Bool). record { segment = k.segment; ia = a }) is e
 
 pub returns-then-not-has_segments : goal.returns-then-not-has_segments
 returns-then-not-has_segments c = c.new-list.ensures ∙ sym (no_list c.args.o.bytes.now c.args.o.layout (sym c.has_segments.ensures ∙ c.if-not-has_segments.true))
