@@ -1,5 +1,6 @@
 /* A walk in portions beside the single call: nanoseconds of the thread, best of so many passes, over scenes of full size. The walk of the single call is what it takes with all flags
- * wanted, less what it takes with none, which is its checks. A portion of 64 events may take a tenth of that, and all of them together twice; it fails beyond. */
+ * wanted, less what it takes with none, which is its checks. A portion of 64 events may take a tenth of that, and all of them together twice; it fails beyond. The beginning stands beside the
+ * whole single call, without a limit. */
 #define _POSIX_C_SOURCE 200112L
 #include "karvoiss.h"
 
@@ -62,16 +63,6 @@ static void all_portions(void)
         walk = karvoiss_walk_portion(ground, sizeof ground, walk, PORTION);
 }
 
-static int events(void)
-{
-    karvoiss_walk_t walk = begun;
-    int n = 0;
-
-    for (; walk.number == 0 && !walk.done; n++)
-        walk = karvoiss_walk_portion(ground, sizeof ground, walk, 1);
-    return n;
-}
-
 /* argv: scenes */
 int main(int argc, char **argv)
 {
@@ -97,11 +88,11 @@ int main(int argc, char **argv)
         if (begun.number != 0)
             return 2;
 
-        int n = events();
-        double walk = best(single) - best(checks), beginning = best(begin), all = best(all_portions), portion = all / ((n + PORTION - 1) / PORTION);
+        int n = (int)begun.events;
+        double whole = best(single), walk = whole - best(checks), beginning = best(begin), all = best(all_portions), portion = all / ((n + PORTION - 1) / PORTION);
 
-        printf("walk of %d,%d, %4d events: beginning %.0f ns, portion of %d %.0f ns, all %.0f ns; the single call after its checks %.0f ns: %.3f and %.2f of it\n", f, g, n, beginning, PORTION,
-               portion, all, walk, portion / walk, all / walk);
+        printf("walk of %d,%d, %4d events: portion of %d %.0f ns, all %.0f ns; the single call after its checks %.0f ns: %.3f and %.2f of it; beginning %.0f ns, %.2f of the single call\n", f, g, n,
+               PORTION, portion, all, walk, portion / walk, all / walk, beginning, beginning / whole);
         if (walk > 0 && (portion > walk / 10 || all > 2 * walk))
             bad = 1;
     }
