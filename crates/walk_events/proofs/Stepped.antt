@@ -1,6 +1,6 @@
 -- Which event comes next, of the first elements that are left of either object.
 use Prim.Native.Nat.{ℕ, ◌+◌, ◌<◌, ◌≤◌}
-use mathlib.Core.Path.{◌≡◌, sym, ap, ap₂, ◌∙◌}
+use mathlib.Core.Path.{◌≡◌, refl, sym, ap, ap₂, ◌∙◌}
 use mathlib.Core.Bool.{Bool, true, false, cond}
 use mathlib.Core.List.{List, ◌∷◌}
 use Rattle.scene.specs.declared.Scene.{Scene}
@@ -13,10 +13,10 @@ merged s sc = merge (same s sc) (earlier s sc)
 
 module _ (s : List ℕ) (sc : Scene) {i j : ℕ} where
   module _ (h : i < sc.f.count) (k : j < sc.g.count) where
-    F : List ℕ
+    abbrev F : List ℕ
     F = between (i + 1) sc.f.count
 
-    G : List ℕ
+    abbrev G : List ℕ
     G = between (j + 1) sc.g.count
 
     heads : {a b : Bool} → same s sc i j ≡ a → earlier s sc i j ≡ b
@@ -26,7 +26,7 @@ module _ (s : List ℕ) (sc : Scene) {i j : ℕ} where
         ∙ ap₂ (λ t w. cond t (of_both i j ∷ merged s sc F G) (cond w (f_alone i ∷ merged s sc F (j ∷ G)) (g_alone j ∷ merged s sc (i ∷ F) G))) u v
 
     pub step_both : same s sc i j ≡ true → remaining s sc i j ≡ of_both i j ∷ remaining s sc (i + 1) (j + 1)
-    step_both u = heads u (λ x. earlier s sc i j)
+    step_both u = heads u refl
 
     pub step_earlier : same s sc i j ≡ false → earlier s sc i j ≡ true → remaining s sc i j ≡ f_alone i ∷ remaining s sc (i + 1) j
     step_earlier u v = heads u v ∙ ap (λ l. f_alone i ∷ merged s sc F l) (sym (between_next j sc.g.count k))
