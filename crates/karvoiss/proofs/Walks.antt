@@ -37,18 +37,15 @@ twice true x y = refl
 twice false x y = refl
 
 module _ (w : Walk) where
-  b : Bool
-  b = w.is_turned
-
   -- exchanged and exchanged back
-  given_back : (x y : ℕ) → cond (is_turned (state_for_c w)) (cond b x y) (cond b y x) ≡ x
-  given_back x y = ap (λ t. cond t (cond b x y) (cond b y x)) (bit_back b) ∙ twice b x y
+  given_back : (x y : ℕ) → cond (is_turned (state_for_c w)) (cond w.is_turned x y) (cond w.is_turned y x) ≡ x
+  given_back x y = ap (λ t. cond t (cond w.is_turned x y) (cond w.is_turned y x)) (bit_back w.is_turned) ∙ twice w.is_turned x y
 
   state_back : read_state (state_for_c w) ≡ w
   state_back =
       let f = ap shape_of (given_back (shape_number w.f) (shape_number w.g)) ∙ shape_back w.f in
       let g = ap shape_of (given_back (shape_number w.g) (shape_number w.f)) ∙ shape_back w.g in
-      let t = bit_back b in
+      let t = bit_back w.is_turned in
       let want_f = given_back w.want.f w.want.g in
       let want_g = given_back w.want.g w.want.f in
       let found_f = given_back w.found.f w.found.g in
@@ -65,7 +62,7 @@ module _ (w : Walk) where
 
   comes_back : state_of (state_for_c w) ≡ Some w
   comes_back =
-      ap (λ b. cond b (Some (read_state (state_for_c w))) None) (ap₂ ◌&&◌ (are_types b w.g w.f) (are_types b w.f w.g)) ∙ ap Some state_back
+      ap (λ b. cond b (Some (read_state (state_for_c w))) None) (ap₂ ◌&&◌ (are_types w.is_turned w.g w.f) (are_types w.is_turned w.f w.g)) ∙ ap Some state_back
 
   pub portion_back : (g : List ℕ) (n : ℕ) → portion_for_c g (state_for_c w) n ≡ walk_for_c (portion_of g w n)
   portion_back g n = ap (λ x. walk_for_c (portion_if g x n)) comes_back
