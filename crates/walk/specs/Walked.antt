@@ -6,7 +6,8 @@ use Rattle.scene.specs.declared.Scene.{Scene}
 use Rattle.scene.specs.declared.Refusal.{Refusal}
 use Rattle.scene.specs.declared.Reason.TheVariants.{Malformed, NoRoom}
 use Rattle.scene.specs.Read.{CheckedScene, turned}
-use Rattle.scene.specs.Conditions.{indices, check_scene}
+use Rattle.scene.specs.Conditions.{check_scene}
+use Rattle.scene_segments.proofs.Walk.{between}
 use Rattle.sweep_laws.specs.Noted.{Noted}
 use Rattle.flags.proofs.Marks.{gather}
 use Rattle.flags_masks.specs.declared.FlagMasks.{FlagMasks}
@@ -32,27 +33,27 @@ done w = eqb w.taken w.events
 
 -- ---- a portion, of any bytes as ground
 
--- one of the four bytes of the events from one on, put together
-abbrev pub byte_in : List ℕ → (which : ℕ) → (from n : ℕ) → ℕ
-byte_in g which from n = gather (λ m. get_or g (4 * m + which) 0) (indices n from)
+-- one of the four bytes of the events from one up to another, put together
+abbrev pub byte_in : List ℕ → (which : ℕ) → (from to : ℕ) → ℕ
+byte_in g which from to = gather (λ n. get_or g (4 * n + which) 0) (between from to)
 
-abbrev pub marks_of_f : List ℕ → (from n : ℕ) → Marks
-marks_of_f g from n = record { met = byte_in g 0 from n; classes = byte_in g 1 from n }
+abbrev pub marks_of_f : List ℕ → (from to : ℕ) → Marks
+marks_of_f g from to = record { met = byte_in g 0 from to; classes = byte_in g 1 from to }
 
-abbrev pub marks_of_g : List ℕ → (from n : ℕ) → Marks
-marks_of_g g from n = record { met = byte_in g 2 from n; classes = byte_in g 3 from n }
+abbrev pub marks_of_g : List ℕ → (from to : ℕ) → Marks
+marks_of_g g from to = record { met = byte_in g 2 from to; classes = byte_in g 3 from to }
 
--- n events further
+-- with so many events taken, by the marks of those that are new
 abbrev pub moved : List ℕ → Walk → ℕ → Walk
-moved g w n =
+moved g w to =
     record {
       f = w.f;
       g = w.g;
       is_turned = w.is_turned;
       want = w.want;
       events = w.events;
-      taken = w.taken + n;
-      found = record { f = bit_or w.found.f (marked_f w.f w.g w.want (marks_of_f g w.taken n)); g = bit_or w.found.g (marked_g w.f w.g w.want (marks_of_g g w.taken n)) };
+      taken = to;
+      found = record { f = bit_or w.found.f (marked_f w.f w.g w.want (marks_of_f g w.taken to)); g = bit_or w.found.g (marked_g w.f w.g w.want (marks_of_g g w.taken to)) };
     }
 
 -- the state fits the ground: no more events than a scene has, each with its four bytes, and no more taken than there are
@@ -64,7 +65,7 @@ at_fault = Err (record { reason = Malformed; place = 0 })
 
 -- "takes that many or all that remain, and hands the walk's state back"; 24 at 0 where the state does not fit the ground
 unfoldable pub portion_of : List ℕ → Walk → ℕ → WalkAnswer
-portion_of g w n = cond (is_over g w) (Ok (moved g w (min n (w.events - w.taken)))) at_fault
+portion_of g w n = cond (is_over g w) (Ok (moved g w (w.taken + min n (w.events - w.taken)))) at_fault
 
 -- ---- the state after n events
 

@@ -12,6 +12,7 @@ use scene::{Reason, Refusal};
 use sweep_notes::Notes;
 
 // Of a scene that the checks take: its ground is laid in the lent buffer, if that has four bytes for each element.
+#[tactic(auto, using(crate::proofs::Points::few_elements))]
 fn begun(noted: NotedScene<'_>, want: FlagMasks, ground: &mut [u8]) -> Result<Walk, Refusal>
     ensures is { result ≡ begun_as noted.entry.bytes.now noted.entry.scene want (length ground.old) }
     ensures ground { GroundAfter noted.entry.bytes.now ground.old ground.new result }

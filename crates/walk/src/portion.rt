@@ -1,6 +1,6 @@
 // A portion of a walk, and what its state says.
 ghost use Rattle.std.specs.Prelude.{◌≡◌, ◌*◌, ◌≤◌, length};
-ghost use Rattle.walk.specs.Walked.{shown, done, portion_of, MarksIn};
+ghost use Rattle.walk.specs.Walked.{shown, done, portion_of, marks_of_f, marks_of_g};
 
 use crate::{MOST, Walk};
 use flags_vectors::Vectors;
@@ -16,7 +16,8 @@ struct BothMarks {
 
 // Those of the events from one up to another, put together.
 fn marks_in(ground: &[u8], from: usize, to: usize) -> BothMarks
-    requires { 4 * to ≤ length ground.now }
+    requires { (from ≤ to) × (4 * to ≤ length ground.now) }
+    ensures { (result.f ≡ marks_of_f ground.now from to) × (result.g ≡ marks_of_g ground.now from to) }
 {
     let mut f = Marks::NONE;
     let mut g = Marks::NONE;
@@ -34,7 +35,9 @@ fn marks_in(ground: &[u8], from: usize, to: usize) -> BothMarks
 }
 
 impl Walk {
-    fn asked(self) -> Asked {
+    fn asked(self) -> Asked
+        ensures { result ≡ record { f = self.f; g = self.g; want = self.want } }
+    {
         Asked {
             f: self.f,
             g: self.g,

@@ -1,8 +1,7 @@
--- The checks may refuse; a scene that they take begins a walk.
+-- Refused as the vectors question is, or begun.
 use Rattle.std.proofs.Common.{◌∙◌, sym, length}
 use Rattle.scene.proofs.Outcomes.{handed_on}
 use Rattle.flags_vectors.specs.Vectors.{these}
-use Rattle.walk.specs.Walked.{begun_as}
 use Rattle.walk.proofs.Beginning.{begin_refused, begin_taken}
 use Rattle.walk.proofs.begin.begin.Goals as goal
 
@@ -15,8 +14,4 @@ returns-in_err-scene-clause-is c =
 pub returns-clause-is : goal.returns-clause-is
 returns-clause-is c =
     let a = c.args in
-    let m = c.in_ok-scene.field-0 in
-    let r = c.read.ensures in
-    c.begun.ensures.is
-    ∙ (λ i. begun_as (r.0 i) (r.1 i) m.masks (length a.ground.now))
-    ∙ sym (begin_taken a.s.now (these a.want_f a.want_g) (length a.ground.now) m (sym c.asked.ensures.is ∙ c.in_ok-scene.was))
+    c.begun.ensures.is ∙ sym (begin_taken a.s.now (these a.want_f a.want_g) (length a.ground.now) c.in_ok-scene.field-0 (sym c.asked.ensures.is ∙ c.in_ok-scene.was))
