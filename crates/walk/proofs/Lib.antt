@@ -4,3 +4,6 @@ pub mod Laid
 pub mod Points
 pub mod Beginning
 pub mod Gathered
+pub mod Settled
+pub mod Portioning
+pub mod Theorems

@@ -105,7 +105,7 @@ module _ {s : List ℕ} {sc : Scene} (o : SoundScene s sc) where
     rises = omega (arith, run_next in_f p.low p.least_f p.few_f p.f_run, run_next in_g p.low p.least_g p.few_g p.g_run)
 
 -- the runs of the least key that is left
-pub point_from : (s : List ℕ) (sc : Scene) {at : Place} {to : Ends} {k : ℕ} → k < top → k ≡ min (next_key s sc.f at.i) (next_key s sc.g at.j)
+abbrev pub point_from : (s : List ℕ) (sc : Scene) {at : Place} {to : Ends} {k : ℕ} → k < top → k ≡ min (next_key s sc.f at.i) (next_key s sc.g at.j)
     → to.i ≤ sc.f.count → to.j ≤ sc.g.count → Passed sc.f.count (keys s sc.f) k at.i to.i → Passed sc.g.count (keys s sc.g) k at.j to.j
     → ((m : ℕ) → m < at.i → keys s sc.f m < k) → ((m : ℕ) → m < at.j → keys s sc.g m < k) → PointFrom s sc at to
 point_from s sc {k = k} low e few_f few_g a b c d = record {

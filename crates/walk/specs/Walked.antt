@@ -105,6 +105,11 @@ pub record GroundIs (s : List ℕ) (sc : Scene) (before g : List ℕ) : Type 0 w
   pub noted : Noted s sc notes
   pub ground : g ≡ ground_of s sc notes before
 
+-- the buffer after the ground of a scene was to be laid; where there is no room as before
+abbrev pub LaidFor : List ℕ → Scene → (before after : List ℕ) → WalkAnswer → Type 0
+LaidFor s sc before after (Err r) = after ≡ before
+LaidFor s sc before after (Ok w) = GroundIs s sc before after
+
 -- the buffer after the beginning; on a refusal as before
 abbrev pub GroundAfter : List ℕ → (before after : List ℕ) → WalkAnswer → Type 0
 GroundAfter s before after (Err r) = after ≡ before

@@ -1,5 +1,5 @@
 -- Point by point, until no element is left of either object.
-use Rattle.std.proofs.Common.{ℕ, ◌∙◌, sym, ap, ap₂, min, arith}
+use Rattle.std.proofs.Common.{ℕ, ◌<◌, ◌∙◌, sym, ap, ap₂, min, arith}
 use Rattle.scene.specs.declared.Scene.{Scene}
 use Rattle.scene_keys.specs.Keyed.{next_key}
 use Rattle.flags_vectors.proofs.Answered.{accepted}
@@ -46,11 +46,11 @@ loop-k-preserved c =
     let bytes_g = g.ensures.of.0 ∙ h.bytes_g in
     let layout_g = g.ensures.of.1 ∙ h.layout_g in
     let p = point_from z.bytes.now z.scene {at = c.loop-k.at} {to = record { i = f.new.c.index; j = g.new.c.index }} c.loop-k-test.true h.least
-        (rw layout_f at f.new.c.within) (rw layout_g at g.new.c.within)
-        (rw (h.bytes_f, h.layout_f, sym h.at_f) at f.ensures.passed) (rw (h.bytes_g, h.layout_g, sym h.at_g) at g.ensures.passed) h.f_passed h.g_passed in
+    (rw layout_f at f.new.c.within) (rw layout_g at g.new.c.within)
+    (rw (h.bytes_f, h.layout_f, sym h.at_f) at f.ensures.passed) (rw (h.bytes_g, h.layout_g, sym h.at_g) at g.ensures.passed) h.f_passed h.g_passed in
     let to = c.lay_point-at.ensures.to in
     let next = c.min-k-in-loop-k.ensures ∙ ap₂ min (rw (bytes_f, layout_f) at f.new.c.key_is) (rw (bytes_g, layout_g) at g.new.c.key_is) in
-    let above = omega (arith, rises o p, next) in
+    let above : c.loop-k.k < c.min-k-in-loop-k.result = omega (arith, rises o p, next) in
     record {
       bytes_f = bytes_f;
       layout_f = layout_f;
