@@ -1,10 +1,9 @@
 -- The state of a walk as C has it: all numbers, what a caller reads first, and all of the two objects' in the caller's order. For every state that comes back the answer, whatever it is.
 use Rattle.std.specs.Prelude.{Option, Some, None, Ok, Err, ℕ, ◌≡◌, Bool, not, ◌&&◌, cond, List, leb, eqb}
 use Rattle.whole.specs.Count.{bit}
-use Rattle.scene.specs.declared.Reason.TheVariants.{Malformed}
 use Rattle.scene.specs.Read.{number_of, shape_number, shape_of}
 use Rattle.walk.specs.declared.Walk.{Walk}
-use Rattle.walk.specs.Walked.{WalkAnswer, shown, done, portion_of}
+use Rattle.walk.specs.Walked.{WalkAnswer, shown, done, at_fault, portion_of}
 use Rattle.karvoiss.specs.declared.KarvoissWalk.{KarvoissWalk}
 
 abbrev pub state_for_c : Walk → KarvoissWalk
@@ -74,7 +73,7 @@ module _ (c : KarvoissWalk) where
 -- 24 at 0 where a type is none
 abbrev pub portion_if : List ℕ → Option Walk → ℕ → WalkAnswer
 portion_if g (Some w) n = portion_of g w n
-portion_if g None n = Err (record { reason = Malformed; place = 0 })
+portion_if g None n = at_fault
 
 -- a refusal comes back as it is
 abbrev pub portion_for_c : List ℕ → KarvoissWalk → ℕ → KarvoissWalk
