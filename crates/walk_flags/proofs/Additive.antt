@@ -2,11 +2,13 @@
 use Prim.Native.Nat.{ℕ, zero, suc, ◌<◌}
 use native.Mathlib.Omega.{arith}
 use mathlib.Core.Path.{◌≡◌, refl, sym, ap, ap₂, ◌∙◌}
-use mathlib.Core.Bool.{Bool, true, false, not, ◌&&◌, ◌||◌, and-false}
+use mathlib.Core.Bool.{Bool, true, false, cond, not, ◌&&◌, ◌||◌, and-false}
 use mathlib.Core.List.{List, [], ◌∷◌}
 use lib.Bits.{bit_or}
 use lib.Dec.{eqb}
 use lib.ListN.{get_or}
+use borrow.Author.Tests.{ne_eqb}
+use Rattle.plane.specs.Plane.{is_boundary}
 use Rattle.scene.specs.declared.Shape.{Shape}
 use Rattle.scene.specs.declared.Shape.TheVariants.{Points, Line, Region}
 use Rattle.flags.specs.Flags.{pack, has_bit}
@@ -274,6 +276,16 @@ module _ (f g : Shape) (want : FlagMasks) where
 
 pub alone_is : (a n : ℕ) → alone_marks a n ≡ met_marks a 0 n
 alone_is a n = simp (boundary_none, and-false)
+
+-- of a point of G's alone
+pub met_of_g : (b n : ℕ) → 0 < b → met_marks 0 b n ≡ cond (is_boundary b) 128 0
+met_of_g b n k =
+    let f : eqb b 0 ≡ false = ne_eqb b 0 (λ z. omega (arith, z, k)) in
+    rw (f, boundary_none) (go (is_boundary b))
+  where
+    go : (y : Bool) → pack (false ∷ false ∷ false ∷ false ∷ false ∷ false ∷ false ∷ y ∷ []) ≡ cond y 128 0
+    go true = refl
+    go false = refl
 
 pub met_of_marks : (a b n : ℕ) → keyed.named (met_marks a b n) ≡ met_at a b n
 met_of_marks a b n = λ j. record {

@@ -4,11 +4,10 @@
 
 ghost use Rattle.std.specs.Prelude.{ℕ, ◌≡◌, ◌<◌};
 ghost use Rattle.std.specs.Int.Bits.{bit_or};
-ghost use Rattle.flags_meetings.specs.Met.{is_inner};
 ghost use Rattle.sweep_notes.specs.Numbers.{note_number};
 ghost use Rattle.walk_flags.specs.OneTaken.{alone_marks, met_marks, marks_of_one, marks_of_two, marked_f, marked_g};
 
-use flags::{MarkSet, packed};
+use flags::MarkSet;
 use flags_masks::FlagMasks;
 use scene::Shape;
 use sweep_notes::Note;
@@ -43,43 +42,44 @@ pub struct Asked {
     pub want: FlagMasks,
 }
 
-// Some element has the point, and it is no boundary point.
-fn is_inner(degree: usize) -> bool
-    ensures { result ≡ is_inner degree }
-{
-    degree > 0 && !flags_meetings::is_bound(degree)
-}
-
-// The marks of the meeting at a point that is none of G's, by an element with this note.
+// The mark of the meeting at a point that is none of G's, by an element with this note: bit 0, 1 or 2 by the note, where the point is bound in F.
 fn met_alone(of_f: usize, note: Note) -> u8
     ensures { result ≡ alone_marks of_f (note_number note) }
 {
-    let bound = flags_meetings::is_bound(of_f);
-    packed([
-        bound && note == Note::Even,
-        bound && note == Note::Odd,
-        bound && note == Note::On,
-    ]) as u8
+    if !flags_meetings::is_bound(of_f) {
+        return 0;
+    }
+    match note {
+        Note::Even => 1,
+        Note::Odd => 2,
+        Note::On => 4,
+    }
 }
 
-// At a point of G's, whatever the note.
-fn met_of_g(at: Degrees) -> u8
-    requires { 0 < at.g }
+// At a point of both, whatever the note: bits 3 to 6, by its kind in F and its kind in G.
+fn met_by_both(at: Degrees) -> u8
+    requires { (0 < at.f) × (0 < at.g) }
     ensures { (n : ℕ) → result ≡ met_marks at.f at.g n }
 {
-    let bound_f = flags_meetings::is_bound(at.f);
     let bound_g = flags_meetings::is_bound(at.g);
-    let inner_f = is_inner(at.f);
-    packed([
-        false,
-        false,
-        false,
-        bound_f && bound_g,
-        bound_f && !bound_g,
-        inner_f && bound_g,
-        inner_f && !bound_g,
-        at.f == 0 && bound_g,
-    ]) as u8
+    if flags_meetings::is_bound(at.f) {
+        if bound_g { 8 } else { 16 }
+    } else {
+        if bound_g { 32 } else { 64 }
+    }
+}
+
+// At a point of G's alone: bit 7, where it is bound in G.
+#[tactic(auto, using(crate::proofs::Additive::met_of_g))]
+fn met_by_g(of_g: usize) -> u8
+    requires { 0 < of_g }
+    ensures { (n : ℕ) → result ≡ met_marks 0 of_g n }
+{
+    if flags_meetings::is_bound(of_g) {
+        128
+    } else {
+        0
+    }
 }
 
 // The marks of the meeting at a point, by an element with this note.
@@ -89,8 +89,10 @@ fn met(at: Degrees, note: Note) -> u8
 {
     if at.g == 0 {
         met_alone(at.f, note)
+    } else if at.f == 0 {
+        met_by_g(at.g)
     } else {
-        met_of_g(at)
+        met_by_both(at)
     }
 }
 
