@@ -5,7 +5,7 @@ use mathlib.Core.Path.{◌≡◌, ap, ◌∙◌}
 use mathlib.Core.List.{List}
 use lib.Bits.{bit_or, or_zero_r}
 use lib.ListN.{get_or}
-use Rattle.scene_segments.proofs.Walk.{between, between_next, between_none}
+use Rattle.scene_segments.proofs.Walk.{between_next, between_none}
 use Rattle.flags.proofs.Marks.{gather}
 use Rattle.flags_meetings.proofs.Runs.{gather_parts}
 use Rattle.walk.specs.Walked.{byte_in}

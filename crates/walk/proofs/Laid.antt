@@ -5,11 +5,11 @@ use mathlib.Core.Path.{◌≡◌, refl, sym, ap, ap₂, subst, ◌∙◌}
 use mathlib.Core.List.{List, [], ◌∷◌, ◌++◌}
 use lib.ListN.{length, take, drop}
 use lib.Seq.{drop-drop}
-use Rattle.std.proofs.lemmas.List.{append_assoc, length-append, length-take-le, take_at, drop_at, take_all}
+use Rattle.std.proofs.lemmas.List.{append_assoc, length-take-le, take_at, drop_at, take_all}
 use Rattle.scene.specs.declared.Scene.{Scene}
 use Rattle.walk_events.specs.Events.{Taken, events}
 use Rattle.walk_events.specs.Portions.{total}
-use Rattle.walk_events.specs.Stepping.{remaining, Standing}
+use Rattle.walk_events.specs.Stepping.{remaining}
 use Rattle.walk_events.proofs.Standing.{standing, one_more, steps}
 use Rattle.walk.specs.declared.laying.Place.{Place}
 use Rattle.walk.specs.Ground.{event_marks, laid, laid_first, ground_of, put}

@@ -3,15 +3,13 @@ use Rattle.std.specs.Prelude.{Ok}
 use Prim.Native.Nat.{ℕ, ◌+◌, ◌-◌, ◌<◌, ◌≤◌, min}
 use native.Mathlib.Decide.{dec_lt}
 use native.Mathlib.Omega.{arith}
-use mathlib.Core.Path.{◌≡◌, refl, sym, ap, ◌∙◌}
+use mathlib.Core.Path.{◌≡◌, sym, ap, ◌∙◌}
 use mathlib.Core.List.{List}
 use lib.Dec.{T, eqb}
 use Rattle.whole.specs.Count.{count}
 use Rattle.plane.specs.declared.Point.{Point}
 use Rattle.plane.specs.Plane.{in_range}
-use Rattle.scene.specs.declared.Layout.{Layout}
 use Rattle.scene.specs.declared.Scene.{Scene}
-use Rattle.scene.specs.Read.{IsObject}
 use Rattle.scene.specs.Conditions.{indices, check_scene}
 use Rattle.check_verdict.proofs.Laws.{SoundScene}
 use Rattle.scene_keys.specs.Keyed.{top, key, element_point, keys, next_key}

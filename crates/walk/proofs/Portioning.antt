@@ -10,29 +10,26 @@ use lib.Dec.{leb}
 use lib.ListN.{length, get_or, take, drop, take-append-drop, length-append}
 use lib.Seq.{take-add, drop-cons}
 use borrow.Author.Tests.{leb-true, le-leb}
-use Rattle.whole.specs.Count.{◌∈◌, here, there}
+use Rattle.whole.specs.Count.{◌∈◌}
 use Rattle.whole.proofs.Logic.{and_left, and_right, and_make, is_true, true_is, refute, in_left, in_right}
 use Rattle.scene.specs.declared.Scene.{Scene}
 use Rattle.scene.specs.Conditions.{indices}
-use Rattle.scene_segments.proofs.Walk.{between}
 use Rattle.flags.proofs.Marks.{gather, gather_append}
 use Rattle.flags_meetings.specs.Keyed as met
 use Rattle.flags_classes.specs.Marked as class
 use Rattle.flags_masks.specs.declared.FlagMasks.{FlagMasks}
 use Rattle.flags_masks.specs.Wanted.{only}
 use Rattle.flags_vectors.proofs.Answered.{accepted}
-use Rattle.flags_vectors.specs.declared.Vectors.{Vectors}
 use Rattle.walk_events.specs.Events.{Taken, f_alone, events, in_f, in_g}
 use Rattle.walk_events.specs.Taking.{taken_flags}
 use Rattle.walk_events.specs.Portions.{total, found_f, found_g, portion}
 use Rattle.walk_events.proofs.Merged.{total_is}
 use Rattle.walk_events.proofs.Standing.{in_f_append, in_g_append}
-use Rattle.walk_flags.specs.declared.Marks.{Marks}
 use Rattle.walk_flags.specs.OneTaken.{wanted_f, wanted_g}
 use Rattle.walk_flags.proofs.Additive.{only_or}
 use Rattle.walk.specs.declared.Walk.{Walk}
-use Rattle.walk.specs.Ground.{of_f, of_g, event_marks, laid, ground_of}
-use Rattle.walk.specs.Walked.{WalkAnswer, byte_in, moved, is_over, at_fault, portion_of, found_at, state_at, GroundIs}
+use Rattle.walk.specs.Ground.{of_f, of_g, event_marks, laid}
+use Rattle.walk.specs.Walked.{WalkAnswer, byte_in, moved, is_over, at_fault, portion_of, state_at, GroundIs}
 use Rattle.walk.proofs.Laid.{laid_length}
 use Rattle.walk.proofs.Points.{few_elements}
 use Rattle.walk.proofs.Settled.{gathered, settled_f, settled_g}

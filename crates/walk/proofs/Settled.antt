@@ -8,7 +8,6 @@ use lib.Bits.{bit_or, or_zero_r}
 use lib.ListN.{get_or}
 use Rattle.whole.specs.Count.{◌∈◌, here, there}
 use Rattle.whole.proofs.Logic.{in_cons, in_left, in_right, in_nil}
-use Rattle.plane.specs.declared.Point.{Point}
 use Rattle.scene.specs.declared.Scene.{Scene}
 use Rattle.scene_segments.proofs.Indices.{in_element}
 use Rattle.scene_keys.specs.Keyed.{element_point}
@@ -22,7 +21,7 @@ use Rattle.flags_classes.specs.Marked as class
 use Rattle.flags_masks.specs.declared.FlagMasks.{FlagMasks}
 use Rattle.flags_masks.specs.Wanted.{only}
 use Rattle.flags_table.specs.Table.{flags_of_f_by, flags_of_g_by}
-use Rattle.walk_events.specs.Events.{Taken, f_alone, g_alone, of_both, event_of, events, in_f, in_g}
+use Rattle.walk_events.specs.Events.{Taken, f_alone, g_alone, of_both, events, in_f, in_g}
 use Rattle.walk_events.specs.Taking.{taken_flags}
 use Rattle.walk_events.proofs.Alone.{both_same}
 use Rattle.walk_events.proofs.Merged.{all_of_f, all_of_g}

@@ -30,7 +30,7 @@ use Rattle.walk_events.proofs.Windows.{window_of_f, window_of_g}
 use Rattle.walk.specs.declared.Walk.{Walk}
 use Rattle.walk.specs.Walked.{WalkAnswer, GroundIs, LaidFor, GroundAfter, shown, done, portion_of, found_at, state_at, begun_as}
 use Rattle.walk.proofs.Portioning.{portion_goes}
-use Rattle.walk.specs.Theorems.{then_portion, calls, rounded_up, InWindows, Promises, Counts, WalkHolds, WalkPromised}
+use Rattle.walk.specs.Theorems.{then_portion, calls, rounded_up, InWindows, Promises, Counts, WalkPromised}
 
 -- ---- the windows
 

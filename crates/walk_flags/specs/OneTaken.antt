@@ -17,7 +17,6 @@ use Rattle.flags_classes.specs.Marked.{unshared_marks, shared_marks, named}
 use Rattle.flags_table.specs.Table.{flags_of_f_by, flags_of_g_by}
 use Rattle.flags_masks.specs.declared.FlagMasks.{FlagMasks}
 use Rattle.flags_masks.specs.Wanted.{only}
-use Rattle.walk_flags.specs.declared.Degrees.{Degrees}
 use Rattle.walk_flags.specs.declared.Marks.{Marks}
 use Rattle.walk_flags.specs.declared.Side.{Side}
 

@@ -1,5 +1,5 @@
 -- Refused as the vectors question is, or begun.
-use Rattle.std.proofs.Common.{◌≡◌, Ok, ℕ, ◌∙◌, sym, ap, length}
+use Rattle.std.proofs.Common.{◌∙◌, sym, ap, length}
 use Rattle.scene.proofs.Outcomes.{handed_on}
 use Rattle.flags_masks.specs.declared.FlagMasks.{FlagMasks}
 use Rattle.flags_vectors.specs.Vectors.{these}
