@@ -128,11 +128,10 @@ extern "C" {
 /* The stack that each call needs at most, in bytes. No call recurses, and each
  * was measured on scenes of full size, of every pair of types in either order,
  * to need about 6,000 bytes, karvoiss_summary 25,520, since it copies its object,
- * karvoiss_far 160, karvoiss_estimate 40 and karvoiss_in_window 216;
- * karvoiss_read_wkb 166,552 and karvoiss_write_wkb 26,792, since they build and
- * check an object, karvoiss_split 305,896, and karvoiss_walk_begin 10,088, since it
- * has the notes twice, and karvoiss_walk_portion 1,273; the numbers leave room for
- * other compilers.
+ * karvoiss_far 160, karvoiss_estimate 40, karvoiss_in_window 216 and
+ * karvoiss_walk_portion 329; karvoiss_read_wkb 166,552 and karvoiss_write_wkb 26,792,
+ * since they build and check an object, and karvoiss_split 305,896; the numbers leave
+ * room for other compilers.
  */
 #define KARVOISS_VECTORS_STACK 11200
 #define KARVOISS_CELLS_STACK 11200
@@ -146,8 +145,8 @@ extern "C" {
 #define KARVOISS_READ_WKB_STACK 334000
 #define KARVOISS_WRITE_WKB_STACK 93000
 #define KARVOISS_SPLIT_STACK 614400
-#define KARVOISS_WALK_BEGIN_STACK 20000
-#define KARVOISS_WALK_PORTION_STACK 2048
+#define KARVOISS_WALK_BEGIN_STACK 11200
+#define KARVOISS_WALK_PORTION_STACK 1024
 
 /* The topological feature vectors of F and G.
  *
@@ -612,8 +611,8 @@ karvoiss_split_t karvoiss_split(const uint8_t *scene, size_t length,
  * scene and the caller have them, whether the first type is above the second, how many
  * events there are and how many are taken.
  *
- * A portion costs what its events cost, COST nanoseconds each: none looks at an object. The
- * beginning costs a single call and the laying of the events.
+ * A portion costs what its events cost, some 2 nanoseconds each: none looks at an object. The
+ * beginning takes what karvoiss_vectors takes, or a little more.
  *
  * Since 0.15.0 the ground has the events. In 0.14.0 it was the scene's bytes and 2,048 more, so
  * KARVOISS_WALK_ROOM was 40,966; a state had nine numbers of the scene, and was refused with 24
