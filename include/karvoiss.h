@@ -596,8 +596,8 @@ karvoiss_split_t karvoiss_split(const uint8_t *scene, size_t length,
  *
  * `ground` points to `room` bytes, in which the beginning lays the events: four bytes each,
  * what taking it sets. That is the walk's own copy of all that it asks of the scene, whose
- * bytes may go. Four bytes for each element of both objects are asked for, though events
- * may be fewer: KARVOISS_WALK_ROOM bytes are always enough, and else it is refused with 21.
+ * bytes may go. The buffer must have four bytes for each element of both objects, though
+ * events may be fewer, or it is refused with 21; KARVOISS_WALK_ROOM bytes are always enough.
  * It may be null where `room` is 0, and must not overlap `scene`. Refused: all bytes are as
  * they were. Taken: those behind the last event are. Portions only read it, so several walks
  * may share it, and an earlier state may be gone back to: a state is a value.
