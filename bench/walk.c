@@ -1,5 +1,6 @@
-/* A walk in portions beside the single call: nanoseconds of the thread, best of so many passes, over scenes of full size. The walk of the single call is what it takes with all flags
- * wanted, less what it takes with none, which is its checks. A portion of 64 events may take a tenth of that, and all of them together twice; it fails beyond. */
+/* A walk in portions beside the single call: nanoseconds of the thread, best of so many passes, in which the calls take turns, over scenes of full size. The walk of the single call is what
+ * it takes with all flags wanted, less what it takes with none, which is its checks. A portion of 64 events may take a tenth of that, and all of them together twice; it fails beyond. The beginning stands beside the
+ * whole single call, without a limit. */
 #define _POSIX_C_SOURCE 200112L
 #include "karvoiss.h"
 
@@ -21,20 +22,13 @@ static double now(void)
     return (double)t.tv_sec * 1e9 + (double)t.tv_nsec;
 }
 
-static double best(void (*work)(void))
+static double timed(void (*work)(void))
 {
-    double least = 1e30;
+    const double start = now();
 
-    for (int pass = 0; pass < PASSES; pass++) {
-        double start = now(), taken;
-
-        for (int i = 0; i < CALLS; i++)
-            work();
-        taken = (now() - start) / CALLS;
-        if (taken < least)
-            least = taken;
-    }
-    return least;
+    for (int i = 0; i < CALLS; i++)
+        work();
+    return (now() - start) / CALLS;
 }
 
 static void single(void)
@@ -62,14 +56,28 @@ static void all_portions(void)
         walk = karvoiss_walk_portion(ground, sizeof ground, walk, PORTION);
 }
 
-static int events(void)
-{
-    karvoiss_walk_t walk = begun;
-    int n = 0;
+/* The least time of each. */
+struct times {
+    double single, checks, begin, all;
+};
 
-    for (; walk.number == 0 && !walk.done; n++)
-        walk = karvoiss_walk_portion(ground, sizeof ground, walk, 1);
-    return n;
+static void keep(double *least, double taken)
+{
+    if (taken < *least)
+        *least = taken;
+}
+
+static struct times best(void)
+{
+    struct times t = {1e30, 1e30, 1e30, 1e30};
+
+    for (int pass = 0; pass < PASSES; pass++) {
+        keep(&t.single, timed(single));
+        keep(&t.checks, timed(checks));
+        keep(&t.begin, timed(begin));
+        keep(&t.all, timed(all_portions));
+    }
+    return t;
 }
 
 /* argv: scenes */
@@ -97,12 +105,13 @@ int main(int argc, char **argv)
         if (begun.number != 0)
             return 2;
 
-        int n = events();
-        double walk = best(single) - best(checks), beginning = best(begin), all = best(all_portions), portion = all / ((n + PORTION - 1) / PORTION);
+        const int n = (int)begun.events;
+        const struct times t = best();
+        const double walk = t.single - t.checks, portion = t.all / ((n + PORTION - 1) / PORTION);
 
-        printf("walk of %d,%d, %4d events: beginning %.0f ns, portion of %d %.0f ns, all %.0f ns; the single call after its checks %.0f ns: %.3f and %.2f of it\n", f, g, n, beginning, PORTION,
-               portion, all, walk, portion / walk, all / walk);
-        if (walk > 0 && (portion > walk / 10 || all > 2 * walk))
+        printf("walk of %d,%d, %4d events: portion of %d %.0f ns, all %.0f ns; the single call after its checks %.0f ns: %.3f and %.2f of it; beginning %.0f ns, %.2f of the single call\n", f, g, n,
+               PORTION, portion, t.all, walk, portion / walk, t.all / walk, t.begin, t.begin / t.single);
+        if (walk > 0 && (portion > walk / 10 || t.all > 2 * walk))
             bad = 1;
     }
     return bad;

@@ -1,6 +1,6 @@
 /* A long question that may be put down: a route beside a zone, asked for its vectors a few
  * events at a time, as a panel does that must redraw while the user drags. Then the same walk
- * from a state that was kept, and a state that fits no ground.
+ * from a state that was kept, and states that fit no ground.
  *
  *     walk
  *
@@ -51,9 +51,10 @@ int main(void)
     printf("the single call: f %u, g %u\n", (unsigned)single.f, (unsigned)single.g);
     say("from the beginning, all at once",
         karvoiss_walk_portion(ground, sizeof ground, kept, SIZE_MAX));
-    kept.count_g = 5000;
+    say("over a ground that was cut", karvoiss_walk_portion(ground, 11, kept, 1));
+    kept.taken = 5000;
     say("a state that was tampered with", karvoiss_walk_portion(ground, sizeof ground, kept, 1));
     say("a buffer that is too short",
-        karvoiss_walk_begin(stop_and_route, sizeof stop_and_route, 7, 1, ground, 100));
+        karvoiss_walk_begin(stop_and_route, sizeof stop_and_route, 7, 1, ground, 11));
     return 0;
 }

@@ -87,9 +87,8 @@
  *      such, from 0 (karvoiss_relate only)
  *  24  a field of well-known binary that is cut, has no allowed value or is left
  *      over (karvoiss_read_wkb); a region, which is not written (place 0;
- *      karvoiss_write_wkb); a walk's state that does not fit its ground (place 0), or
- *      a record of the ground that is at fault, at its offset there
- *      (karvoiss_walk_portion)
+ *      karvoiss_write_wkb); a walk's state that does not fit its ground (place 0;
+ *      karvoiss_walk_portion)
  *  25  a coordinate that is not a whole number in range (karvoiss_read_wkb only)
  *  26  an open ring, at its count (karvoiss_read_wkb only)
  *  27  not a window (place 0; karvoiss_in_window only)
@@ -129,11 +128,10 @@ extern "C" {
 /* The stack that each call needs at most, in bytes. No call recurses, and each
  * was measured on scenes of full size, of every pair of types in either order,
  * to need about 6,000 bytes, karvoiss_summary 25,520, since it copies its object,
- * karvoiss_far 160, karvoiss_estimate 40 and karvoiss_in_window 216;
- * karvoiss_read_wkb 104,328 and karvoiss_write_wkb 26,792, since they build and
- * check an object, karvoiss_split 332,440, and karvoiss_walk_begin 10,088, since it
- * has the notes twice, and karvoiss_walk_portion 1,273; the numbers leave room for
- * other compilers.
+ * karvoiss_far 160, karvoiss_estimate 40, karvoiss_in_window 216 and
+ * karvoiss_walk_portion 329; karvoiss_read_wkb 104,328 and karvoiss_write_wkb 46,408,
+ * since they build and check an object, and karvoiss_split 332,440; the numbers leave
+ * room for other compilers.
  */
 #define KARVOISS_VECTORS_STACK 11200
 #define KARVOISS_CELLS_STACK 11200
@@ -147,8 +145,8 @@ extern "C" {
 #define KARVOISS_READ_WKB_STACK 334000
 #define KARVOISS_WRITE_WKB_STACK 93000
 #define KARVOISS_SPLIT_STACK 614400
-#define KARVOISS_WALK_BEGIN_STACK 20000
-#define KARVOISS_WALK_PORTION_STACK 2048
+#define KARVOISS_WALK_BEGIN_STACK 11200
+#define KARVOISS_WALK_PORTION_STACK 1024
 
 /* The topological feature vectors of F and G.
  *
@@ -596,21 +594,29 @@ karvoiss_split_t karvoiss_split(const uint8_t *scene, size_t length,
  * after the end, gives the state back as it is, and portions add up: where a walk stands
  * depends on the scene, the masks and the number of events taken, and on nothing else.
  *
- * `ground` points to `room` bytes, the walk's own copy of the scene and of what the checks
- * found: the scene's bytes, and 2,048 more. KARVOISS_WALK_ROOM bytes are always enough. It
- * may be null where `room` is 0, and must not overlap `scene`. Refused: all bytes are as
- * they were. Taken: later bytes are. Portions only read it, so several walks may share it,
- * and an earlier state may be gone back to: a state is a value.
+ * `ground` points to `room` bytes, in which the beginning lays the events: four bytes each,
+ * what taking it sets. That is the walk's own copy of all that it asks of the scene, whose
+ * bytes may go. The buffer must have four bytes for each element of both objects, though
+ * events may be fewer, or it is refused with 21; KARVOISS_WALK_ROOM bytes are always enough.
+ * It may be null where `room` is 0, and must not overlap `scene`. Refused: all bytes are as
+ * they were. Taken: those behind the last event are. Portions only read it, so several walks
+ * may share it, and an earlier state may be gone back to: a state is a value.
  *
  * Neither ground nor state need be tested, whatever they are. A state with a number above 0
  * comes back as it is. One that karvoiss_walk_begin and karvoiss_walk_portion did not make,
- * or over another ground, is refused with 24 where it does not fit the ground (place 0) or
- * where a record that is due is at fault (its offset in the ground), and is walked
- * over what stands there else. All fields but the number and the place are then 0. The fields
- * after `done` are for the next portion.
+ * or over another ground, is refused with 24 at 0 where it does not fit the ground: where a
+ * type is not 1 to 3, where it has more events than 2,048 or than the ground has four bytes
+ * for, or more are taken than there are. All other fields are then 0. Else it takes what stands
+ * in the ground. The fields after `done` are for the next portion: the types and masks as the
+ * scene and the caller have them, whether the first type is above the second, how many
+ * events there are and how many are taken.
  *
- * A portion costs what its events cost, some 40 nanoseconds each: none searches an object
- * or reads the scene again.
+ * A portion costs what its events cost, some 2 nanoseconds each: none looks at an object. The
+ * beginning takes what karvoiss_vectors takes, or a little more.
+ *
+ * Since 0.15.0 the ground has the events. In 0.14.0 it was the scene's bytes and 2,048 more, so
+ * KARVOISS_WALK_ROOM was 40,966; a state had nine numbers of the scene, and was refused with 24
+ * at a record of the ground that was at fault. Who calls as above is only built again.
  */
 typedef struct {
     uint32_t number;
@@ -620,20 +626,14 @@ typedef struct {
     uint8_t done;
     uint8_t type_f;
     uint8_t type_g;
+    uint8_t turned;
     uint16_t want_f;
     uint16_t want_g;
-    size_t length;
-    size_t start_f;
-    size_t start_g;
-    size_t count_f;
-    size_t count_g;
-    size_t taken_f;
-    size_t taken_g;
-    size_t degree_f;
-    size_t degree_g;
+    size_t events;
+    size_t taken;
 } karvoiss_walk_t;
 
-#define KARVOISS_WALK_ROOM 40966
+#define KARVOISS_WALK_ROOM 8192
 
 karvoiss_walk_t karvoiss_walk_begin(const uint8_t *scene, size_t length,
                                     uint16_t want_f, uint16_t want_g,

@@ -230,7 +230,7 @@ karvoiss_walk_t __wrap_karvoiss_walk_begin(const uint8_t *scene, size_t length, 
         *(volatile uint8_t *)ground = 84;
 #elif defined MISTAKE_walk_writes_on
     if (walk.number == 0)
-        ((volatile uint8_t *)ground)[length + 2048] = 0;
+        ((volatile uint8_t *)ground)[4 * walk.events] = 0;
 #endif
     return walk;
 }
@@ -246,7 +246,7 @@ karvoiss_walk_t __wrap_karvoiss_walk_portion(const uint8_t *ground, size_t lengt
         *(volatile uint8_t *)ground = *ground;
 #elif defined MISTAKE_portion_keeps_state
     static volatile size_t kept;
-    const size_t taken = 2048 * walk.taken_f + walk.taken_g;
+    const size_t taken = walk.taken;
 
     kept = taken;
 #elif defined MISTAKE_portion_deep
@@ -258,7 +258,7 @@ karvoiss_walk_t __wrap_karvoiss_walk_portion(const uint8_t *ground, size_t lengt
 #if defined MISTAKE_portion_done_by_flags
     walk.done = walk.number == 0 && (walk.done || (walk.f == walk.want_f && walk.g == walk.want_g));
 #elif defined MISTAKE_portion_refuses_with_state
-    walk.length = walk.number != 0;
+    walk.events += walk.number != 0;
 #elif defined MISTAKE_portion_keeps_state
     walk.place += kept != taken;
 #endif

@@ -111,7 +111,7 @@ static void ask_split_at_fence(const uint8_t *bytes, size_t length, size_t room)
 }
 
 /* A walk over the scene that ends at the fence, in portions, to the vectors of the reference; and the bytes as a ground, with a state whose numbers are the first of them, or the
- * state of the scene's own walk: an answer, zeros beside a refusal, and no byte that was not lent. */
+ * state of the scene's own walk: what follows from the state, and no byte that was not lent. */
 static void ask_walk_at_fence(const uint8_t *bytes, size_t length, uint16_t want_f, uint16_t want_g, karvoiss_vectors_t wanted, size_t portion)
 {
     static uint8_t ground[KARVOISS_WALK_ROOM];
@@ -124,8 +124,7 @@ static void ask_walk_at_fence(const uint8_t *bytes, size_t length, uint16_t want
     if (state.number != 0 || length % 2 == 1)
         memcpy(&state, bytes, length < sizeof state ? length : sizeof state);
     karvoiss_walk_t found = karvoiss_walk_portion(bytes, length, state, portion);
-    const karvoiss_walk_t refused = {.number = 24, .place = found.place};
-    require(found.number == 0 ? found.done <= 1 : same_walk(&found, state.number != 0 ? &state : &refused), "a portion of any state over any ground");
+    require(is_portion(&state, length, portion, &found), "a portion of any state over any ground");
 }
 
 int LLVMFuzzerTestOneInput(const uint8_t *data, size_t size)

@@ -88,20 +88,21 @@ static void is_walk(const char *name, karvoiss_walk_t answer, uint32_t number)
         fail(name, "another answer");
 }
 
-static void walk_of_null(void)
+static void walk_of_null(const struct scene *scene)
 {
     static uint8_t ground[KARVOISS_WALK_ROOM];
     uint8_t buffer[1] = {0xEE};
-    karvoiss_walk_t begin = karvoiss_walk_begin(empty_regions, sizeof empty_regions, 255, 15, ground, sizeof ground);
+    const karvoiss_walk_t empty = karvoiss_walk_begin(empty_regions, sizeof empty_regions, 255, 15, NULL, 0), empty_end = karvoiss_walk_portion(NULL, 0, empty, 1);
+    const karvoiss_walk_t begin = karvoiss_walk_begin(scene->bytes, scene->length, 255, 15, ground, sizeof ground);
 
     is_walk("null walked over", karvoiss_walk_begin(NULL, 0, 0, 0, buffer, 1), 1);
     is_walk("null walked over in null", karvoiss_walk_begin(NULL, 0, 0, 0, NULL, 0), 1);
-    is_walk("two empty regions walked over in null", karvoiss_walk_begin(empty_regions, sizeof empty_regions, 255, 15, NULL, 0), 21);
+    is_walk("two regions walked over in null", karvoiss_walk_begin(scene->bytes, scene->length, 255, 15, NULL, 0), 21);
     is_walk("a walk over null", karvoiss_walk_portion(NULL, 0, begin, 1), 24);
     is_walk("zeros over null", karvoiss_walk_portion(NULL, 0, (karvoiss_walk_t){0}, 1), 24);
     is_walk("zeros over a ground", karvoiss_walk_portion(ground, sizeof ground, (karvoiss_walk_t){0}, 1), 24);
-    if (begin.number != 0 || begin.done != 1)
-        fail("two empty regions", "are not done at the beginning");
+    if (empty.number != 0 || empty.done != 1 || !same_walk(&empty, &empty_end))
+        fail("two empty regions", "are not done at the beginning, in null");
     if (buffer[0] != 0xEE)
         fail("null", "a buffer was changed");
 }
@@ -149,7 +150,7 @@ int main(int argc, char **argv)
     summaries_of_null(&scene);
     wkb_of_null();
     split_of_null();
-    walk_of_null();
-    puts("null: 24 calls");
+    walk_of_null(&scene);
+    puts("null: 26 calls");
     return 0;
 }

@@ -71,6 +71,16 @@ static inline size_t record_length(uint8_t kind)
     return kind == 80 ? 9 : kind == 76 ? 18 : kind == 82 ? 19 : kind == 84 ? 2 : kind == 69 ? 1 : 0;
 }
 
+/* How many elements the records have, up to one that is no record. */
+static inline size_t count_elements(const uint8_t *bytes, size_t length)
+{
+    size_t count = 0;
+
+    for (size_t at = 0; at < length && record_length(bytes[at]) > 0; at += record_length(bytes[at]))
+        count += record_length(bytes[at]) > 2;
+    return count;
+}
+
 /* All flags of the scene's pair of types; no flag where the bytes do not say what the types are. */
 static inline struct masks all_flags(const uint8_t *bytes, size_t length)
 {
@@ -249,8 +259,36 @@ static inline void ask_split(const uint8_t *bytes, size_t length, struct answers
 static inline bool same_walk(const karvoiss_walk_t *a, const karvoiss_walk_t *b)
 {
     return a->number == b->number && a->place == b->place && a->f == b->f && a->g == b->g && a->done == b->done && a->type_f == b->type_f && a->type_g == b->type_g
-        && a->want_f == b->want_f && a->want_g == b->want_g && a->length == b->length && a->start_f == b->start_f && a->start_g == b->start_g && a->count_f == b->count_f
-        && a->count_g == b->count_g && a->taken_f == b->taken_f && a->taken_g == b->taken_g && a->degree_f == b->degree_f && a->degree_g == b->degree_g;
+        && a->turned == b->turned && a->want_f == b->want_f && a->want_g == b->want_g && a->events == b->events && a->taken == b->taken;
+}
+
+/* Does a state fit a ground of so many bytes, whatever stands there? */
+static inline bool fits_ground(const karvoiss_walk_t *walk, size_t length)
+{
+    const bool types = walk->type_f >= 1 && walk->type_f <= 3 && walk->type_g >= 1 && walk->type_g <= 3;
+
+    return types && walk->events <= 2048 && walk->events <= length / 4 && walk->taken <= walk->events;
+}
+
+/* Whether a portion of any state over any ground of so many bytes may be what was found, all of which but the flags follows from the state. */
+static inline bool is_portion(const karvoiss_walk_t *walk, size_t length, size_t events, const karvoiss_walk_t *found)
+{
+    karvoiss_walk_t expected = {.number = 24};
+
+    if (walk->number != 0)
+        return same_walk(found, walk);
+    if (fits_ground(walk, length)) {
+        const size_t left = walk->events - walk->taken;
+
+        expected = *walk;
+        expected.place = 0;
+        expected.turned = walk->turned != 0;
+        expected.taken += events < left ? events : left;
+        expected.done = expected.taken == walk->events;
+        expected.f = (uint16_t)(walk->f | (found->f & walk->want_f));
+        expected.g = (uint16_t)(walk->g | (found->g & walk->want_g));
+    }
+    return same_walk(found, &expected);
 }
 
 /* Walked over to the end: the refusals and the vectors are those of the single call. */
@@ -261,7 +299,7 @@ static inline void ask_walk(const uint8_t *bytes, size_t length, struct masks al
 
     if (walk.number != answers->vectors.number || walk.place != answers->vectors.place)
         fail("walk", "another refusal than the vectors have");
-    for (size_t i = walk.number == 0 ? length + 2048 : 0; i < sizeof ground; i++)
+    for (size_t i = 4 * walk.events; i < sizeof ground; i++)
         if (ground[i] != 0xEE)
             fail("walk", "a byte was changed that must not be");
     while (walk.number == 0 && !walk.done)

@@ -22,7 +22,7 @@ use crate::split_byhand;
 use crate::split_maker;
 use crate::summary::{are_far, far, summary, FarAnswer, Summary};
 use crate::tally::Tally;
-use crate::walk::{Told, Walk};
+use crate::walk::{self, Told, Walk};
 use crate::wkb::{Reading, Writing};
 use crate::wkb_byhand::{self, hexadecimal};
 use crate::wkb_maker;
@@ -303,9 +303,6 @@ fn ask_splitting(bytes: &[u8], room: Option<usize>, rules: &Rules, random: &mut 
     Ok(written)
 }
 
-/// The ground of a walk has the scene and a byte for each of 2,048 notes.
-const NOTES: usize = 2048;
-
 /// The greatest portions, and those that every scene made by hand is walked over in.
 const PORTIONS: [usize; 5] = [1, 2, 7, 64, usize::MAX];
 
@@ -350,7 +347,11 @@ fn all_wanted(bytes: &[u8]) -> [u16; 2] {
 /// One walk, in portions of these sizes over and over; with one size it has as many calls as document 02 says.
 fn ask_walking(bytes: &[u8], judgement: &Judgement, want: [u16; 2], sizes: &[usize], rules: &Rules, tally: &mut Tally) -> Result<(), String> {
     let single = judgement.vectors(want[0], want[1]);
-    let mut ground = vec![0xEE; bytes.len() + NOTES + 3];
+    let room = walk::room(&judgement.f, &judgement.g);
+    let mut ground = vec![0xEE; room + 3];
+    if single.number == 0 && room > 0 {
+        agree("a ground that is too short", &Told { number: 21, ..Told::default() }, &library::walk_begin(bytes, want, &mut ground[..room - 1]).told())?;
+    }
     let mut state = library::walk_begin(bytes, want, &mut ground);
     if single.number != 0 {
         tally.walks.refused += 1;
@@ -358,10 +359,10 @@ fn ask_walking(bytes: &[u8], judgement: &Judgement, want: [u16; 2], sizes: &[usi
         agree("the beginning of a walk", &Told { number: single.number, place: single.place, ..Told::default() }, &state.told())?;
         return if untouched { Ok(()) } else { Err("a refused walk wrote to its ground".to_string()) };
     }
-    if ground[..bytes.len()] != *bytes || ground[bytes.len() + NOTES..] != [0xEE; 3] {
-        return Err("the ground does not begin with the scene, or a byte behind it was changed".to_string());
-    }
     let walk = Walk::of(&judgement.f, &judgement.g, rules.walk);
+    if ground[4 * state.told().events..].iter().any(|byte| *byte != 0xEE) {
+        return Err("a byte behind the last event was changed".to_string());
+    }
     (tally.walks.begun, tally.walks.events) = (tally.walks.begun + 1, tally.walks.events + walk.total);
     tally.walks.descending += judgement.descends() as usize;
     let (begun, mut taken, mut calls) = (state, 0, 0);

@@ -107,14 +107,16 @@ mod linked {
         g: u16,
         done: u8,
         types: [u8; 2],
+        turned: u8,
         want: [u16; 2],
-        rest: [usize; 9],
+        events: usize,
+        taken: usize,
     }
 
     impl State {
         pub fn told(&self) -> Told {
-            let State { number, place, f, g, done, .. } = *self;
-            Told { number, place, f, g, done }
+            let State { number, place, f, g, done, events, taken, .. } = *self;
+            Told { number, place, f, g, done, events, taken }
         }
     }
 
@@ -219,7 +221,7 @@ mod stand_in {
     use crate::scene::read_scene;
     use crate::split::{SplitAnswer, Splitting};
     use crate::summary::{self, FarAnswer, SummaryAnswer};
-    use crate::walk::{Slip, Told, Walk};
+    use crate::walk::{self, Slip, Told, Walk};
     use crate::wkb::{ReadAnswer, Reading, WriteAnswer, Writing};
 
     pub const NAME: &str = "no archive: the reference against itself";
@@ -264,12 +266,10 @@ mod stand_in {
         Splitting::of(scene, &RIGHT).answer(split)
     }
 
-    /// How many bytes of the ground are the scene's, what is wanted, how many events are taken, and what is told of that.
+    /// What is wanted, and what is told.
     #[derive(Clone, Copy, PartialEq, Eq, Debug)]
     pub struct State {
-        length: usize,
         want: [u16; 2],
-        taken: usize,
         told: Told,
     }
 
@@ -279,34 +279,41 @@ mod stand_in {
         }
     }
 
-    /// Each flag is set as late as it may be.
-    fn state(scene: &[u8], want: [u16; 2], taken: usize) -> State {
-        let (f, g) = read_scene(scene).expect("a scene that was taken is read");
-        let walk = Walk::of(&f, &g, Slip::None);
-        let taken = taken.min(walk.total);
-        let [(_, of_f), (_, of_g)] = walk.after(taken);
-        let told = Told { f: of_f & want[0], g: of_g & want[1], done: (taken == walk.total) as u8, ..Told::default() };
-        State { length: scene.len(), want, taken, told }
+    const REFUSED: State = State { want: [0, 0], told: Told { number: 0, place: 0, f: 0, g: 0, done: 0, events: 0, taken: 0 } };
+
+    fn refused(number: u32, place: usize) -> State {
+        State { told: Told { number, place, ..REFUSED.told }, ..REFUSED }
     }
 
+    /// The ground has the flags that each event sets, F's and G's, low byte first: each as late as it may be.
     pub fn walk_begin(scene: &[u8], want: [u16; 2], ground: &mut [u8]) -> State {
         let VectorsAnswer { number, place, .. } = judge(scene, &RIGHT).vectors(want[0], want[1]);
-        let refused = |number, place| State { length: 0, want: [0, 0], taken: 0, told: Told { number, place, ..Told::default() } };
         if number != 0 {
             return refused(number, place);
         }
-        if ground.len() < scene.len() + 2048 {
+        let (f, g) = read_scene(scene).expect("a scene that was taken is read");
+        if ground.len() < walk::room(&f, &g) {
             return refused(21, 0);
         }
-        ground[..scene.len()].copy_from_slice(scene);
-        ground[scene.len()..scene.len() + 2048].fill(0);
-        state(scene, want, 0)
+        let walk = Walk::of(&f, &g, Slip::None);
+        for n in 0..walk.total {
+            let [(_, of_f), (_, of_g)] = walk.after(n + 1);
+            ground[4 * n..4 * n + 2].copy_from_slice(&of_f.to_le_bytes());
+            ground[4 * n + 2..4 * n + 4].copy_from_slice(&of_g.to_le_bytes());
+        }
+        State { want, told: Told { done: (walk.total == 0) as u8, events: walk.total, ..REFUSED.told } }
     }
 
     pub fn walk_portion(ground: &[u8], walk: &State, events: usize) -> State {
-        if walk.told.number != 0 {
+        let State { want, told } = *walk;
+        if told.number != 0 {
             return *walk;
         }
-        state(&ground[..walk.length], walk.want, walk.taken.saturating_add(events))
+        if told.events > ground.len() / 4 || told.taken > told.events {
+            return refused(24, 0);
+        }
+        let taken = told.taken.saturating_add(events).min(told.events);
+        let set = |at: usize| (told.taken..taken).fold(0u16, |flags, n| flags | u16::from_le_bytes([ground[4 * n + at], ground[4 * n + at + 1]]));
+        State { want, told: Told { f: told.f | set(0) & want[0], g: told.g | set(2) & want[1], done: (taken == told.events) as u8, taken, ..told } }
     }
 }

@@ -14,6 +14,8 @@ pub struct Told {
     pub f: u16,
     pub g: u16,
     pub done: u8,
+    pub events: usize,
+    pub taken: usize,
 }
 
 /// A way of getting it wrong.
@@ -56,6 +58,11 @@ fn order(a: &(Point, Option<Half>), b: &(Point, Option<Half>), slip: Slip) -> Or
 
 fn number_of_elements(object: &Object) -> usize {
     object.points.len() + object.halves.len()
+}
+
+/// How many bytes the ground may need: four for each element, though equal ones are one event.
+pub fn room(f: &Object, g: &Object) -> usize {
+    4 * (number_of_elements(f) + number_of_elements(g))
 }
 
 /// The events in their order.
@@ -218,12 +225,12 @@ impl Walk {
         [gathered(&self.windows[0]), gathered(&self.windows[1])]
     }
 
-    /// What is told after n events must be this: done, and every wanted flag in its window.
+    /// What is told after n events must be this: so many taken of so many, done, and every wanted flag in its window.
     pub fn check(&self, n: usize, want: [u16; 2], told: &Told, slip: Slip) -> Result<(), String> {
         let found = [told.f, told.g];
         let by_flags = found == want;
         let done = if slip == Slip::DoneByFlags { by_flags } else { n == self.total };
-        if (told.number, told.place) != (0, 0) || told.done != done as u8 {
+        if (told.number, told.place) != (0, 0) || (told.taken, told.events) != (n, self.total) || told.done != done as u8 {
             return Err(format!("after {n} of {} events: {told:?}", self.total));
         }
         for (object, (may, must)) in self.after(n).into_iter().enumerate() {

@@ -81,7 +81,7 @@ fn swept_vectors(noted: NotedScene<'_>, masks: FlagMasks) -> Vectors
 }
 
 // The vectors of F and G, in the caller's order.
-pub fn as_given(scene: Scene, v: Vectors) -> Vectors
+fn as_given(scene: Scene, v: Vectors) -> Vectors
     ensures { result ≡ given_vectors scene v }
 {
     Vectors {

@@ -1,36 +1,26 @@
--- The state of a walk as C has it: all numbers, what a caller reads first. For every state that comes back the answer, whatever it is.
-use Rattle.std.specs.Prelude.{Option, Some, None, Ok, Err, ℕ, ◌≡◌, Bool, ◌&&◌, cond, List, leb, eqb}
+-- The state of a walk as C has it: all numbers, what a caller reads first, and all of the two objects' in the caller's order. For every state that comes back the answer, whatever it is.
+use Rattle.std.specs.Prelude.{Option, Some, None, Ok, Err, ℕ, ◌≡◌, Bool, not, ◌&&◌, cond, List, leb, eqb}
 use Rattle.whole.specs.Count.{bit}
-use Rattle.scene.specs.declared.Scene.{Scene}
 use Rattle.scene.specs.Read.{number_of, shape_number, shape_of}
-use Rattle.flags_vectors.specs.Vectors.{given_vectors}
 use Rattle.walk.specs.declared.Walk.{Walk}
-use Rattle.walk.specs.Walking.{at_fault}
-use Rattle.walk.specs.Walked.{WalkAnswer, shown, done, portion_of}
+use Rattle.walk.specs.Walked.{WalkAnswer, shown, done, at_fault, portion_of}
 use Rattle.karvoiss.specs.declared.KarvoissWalk.{KarvoissWalk}
 
 abbrev pub state_for_c : Walk → KarvoissWalk
 state_for_c w =
-    let vectors = shown w in
     record {
       number = 0;
       place = 0;
-      f = vectors.f;
-      g = vectors.g;
+      f = (shown w).f;
+      g = (shown w).g;
       done = bit (done w);
-      type_f = shape_number w.scene.f.shape;
-      type_g = shape_number w.scene.g.shape;
-      want_f = w.want.f;
-      want_g = w.want.g;
-      length = w.length;
-      start_f = w.scene.f.start;
-      start_g = w.scene.g.start;
-      count_f = w.scene.f.count;
-      count_g = w.scene.g.count;
-      taken_f = w.at.i;
-      taken_g = w.at.j;
-      degree_f = w.at.degrees.f;
-      degree_g = w.at.degrees.g;
+      type_f = cond w.is_turned (shape_number w.g) (shape_number w.f);
+      type_g = cond w.is_turned (shape_number w.f) (shape_number w.g);
+      turned = bit w.is_turned;
+      want_f = cond w.is_turned w.want.g w.want.f;
+      want_g = cond w.is_turned w.want.f w.want.g;
+      events = w.events;
+      taken = w.taken;
     }
 
 -- "Every refusal has .. all other results 0"
@@ -44,17 +34,11 @@ refused_for_c number place =
       done = 0;
       type_f = 0;
       type_g = 0;
+      turned = 0;
       want_f = 0;
       want_g = 0;
-      length = 0;
-      start_f = 0;
-      start_g = 0;
-      count_f = 0;
-      count_g = 0;
-      taken_f = 0;
-      taken_g = 0;
-      degree_f = 0;
-      degree_g = 0;
+      events = 0;
+      taken = 0;
     }
 
 abbrev pub walk_for_c : WalkAnswer → KarvoissWalk
@@ -66,27 +50,21 @@ walk_for_c (Err r) = refused_for_c (number_of r.reason) r.place
 abbrev pub type_test : ℕ → Bool
 type_test n = leb 1 n && leb n 3
 
--- the scene of these numbers; what C has of the flags is in the caller's order
+-- of the object given first that of F, or of G where they are turned
 module _ (c : KarvoissWalk) where
-  abbrev pub scene_of : Scene
-  scene_of =
-      record {
-        f = record { shape = shape_of c.type_f; start = c.start_f; count = c.count_f };
-        g = record { shape = shape_of c.type_g; start = c.start_g; count = c.count_g };
-      }
+  abbrev pub is_turned : Bool
+  is_turned = not (eqb c.turned 0)
 
   abbrev pub read_state : Walk
   read_state =
       record {
-        length = c.length;
-        scene = scene_of;
-        want = record { f = c.want_f; g = c.want_g };
-        at = record {
-          i = c.taken_f;
-          j = c.taken_g;
-          degrees = record { f = c.degree_f; g = c.degree_g };
-          found = given_vectors scene_of (record { f = c.f; g = c.g });
-        };
+        f = shape_of (cond is_turned c.type_g c.type_f);
+        g = shape_of (cond is_turned c.type_f c.type_g);
+        is_turned = is_turned;
+        want = record { f = cond is_turned c.want_g c.want_f; g = cond is_turned c.want_f c.want_g };
+        events = c.events;
+        taken = c.taken;
+        found = record { f = cond is_turned c.g c.f; g = cond is_turned c.f c.g };
       }
 
   abbrev pub state_of : Option Walk
@@ -95,7 +73,7 @@ module _ (c : KarvoissWalk) where
 -- 24 at 0 where a type is none
 abbrev pub portion_if : List ℕ → Option Walk → ℕ → WalkAnswer
 portion_if g (Some w) n = portion_of g w n
-portion_if g None n = at_fault 0
+portion_if g None n = at_fault
 
 -- a refusal comes back as it is
 abbrev pub portion_for_c : List ℕ → KarvoissWalk → ℕ → KarvoissWalk

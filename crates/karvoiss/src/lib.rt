@@ -1,7 +1,7 @@
 // What C programs call: every function is total, keeps no state and allocates nothing. include/karvoiss.h is for those who call them.
 #![tactic(auto)]
 
-ghost use Rattle.std.specs.Prelude.{◌≡◌, length};
+ghost use Rattle.std.specs.Prelude.{◌≡◌, cond, length};
 ghost use Rattle.check_verdict.specs.SharedPoints.{CheckedMeans, CheckedObjectMeans};
 ghost use Rattle.flags_vectors.specs.Vectors.{these, check_vectors, vectors_of, NoFlagWrong};
 ghost use Rattle.scene.specs.Conditions.{check_scene, check_object};
@@ -34,13 +34,12 @@ use flags_masks::FlagMasks;
 use flags_vectors::{Vectors, question};
 use plane::Point;
 use plane_dimensions::Dimension;
-use scene::{Layout, Reason, Refusal, Scene, records};
+use scene::{Reason, Refusal, records};
 use split::Splitted;
 use summary::Summary;
 use summary_record::writing;
 use summary_window::{InWindow, Window};
-use walk::{Spot, Walk};
-use walk_flags::Degrees;
+use walk::Walk;
 use wkb_grammar::Fault;
 use wkb_reading::ReadFault;
 
@@ -499,7 +498,7 @@ pub extern "C" fn karvoiss_split(scene: &[u8], split: &mut [u8]) -> KarvoissSpli
     split::split(scene, split).into()
 }
 
-// The state of a walk, all in numbers: what a caller reads comes first, the rest is for the next portion. `done` is 0 or 1, and no bool: what comes back may be any byte.
+// The state of a walk, all in numbers: what a caller reads comes first, the rest is for the next portion. `done` and `turned` are 0 or 1, and no bools: what comes back may be any byte.
 #[repr(C)]
 #[derive(Clone, Copy)]
 pub struct KarvoissWalk {
@@ -510,17 +509,11 @@ pub struct KarvoissWalk {
     pub done: u8,
     pub type_f: u8,
     pub type_g: u8,
+    pub turned: u8,
     pub want_f: u16,
     pub want_g: u16,
-    pub length: usize,
-    pub start_f: usize,
-    pub start_g: usize,
-    pub count_f: usize,
-    pub count_g: usize,
-    pub taken_f: usize,
-    pub taken_g: usize,
-    pub degree_f: usize,
-    pub degree_g: usize,
+    pub events: usize,
+    pub taken: usize,
 }
 
 // Beside a refusal.
@@ -532,49 +525,40 @@ const NO_WALK: KarvoissWalk = KarvoissWalk {
     done: 0,
     type_f: 0,
     type_g: 0,
+    turned: 0,
     want_f: 0,
     want_g: 0,
-    length: 0,
-    start_f: 0,
-    start_g: 0,
-    count_f: 0,
-    count_g: 0,
-    taken_f: 0,
-    taken_g: 0,
-    degree_f: 0,
-    degree_g: 0,
+    events: 0,
+    taken: 0,
 };
+
+// Of what is F's and what is G's, that of the object which is given first; and of what is given for the two objects, F's.
+fn first<T: Copy>(is_turned: bool, f: T, g: T) -> T
+    ensures { result ≡ cond is_turned g f }
+{
+    if is_turned { g } else { f }
+}
 
 impl From<Walk> for KarvoissWalk {
     ghost from_gives = { λ walk c. c ≡ state_for_c walk };
 
     fn from(walk: Walk) -> KarvoissWalk {
         let shown = walk.vectors();
-        let Walk {
-            length,
-            scene,
-            want,
-            at,
-        } = walk;
+        let turned = walk.is_turned;
+        let (type_f, type_g) = (u8::from(walk.f), u8::from(walk.g));
         KarvoissWalk {
             number: 0,
             place: 0,
             f: shown.f,
             g: shown.g,
             done: if walk.is_done() { 1 } else { 0 },
-            type_f: scene.f.shape.into(),
-            type_g: scene.g.shape.into(),
-            want_f: want.f,
-            want_g: want.g,
-            length,
-            start_f: scene.f.start,
-            start_g: scene.g.start,
-            count_f: scene.f.count,
-            count_g: scene.g.count,
-            taken_f: at.i,
-            taken_g: at.j,
-            degree_f: at.degrees.f,
-            degree_g: at.degrees.g,
+            type_f: first(turned, type_f, type_g),
+            type_g: first(turned, type_g, type_f),
+            turned: if turned { 1 } else { 0 },
+            want_f: first(turned, walk.want.f, walk.want.g),
+            want_g: first(turned, walk.want.g, walk.want.f),
+            events: walk.events,
+            taken: walk.taken,
         }
     }
 }
@@ -609,39 +593,20 @@ impl KarvoissWalk {
         if !is_type(self.type_f) || !is_type(self.type_g) {
             return None;
         }
-        let scene = Scene {
-            f: Layout {
-                shape: records::shape(self.type_f),
-                start: self.start_f,
-                count: self.count_f,
-            },
-            g: Layout {
-                shape: records::shape(self.type_g),
-                start: self.start_g,
-                count: self.count_g,
-            },
-        };
+        let is_turned = self.turned != 0;
         Some(Walk {
-            length: self.length,
-            scene,
+            f: records::shape(first(is_turned, self.type_f, self.type_g)),
+            g: records::shape(first(is_turned, self.type_g, self.type_f)),
+            is_turned,
             want: FlagMasks {
-                f: self.want_f,
-                g: self.want_g,
+                f: first(is_turned, self.want_f, self.want_g),
+                g: first(is_turned, self.want_g, self.want_f),
             },
-            at: Spot {
-                i: self.taken_f,
-                j: self.taken_g,
-                degrees: Degrees {
-                    f: self.degree_f,
-                    g: self.degree_g,
-                },
-                found: question::as_given(
-                    scene,
-                    Vectors {
-                        f: self.f,
-                        g: self.g,
-                    },
-                ),
+            events: self.events,
+            taken: self.taken,
+            found: Vectors {
+                f: first(is_turned, self.f, self.g),
+                g: first(is_turned, self.g, self.f),
             },
         })
     }

@@ -73,7 +73,7 @@ impl Ends {
 }
 
 // The point of the element at an offset.
-pub fn point_of(s: &[u8], k: Shape, at: usize) -> Point
+fn point_of(s: &[u8], k: Shape, at: usize) -> Point
     requires { at + size k ≤ length s.now }
     ensures { result ≡ point_in s.now k at }
 {

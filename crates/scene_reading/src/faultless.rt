@@ -16,7 +16,7 @@ fn is_sound(t: Segment) -> bool
 }
 
 // Are the fields of an element without fault?
-pub fn are_fields_good(s: &[u8], k: Shape, at: usize) -> bool
+fn are_fields_good(s: &[u8], k: Shape, at: usize) -> bool
     requires { at + size k ≤ length s.now }
     ensures { result ≡ are_fields_good s.now k at }
 {

@@ -3,7 +3,7 @@
 
 ghost use Rattle.std.specs.Prelude.{◌≡◌, ◌<◌, get_or, length, set};
 ghost use Rattle.sweep_laws.specs.Swept.{slot};
-ghost use Rattle.sweep_notes.specs.Numbers.{note_number, NumbersTo};
+ghost use Rattle.sweep_notes.specs.Numbers.{note_number};
 
 use std::marker::Model;
 
@@ -22,34 +22,6 @@ impl From<bool> for Note {
 
     fn from(odd: bool) -> Note {
         if odd { Note::Odd } else { Note::Even }
-    }
-}
-
-impl From<Note> for u8 {
-    ghost from_gives = { λ note n. n ≡ note_number note };
-
-    fn from(note: Note) -> u8 {
-        match note {
-            Note::Even => 0,
-            Note::Odd => 1,
-            Note::On => 2,
-        }
-    }
-}
-
-// Of any byte: what is no note's number is read as `Even`.
-impl From<u8> for Note {
-    ghost use Rattle.sweep_notes.specs.Numbers.{note_of};
-
-    ghost from_gives = { λ byte note. note ≡ note_of byte };
-
-    #[tactic(auto, unfolding(crate::specs::Numbers::note_of))]
-    fn from(byte: u8) -> Note {
-        match byte {
-            1 => Note::Odd,
-            2 => Note::On,
-            _ => Note::Even,
-        }
     }
 }
 
@@ -89,18 +61,6 @@ impl Notes {
         ensures { note_number result ≡ get_or self.now (slot first k) 0 }
     {
         if first { self.of_f[k] } else { self.of_g[k] }
-    }
-
-    // Their numbers: those of F, and 1,024 further on those of G.
-    pub fn numbers(&self) -> [u8; 2 * ROOM]
-        ensures { NumbersTo self.now 1024 result }
-    {
-        let mut numbers = [0; 2 * ROOM];
-        for k in 0..ROOM {
-            numbers[k] = self.of(true, k).into();
-            numbers[ROOM + k] = self.of(false, k).into();
-        }
-        numbers
     }
 
     pub fn write(&mut self, first: bool, k: usize, note: Note)

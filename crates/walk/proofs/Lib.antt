@@ -1,14 +1,9 @@
--- What a walk over events keeps, and what holds of a whole walk.
-pub mod Counted
-pub mod Levels
-pub mod Taken
-pub mod Turning
-pub mod Moving
-pub mod Placed
-pub mod Running
+-- How the events are laid, what a portion makes of them, and what holds of a whole walk.
 pub mod ByKeys
-pub mod Going
-pub mod Made
+pub mod Laid
+pub mod Points
 pub mod Beginning
+pub mod Gathered
+pub mod Settled
 pub mod Portioning
 pub mod Theorems

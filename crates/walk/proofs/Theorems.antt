@@ -1,20 +1,19 @@
 -- The theorems on a whole walk, over every ground that the beginning has laid.
 use Rattle.std.specs.Prelude.{Ok, Err}
-use Prim.Native.Nat.{ℕ, zero, suc, ◌+◌, ◌<◌, ◌≤◌}
+use Prim.Native.Nat.{ℕ, zero, suc, ◌+◌, ◌*◌, ◌<◌, ◌≤◌}
 use native.Mathlib.Omega.{arith}
 use native.Mathlib.Decide.{dec_lt}
 use mathlib.Core.Path.{◌≡◌, refl, sym, ap, ap₂, subst, ◌∙◌}
 use mathlib.Core.Bool.{Bool, true, false, not, cond, ◌&&◌, true≢false, and-true, and-false}
 use mathlib.Core.List.{List, [], ◌∷◌}
-use lib.Dec.{T, leb}
+use lib.Dec.{T, leb, eqb}
 use lib.ListN.{length}
-use borrow.Author.Tests.{leb-true}
+use borrow.Author.Tests.{leb-true, le-leb, eq-eqb, eqb-true}
 use Rattle.whole.specs.Count.{◌∈◌}
-use Rattle.whole.proofs.Logic.{true_is, false_is}
+use Rattle.whole.proofs.Logic.{is_true, true_is, false_is, same_test}
 use Rattle.scene.specs.declared.Reason.TheVariants.{StrayFlag, NoRoom}
 use Rattle.scene.specs.declared.Scene.{Scene}
-use Rattle.scene.specs.Read.{CheckedScene}
-use Rattle.scene.specs.Conditions.{rule}
+use Rattle.scene.specs.Conditions.{rule, check_scene}
 use Rattle.scene.proofs.Outcomes.{same_taken, never_taken}
 use Rattle.check_verdict.proofs.Laws.{sound_scene}
 use Rattle.flags.specs.Flags.{has_bit}
@@ -29,36 +28,34 @@ use Rattle.walk_events.specs.Windows.{Window, test_at}
 use Rattle.walk_events.proofs.Portioned.{done_remains, remains_done, portion_few, portions_add, done_after, not_done_before, all_f_lem, all_g_lem}
 use Rattle.walk_events.proofs.Windows.{window_of_f, window_of_g}
 use Rattle.walk.specs.declared.Walk.{Walk}
-use Rattle.walk.specs.State.{found_at}
-use Rattle.walk.specs.Walked.{WalkAnswer, GroundIs, GroundAfter, shown, done, portion_of, state_at, vectors_at, begin_if, begin_of}
-use Rattle.walk.proofs.Moving.{done_at}
+use Rattle.walk.specs.Walked.{WalkAnswer, GroundIs, LaidFor, GroundAfter, shown, done, portion_of, found_at, state_at, begun_as}
 use Rattle.walk.proofs.Portioning.{portion_goes}
-use Rattle.walk.specs.Theorems.{then_portion, calls, rounded_up, InWindows, Promises, Counts, WalkHolds, WalkPromised}
+use Rattle.walk.specs.Theorems.{then_portion, calls, rounded_up, InWindows, Promises, Counts, WalkPromised}
 
 -- ---- the windows
 
-module _ {s : List ℕ} {sc : Scene} {g : List ℕ} (ground : GroundIs s sc g) (want : FlagMasks) (n : ℕ) where
-  wanted : (v mask k : ℕ) → T (has_bit mask k) → has_bit v k ≡ has_bit (only mask v) k
-  wanted v mask k h = sym (and_bit v mask k ∙ ap (λ b. has_bit v k && b) (true_is (has_bit mask k) h) ∙ and-true (has_bit v k))
+wanted : (v mask k : ℕ) → T (has_bit mask k) → has_bit v k ≡ has_bit (only mask v) k
+wanted v mask k h = sym (and_bit v mask k ∙ ap (λ b. has_bit v k && b) (true_is (has_bit mask k) h) ∙ and-true (has_bit v k))
 
-  unwanted : (v mask k : ℕ) → T (not (has_bit mask k)) → has_bit (only mask v) k ≡ false
-  unwanted v mask k h = and_bit v mask k ∙ ap (λ b. has_bit v k && b) (false_is (has_bit mask k) h) ∙ and-false (has_bit v k)
+unwanted : (v mask k : ℕ) → T (not (has_bit mask k)) → has_bit (only mask v) k ≡ false
+unwanted v mask k h = and_bit v mask k ∙ ap (λ b. has_bit v k && b) (false_is (has_bit mask k) h) ∙ and-false (has_bit v k)
 
+module _ {s : List ℕ} {sc : Scene} (chk : check_scene s ≡ Ok sc) (want : FlagMasks) (n : ℕ) where
   in_windows : InWindows s sc want n (found_at s sc want n)
   in_windows = record {
     of_f_lem = λ k h.
         subst (λ (b : Bool). Window s sc.f (λ i. i ∈ taken_f s sc n) (test_at (own_tests true s sc.f sc.g) k) b) (wanted (found_f s sc n) want.f k h)
-        (window_of_f (accepted s sc ground.taken) n k);
+        (window_of_f (accepted s sc chk) n k);
     of_g_lem = λ k h.
         subst (λ (b : Bool). Window s sc.g (λ j. j ∈ taken_g s sc n) (test_at (own_tests false s sc.g sc.f) k) b) (wanted (found_g s sc n) want.g k h)
-        (window_of_g (accepted s sc ground.taken) n k);
+        (window_of_g (accepted s sc chk) n k);
     unwanted_f = λ k h. unwanted (found_f s sc n) want.f k h;
     unwanted_g = λ k h. unwanted (found_g s sc n) want.g k h;
   }
 
 -- ---- all of it
 
-module _ (s : List ℕ) (wantF wantG : ℕ) (sc : Scene) (g : List ℕ) (ground : GroundIs s sc g) where
+module _ (s : List ℕ) (wantF wantG : ℕ) (sc : Scene) {before : List ℕ} (g : List ℕ) (ground : GroundIs s sc before g) where
   abbrev want : FlagMasks
   want = masks_for (these wantF wantG) sc
 
@@ -69,7 +66,9 @@ module _ (s : List ℕ) (wantF wantG : ℕ) (sc : Scene) (g : List ℕ) (ground 
   goes n h k = portion_goes ground want n h k
 
   done_is : (n : ℕ) → n ≤ total s sc → done (state n) ≡ is_done s sc n
-  done_is n h = done_at want (accepted s sc ground.taken) h refl
+  done_is n h =
+      same_test (eqb n (total s sc)) (is_done s sc n) (λ t. let e = eqb-true n (total s sc) (true_is (eqb n (total s sc)) t) in is_true (is_done s sc n) (le-leb (total s sc) n (omega (arith, e))))
+      (λ t. let l = leb-true (total s sc) n (true_is (is_done s sc n) t) in is_true (eqb n (total s sc)) (eq-eqb n (total s sc) (omega (arith, l, h))))
 
   stays : (n k : ℕ) → n ≤ total s sc → portion s sc k n ≡ n → portion_of g (state n) k ≡ Ok (state n)
   stays n k h e = goes n h k ∙ ap (λ m. Ok (state m)) e
@@ -79,7 +78,7 @@ module _ (s : List ℕ) (wantF wantG : ℕ) (sc : Scene) (g : List ℕ) (ground 
   unfolding vectors_of answer_of vector_of_f vector_of_g
   single_call checked n few d = rw checked (ap Ok (sym end))
     where
-      end : vectors_at s sc want n ≡ vectors_in s sc (these wantF wantG)
+      end : given_vectors sc (found_at s sc want n) ≡ vectors_in s sc (these wantF wantG)
       end =
           let o = sound_scene (rule StrayFlag (stray_wanted (these wantF wantG)) ∷ []) [] s sc checked in
           let h = leb-true (total s sc) n (sym (done_is n few) ∙ d) in
@@ -97,7 +96,7 @@ module _ (s : List ℕ) (wantF wantG : ℕ) (sc : Scene) (g : List ℕ) (ground 
     end_alters_nothing = λ k d. stays n k h (let e = leb-true (total s sc) n (sym (done_is n h) ∙ d) in omega (arith, e, h));
     done_exactly = (λ d. done_remains s sc n (sym (done_is n h) ∙ d), λ e. done_is n h ∙ remains_done s sc n e);
     single_call = single_call checked n h;
-    windows = in_windows ground want n;
+    windows = in_windows ground.taken want n;
   }
 
   -- ---- calls
@@ -126,29 +125,22 @@ module _ (s : List ℕ) (wantF wantG : ℕ) (sc : Scene) (g : List ℕ) (ground 
       from : rounded_up (total s sc) k ≤ c → done (state (after s sc k c)) ≡ true
       from l = says ∙ done_after s sc k c h l
 
--- of every beginning
-pub walk_promised : (s : List ℕ) (wantF wantG : ℕ) (before laid : List ℕ) (r : WalkAnswer) → r ≡ begin_of s (these wantF wantG) (length before) → GroundAfter s before laid r → WalkPromised s wantF wantG laid r
-unfolding begin_of
-walk_promised s wantF wantG before laid (Err r) e g = tt
-walk_promised s wantF wantG before laid (Ok w) e g = go (check_vectors s (these wantF wantG)) refl e
-  where
-    go : (k : CheckedScene) → check_vectors s (these wantF wantG) ≡ k → Ok w ≡ begin_if s (these wantF wantG) (length before) k → WalkHolds s wantF wantG w.scene laid w
-    go (Err r) q e = absurd (never_taken (sym e))
-    go (Ok sc) q e = by (leb (length s + 2048) (length before)) e
-      where
-        want : FlagMasks
-        want = masks_for (these wantF wantG) sc
+-- of a scene that the beginning takes
+module _ (s : List ℕ) (wantF wantG : ℕ) (sc : Scene) (checked : check_vectors s (these wantF wantG) ≡ Ok sc) (before after : List ℕ) where
+  pub promised : (r : WalkAnswer) → r ≡ begun_as s sc (masks_for (these wantF wantG) sc) (length before) → LaidFor s sc before after r → WalkPromised s wantF wantG after r
+  promised (Err r) e g = tt
+  promised (Ok w) e g = by (leb (4 * (sc.f.count + sc.g.count)) (length before)) e
+    where
+      begun : WalkAnswer
+      begun = Ok (state_at s sc (masks_for (these wantF wantG) sc) 0)
 
-        short : WalkAnswer
-        short = Err (record { reason = NoRoom; place = 0 })
+      short : WalkAnswer
+      short = Err (record { reason = NoRoom; place = 0 })
 
-        by : (b : Bool) → Ok w ≡ cond b (Ok (state_at s sc want 0)) short → WalkHolds s wantF wantG w.scene laid w
-        by false e = absurd (never_taken (sym e))
-        by true e =
-            let is : w ≡ state_at s sc want 0 = same_taken e in
-            let of : w.scene ≡ sc = ap (λ (v : Walk). v.scene) is in
-            record {
-              begins = subst (λ (z : Scene). w ≡ state_at s z (masks_for (these wantF wantG) z) 0) (sym of) is;
-              each = promises s wantF wantG w.scene laid g.3 (q ∙ ap Ok (sym of));
-              counts = counts s wantF wantG w.scene laid g.3;
-            }
+      by : (b : Bool) → Ok w ≡ cond b begun short → WalkPromised s wantF wantG after (Ok w)
+      by false e = absurd (never_taken (sym e))
+      by true e = (sc, g.taken, record { begins = same_taken e; each = promises s wantF wantG sc after g checked; counts = counts s wantF wantG sc after g })
+
+pub after_begun : (s : List ℕ) (sc : Scene) (before after : List ℕ) (r : WalkAnswer) → LaidFor s sc before after r → GroundAfter s before after r
+after_begun s sc before after (Err r) g = g
+after_begun s sc before after (Ok w) g = (sc, g)

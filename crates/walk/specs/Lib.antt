@@ -1,7 +1,5 @@
--- What the state of a walk is, and what a portion of it gives.
-pub mod State
-pub mod Placed
-pub mod Walking
-pub mod Heads
+-- What the ground of a walk is, what its state is, and what a portion of it gives.
+pub mod Ground
+pub mod Laying
 pub mod Walked
 pub mod Theorems

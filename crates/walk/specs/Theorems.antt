@@ -3,6 +3,7 @@
 use Rattle.std.specs.Prelude.{Ok, Err, ℕ, zero, suc, ◌+◌, ◌-◌, ◌/◌, ◌<◌, ◌≤◌, ◌≡◌, ◌↔◌, true, false, not, List, [], T, drop}
 use Rattle.whole.specs.Count.{◌∈◌}
 use Rattle.scene.specs.declared.Scene.{Scene}
+use Rattle.scene.specs.Conditions.{check_scene}
 use Rattle.flags.specs.Flags.{has_bit}
 use Rattle.flags_vectors.specs.declared.Vectors.{Vectors}
 use Rattle.flags_vectors.specs.Vectors.{these, vectors_of}
@@ -13,8 +14,7 @@ use Rattle.walk_events.specs.Taking.{own_tests}
 use Rattle.walk_events.specs.Portions.{total, taken_f, taken_g, portion, after}
 use Rattle.walk_events.specs.Windows.{Window, test_at}
 use Rattle.walk.specs.declared.Walk.{Walk}
-use Rattle.walk.specs.State.{found_at}
-use Rattle.walk.specs.Walked.{WalkAnswer, shown, done, portion_of, state_at}
+use Rattle.walk.specs.Walked.{WalkAnswer, shown, done, portion_of, found_at, state_at}
 
 -- another portion, of a walk that was not refused
 abbrev pub then_portion : List ℕ → ℕ → WalkAnswer → WalkAnswer
@@ -76,4 +76,4 @@ module _ (s : List ℕ) (wantF wantG : ℕ) (sc : Scene) (g : List ℕ) where
 -- of the answer of the beginning, with the buffer after it
 abbrev pub WalkPromised : List ℕ → (wantF wantG : ℕ) → List ℕ → WalkAnswer → Type 0
 WalkPromised s wantF wantG g (Err r) = Unit {0}
-WalkPromised s wantF wantG g (Ok w) = WalkHolds s wantF wantG w.scene g w
+WalkPromised s wantF wantG g (Ok w) = (sc : Scene) × (check_scene s ≡ Ok sc) × WalkHolds s wantF wantG sc g w

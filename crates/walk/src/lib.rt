@@ -1,35 +1,27 @@
-// A walk over the events of a scene that may be put down: a copy of the scene and of the sweep's notes in a lent buffer, the ground, which portions only read,
-// and a small state by value. What comes back as either may be anything: each record is tested where it is taken, and is walked over as a scene's or refused.
+// A walk over the events of a scene that may be put down: the beginning lays the marks of all events, in their order, in a lent buffer, the ground; portions only read it, and the state is small
+// and goes by value. What comes back as either may be anything: any four bytes of a ground are marks, and a state that does not fit the ground is refused.
 #![tactic(auto)]
 
 use flags_masks::FlagMasks;
 use flags_vectors::Vectors;
-use scene::Scene;
-use walk_flags::Degrees;
+use scene::Shape;
 
-mod advance;
 pub mod begin;
-mod ground;
+mod laying;
 pub mod portion;
-mod records;
 
-// How many bytes the notes take.
-const NOTES: usize = 2_048;
+// As many events as a scene may have: each is an element of one object or of both.
+const MOST: usize = 2_048;
 
-// Where a walk stands: how many elements of F and of G are taken, how many of either have the point of the next event, and the wanted flags that are set.
-#[derive(Clone, Copy)]
-pub struct Spot {
-    pub i: usize,
-    pub j: usize,
-    pub degrees: Degrees,
-    pub found: Vectors,
-}
-
-/// The state of a walk: how many bytes of its ground are the scene's, where these have the two objects, the wanted flags of F and of G, and where it stands.
+/// The state of a walk: the types of F and of G, F's not above G's, and whether the caller gave them the other way round; the wanted flags of each; how many events the scene has, how many of
+/// them are taken, and the wanted flags that are set.
 #[derive(Clone, Copy)]
 pub struct Walk {
-    pub length: usize,
-    pub scene: Scene,
+    pub f: Shape,
+    pub g: Shape,
+    pub is_turned: bool,
     pub want: FlagMasks,
-    pub at: Spot,
+    pub events: usize,
+    pub taken: usize,
+    pub found: Vectors,
 }

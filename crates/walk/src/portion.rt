@@ -1,64 +1,89 @@
 // A portion of a walk, and what its state says.
-ghost use Rattle.std.specs.Prelude.{◌≡◌};
-ghost use Rattle.walk.specs.Walked.{shown, done, portion_of, GroundOf};
+ghost use Rattle.std.specs.Prelude.{◌≡◌, ◌*◌, ◌≤◌, length};
+ghost use Rattle.walk.specs.Walked.{shown, done, portion_of, marks_of_f, marks_of_g};
 
-use crate::ground::Ground;
-use crate::{NOTES, Walk, records};
-use flags_vectors::{Vectors, question};
+use crate::{MOST, Walk};
+use flags_vectors::Vectors;
 use scene::{Reason, Refusal};
+use walk_flags::{Asked, Marks};
 
-// The ground, as a state has it, in any bytes; none where the state does not fit them.
-fn over(ground: &[u8], walk: Walk) -> Option<Ground<'_>>
-    ensures { GroundOf ground.now walk result }
+// The marks of F and of G.
+#[derive(Clone, Copy)]
+struct BothMarks {
+    f: Marks,
+    g: Marks,
+}
+
+// Those of the events from one up to another, put together.
+fn marks_in(ground: &[u8], from: usize, to: usize) -> BothMarks
+    requires { (from ≤ to) × (4 * to ≤ length ground.now) }
+    ensures { (result.f ≡ marks_of_f ground.now from to) × (result.g ≡ marks_of_g ground.now from to) }
 {
-    if ground.len() < NOTES || ground.len() - NOTES < walk.length {
-        return None;
+    let mut f = Marks::NONE;
+    let mut g = Marks::NONE;
+    for n in from..to {
+        f = f.with(Marks {
+            met: ground[4 * n],
+            classes: ground[4 * n + 1],
+        });
+        g = g.with(Marks {
+            met: ground[4 * n + 2],
+            classes: ground[4 * n + 3],
+        });
     }
-    let bytes = &ground[..walk.length];
-    let Walk {
-        scene,
-        want,
-        at,
-        ..
-    } = walk;
-    if !records::fit(bytes, scene.f)
-        || !records::fit(bytes, scene.g)
-        || at.i > scene.f.count
-        || at.j > scene.g.count
-    {
-        return None;
-    }
-    Some(Ground {
-        bytes,
-        notes: &ground[walk.length..],
-        scene,
-        want,
-    })
+    BothMarks { f, g }
 }
 
 impl Walk {
+    fn asked(self) -> Asked
+        ensures { result ≡ record { f = self.f; g = self.g; want = self.want } }
+    {
+        Asked {
+            f: self.f,
+            g: self.g,
+            want: self.want,
+        }
+    }
+
     // Takes n events, or all that remain.
     pub fn portion(self, ground: &[u8], n: usize) -> Result<Walk, Refusal>
         ensures { result ≡ portion_of ground.now self n }
     {
-        let Some(ground) = over(ground, self) else {
+        if self.events > MOST || 4 * self.events > ground.len() || self.taken > self.events {
             return Reason::Malformed.at(0);
+        }
+        let taken = self.taken + n.min(self.events - self.taken);
+        let marks = marks_in(ground, self.taken, taken);
+        let asked = self.asked();
+        let found = Vectors {
+            f: self.found.f | asked.of_f(marks.f),
+            g: self.found.g | asked.of_g(marks.g),
         };
-        let at = ground.advanced(self.at, n)?;
-        Ok(Walk { at, ..self })
+        Ok(Walk {
+            taken,
+            found,
+            ..self
+        })
     }
 
     // The wanted flags that are set, in the caller's order.
     pub fn vectors(self) -> Vectors
         ensures { result ≡ shown self }
     {
-        question::as_given(self.scene, self.at.found)
+        if self.is_turned {
+            Vectors {
+                f: self.found.g,
+                g: self.found.f,
+            }
+        } else {
+            self.found
+        }
     }
 
     // Does no event remain?
     pub fn is_done(self) -> bool
         ensures { result ≡ done self }
     {
-        self.at.i == self.scene.f.count && self.at.j == self.scene.g.count
+        self.taken == self.events
     }
 }

@@ -1,14 +1,13 @@
-// The events of a scene: the elements of its two objects in the merged order, equal ones of both being one. Which comes next, from an element of each on.
+// The events of a scene: the elements of its two objects in the merged order, equal ones of both being one. Which comes next, of an element of each.
 #![tactic(auto)]
 
-ghost use Rattle.std.specs.Prelude.{◌≡◌, ◌+◌, ◌≤◌, length};
-ghost use Rattle.scene.specs.Read.{size};
-ghost use Rattle.walk_events.specs.Events.{same_event, event_before};
-ghost use Rattle.walk_events.specs.Stepping.{Fair, FairIfAny, event_read, step_of, next_of};
+ghost use Rattle.std.specs.Prelude.{◌≡◌, ◌<◌};
+ghost use Rattle.walk_events.specs.Events.{event_of, same_event, event_before};
+ghost use Rattle.walk_events.specs.Stepping.{Fair, step_of};
 
 use plane::{Halfsegment, Point};
-use scene::{Shape, bytes};
-use scene_reading::faultless;
+use scene::Shape;
+use scene_segments::Object;
 
 // An element, as the order sees it: without its object and its ia.
 #[derive(Clone, Copy)]
@@ -26,21 +25,16 @@ pub enum Step {
 }
 
 impl Event {
-    // That of the element whose record stands at an offset; none where its fields are at fault.
-    #[tactic(auto, using(crate::proofs::Stepped::good_is_fair))]
-    pub fn read(s: &[u8], k: Shape, at: usize) -> Option<Event>
-        requires { at + size k ≤ length s.now }
-        ensures is { result ≡ event_read s.now k at }
-        ensures fair { FairIfAny result }
+    // That of an element of an object.
+    pub fn of(o: Object<'_>, i: usize) -> Event
+        requires { i < o.layout.count }
+        ensures is { result ≡ event_of o.entry.bytes.now o.entry.layout i }
+        ensures fair { Fair result }
     {
-        if !faultless::are_fields_good(s, k, at) {
-            return None;
+        match o.layout.shape {
+            Shape::Points => Event::At(o.point(i)),
+            Shape::Line | Shape::Region => Event::Side(o.half(i)),
         }
-        Some(if k.has_segments() {
-            Event::Side(bytes::halfsegment(s, at))
-        } else {
-            Event::At(bytes::point(s, at))
-        })
     }
 
     // Halfsegments by ends and d alone; a point is never equal to a halfsegment.
@@ -71,7 +65,7 @@ impl Event {
 }
 
 // Of an element of F and one of G, the first, or both.
-fn first(a: Event, b: Event) -> Step
+pub fn first(a: Event, b: Event) -> Step
     requires { Fair a × Fair b }
     ensures { result ≡ step_of a b }
 {
@@ -81,18 +75,5 @@ fn first(a: Event, b: Event) -> Step
         Step::OfF
     } else {
         Step::OfG
-    }
-}
-
-// Of the first that are left of F and of G; none where nothing is left of either.
-pub fn next(a: Option<Event>, b: Option<Event>) -> Option<Step>
-    requires { FairIfAny a × FairIfAny b }
-    ensures { result ≡ next_of a b }
-{
-    match (a, b) {
-        (Some(a), Some(b)) => Some(first(a, b)),
-        (Some(_), None) => Some(Step::OfF),
-        (None, Some(_)) => Some(Step::OfG),
-        (None, None) => None,
     }
 }

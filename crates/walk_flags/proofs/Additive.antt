@@ -1,25 +1,28 @@
 -- The table is additive: the flags of marks put together are those of either, put together. So the marks of several events are collected, and the table is read once.
-use Prim.Native.Nat.{ℕ, zero, suc}
+use Prim.Native.Nat.{ℕ, zero, suc, ◌<◌}
+use native.Mathlib.Omega.{arith}
 use mathlib.Core.Path.{◌≡◌, refl, sym, ap, ap₂, ◌∙◌}
-use mathlib.Core.Bool.{Bool, true, false, ◌&&◌, ◌||◌, and-false}
+use mathlib.Core.Bool.{Bool, true, false, cond, not, ◌&&◌, ◌||◌, and-false}
 use mathlib.Core.List.{List, [], ◌∷◌}
-use lib.Bits.{bit_or, or_zero_r}
+use lib.Bits.{bit_or}
+use lib.Dec.{eqb}
 use lib.ListN.{get_or}
+use borrow.Author.Tests.{ne_eqb}
+use Rattle.plane.specs.Plane.{is_boundary}
 use Rattle.scene.specs.declared.Shape.{Shape}
 use Rattle.scene.specs.declared.Shape.TheVariants.{Points, Line, Region}
 use Rattle.flags.specs.Flags.{pack, has_bit}
-use Rattle.flags.proofs.Bits.{no_bit, and_bit, or_bit, pack_bit, same_number}
+use Rattle.flags.proofs.Bits.{no_bit, and_bit, or_bit, pack_bit, pack_lt, same_number}
 use Rattle.flags.proofs.Boundary.{boundary_none}
-use Rattle.flags.proofs.Marks.{or_assoc}
 use Rattle.flags_meetings.specs.declared.Meetings.{Meetings}
 use Rattle.flags_meetings.specs.Keyed as keyed
 use Rattle.flags_classes.specs.declared.Classes.{Classes}
 use Rattle.flags_classes.specs.Marked as marked
+use Rattle.flags_classes.specs.Marked.{unshared_marks, shared_marks}
 use Rattle.flags_table.specs.Table.{flags_of_f_by, flags_of_g_by}
 use Rattle.flags_masks.specs.declared.FlagMasks.{FlagMasks}
 use Rattle.flags_masks.specs.Wanted.{only}
-use Rattle.walk_flags.specs.declared.Marks.{Marks}
-use Rattle.walk_flags.specs.OneTaken.{met_at, met_tests, alone_marks, met_marks, wanted_f, wanted_g, marked_f, marked_g}
+use Rattle.walk_flags.specs.OneTaken.{met_at, met_tests, alone_marks, met_marks, wanted_f, wanted_g}
 
 -- ---- lists of tests
 
@@ -242,13 +245,9 @@ classes_none = λ j. record {
 only_none : (mask : ℕ) → only mask 0 ≡ 0
 only_none mask = same_number (only mask 0) 0 (λ k. and_bit 0 mask k ∙ ap (λ x. x && has_bit mask k) (no_bit k) ∙ sym (no_bit k))
 
-module _ (f g : Shape) (want : FlagMasks) (found : ℕ) where
-  pub none_f : bit_or found (wanted_f f g want (keyed.named 0) (marked.named 0)) ≡ found
-  none_f =
-      (λ j. bit_or found (only want.f (pack (flags_of_f_by f g (met_none j) (classes_none j)))))
-      ∙ ap (λ n. bit_or found (only want.f n)) (go f g)
-      ∙ ap (bit_or found) (only_none want.f)
-      ∙ or_zero_r found
+module _ (f g : Shape) (want : FlagMasks) where
+  pub none_f : wanted_f f g want (keyed.named 0) (marked.named 0) ≡ 0
+  none_f = (λ j. only want.f (pack (flags_of_f_by f g (met_none j) (classes_none j)))) ∙ ap (only want.f) (go f g) ∙ only_none want.f
     where
       go : (f g : Shape) → pack (flags_of_f_by f g none_met no_classes) ≡ 0
       go Points Points = refl
@@ -261,12 +260,8 @@ module _ (f g : Shape) (want : FlagMasks) (found : ℕ) where
       go Region Line = refl
       go Region Region = refl
 
-  pub none_g : bit_or found (wanted_g f g want (keyed.named 0) (marked.named 0)) ≡ found
-  none_g =
-      (λ j. bit_or found (only want.g (pack (flags_of_g_by f g (met_none j) (classes_none j)))))
-      ∙ ap (λ n. bit_or found (only want.g n)) (go f g)
-      ∙ ap (bit_or found) (only_none want.g)
-      ∙ or_zero_r found
+  pub none_g : wanted_g f g want (keyed.named 0) (marked.named 0) ≡ 0
+  none_g = (λ j. only want.g (pack (flags_of_g_by f g (met_none j) (classes_none j)))) ∙ ap (only want.g) (go f g) ∙ only_none want.g
     where
       go : (f g : Shape) → pack (flags_of_g_by f g none_met no_classes) ≡ 0
       go Points Points = refl
@@ -282,6 +277,16 @@ module _ (f g : Shape) (want : FlagMasks) (found : ℕ) where
 pub alone_is : (a n : ℕ) → alone_marks a n ≡ met_marks a 0 n
 alone_is a n = simp (boundary_none, and-false)
 
+-- of a point of G's alone
+pub met_of_g : (b n : ℕ) → 0 < b → met_marks 0 b n ≡ cond (is_boundary b) 128 0
+met_of_g b n k =
+    let f : eqb b 0 ≡ false = ne_eqb b 0 (λ z. omega (arith, z, k)) in
+    rw (f, boundary_none) (go (is_boundary b))
+  where
+    go : (y : Bool) → pack (false ∷ false ∷ false ∷ false ∷ false ∷ false ∷ false ∷ y ∷ []) ≡ cond y 128 0
+    go true = refl
+    go false = refl
+
 pub met_of_marks : (a b n : ℕ) → keyed.named (met_marks a b n) ≡ met_at a b n
 met_of_marks a b n = λ j. record {
   bound_outside = pack_bit (met_tests a b n) 0 j;
@@ -294,10 +299,10 @@ met_of_marks a b n = λ j. record {
   bound_of_g = pack_bit (met_tests a b n) 7 j;
 }
 
--- ---- the wanted flags of marks: with those of more marks put to them, beside what was found before
+-- ---- the wanted flags of marks, with those of more marks put to them
 
 module _ (f g : Shape) (want : FlagMasks) (m n c d : ℕ) where
-  wanted_f_both : wanted_f f g want (keyed.named (bit_or m n)) (marked.named (bit_or c d))
+  pub wanted_f_both : wanted_f f g want (keyed.named (bit_or m n)) (marked.named (bit_or c d))
       ≡ bit_or (wanted_f f g want (keyed.named m) (marked.named c)) (wanted_f f g want (keyed.named n) (marked.named d))
   wanted_f_both =
       ap (λ l. only want.f (pack l))
@@ -305,7 +310,7 @@ module _ (f g : Shape) (want : FlagMasks) (m n c d : ℕ) where
       ∙ ap (only want.f) (pack_either (flags_of_f_by f g (keyed.named m) (marked.named c)) (flags_of_f_by f g (keyed.named n) (marked.named d)))
       ∙ only_or want.f (pack (flags_of_f_by f g (keyed.named m) (marked.named c))) (pack (flags_of_f_by f g (keyed.named n) (marked.named d)))
 
-  wanted_g_both : wanted_g f g want (keyed.named (bit_or m n)) (marked.named (bit_or c d))
+  pub wanted_g_both : wanted_g f g want (keyed.named (bit_or m n)) (marked.named (bit_or c d))
       ≡ bit_or (wanted_g f g want (keyed.named m) (marked.named c)) (wanted_g f g want (keyed.named n) (marked.named d))
   wanted_g_both =
       ap (λ l. only want.g (pack l))
@@ -313,18 +318,10 @@ module _ (f g : Shape) (want : FlagMasks) (m n c d : ℕ) where
       ∙ ap (only want.g) (pack_either (flags_of_g_by f g (keyed.named m) (marked.named c)) (flags_of_g_by f g (keyed.named n) (marked.named d)))
       ∙ only_or want.g (pack (flags_of_g_by f g (keyed.named m) (marked.named c))) (pack (flags_of_g_by f g (keyed.named n) (marked.named d)))
 
-module _ (f g : Shape) (want : FlagMasks) (found : ℕ) (old more new : Marks) (e : (new.met.0 ≡ bit_or old.met.0 more.met.0) × (new.classes.0 ≡ bit_or old.classes.0 more.classes.0))
-    {met : Meetings} {classes : Classes} (em : keyed.named more.met.0 ≡ met) (ec : marked.named more.classes.0 ≡ classes) where
-  pub joins_f : bit_or found (marked_f f g want new) ≡ bit_or (bit_or found (marked_f f g want old)) (wanted_f f g want met classes)
-  joins_f =
-      (λ j. bit_or found (wanted_f f g want (keyed.named (e.0 j)) (marked.named (e.1 j))))
-      ∙ ap (bit_or found) (wanted_f_both f g want old.met.0 more.met.0 old.classes.0 more.classes.0)
-      ∙ sym (or_assoc found (marked_f f g want old) (marked_f f g want more))
-      ∙ (λ j. bit_or (bit_or found (marked_f f g want old)) (wanted_f f g want (em j) (ec j)))
+-- ---- a mark is a byte
 
-  pub joins_g : bit_or found (marked_g f g want new) ≡ bit_or (bit_or found (marked_g f g want old)) (wanted_g f g want met classes)
-  joins_g =
-      (λ j. bit_or found (wanted_g f g want (keyed.named (e.0 j)) (marked.named (e.1 j))))
-      ∙ ap (bit_or found) (wanted_g_both f g want old.met.0 more.met.0 old.classes.0 more.classes.0)
-      ∙ sym (or_assoc found (marked_g f g want old) (marked_g f g want more))
-      ∙ (λ j. bit_or (bit_or found (marked_g f g want old)) (wanted_g f g want (em j) (ec j)))
+pub unshared_small : (above : Bool) (n : ℕ) → unshared_marks above n < 256
+unshared_small above n = let h = pack_lt ((above && eqb n 0) ∷ (not above && eqb n 0) ∷ (above && not (eqb n 0)) ∷ (not above && not (eqb n 0)) ∷ []) in omega (arith, h)
+
+pub shared_small : (above other : Bool) → shared_marks above other < 256
+shared_small above other = let h = pack_lt (false ∷ false ∷ false ∷ false ∷ (above && other) ∷ (not above && not other) ∷ (above && not other || not above && other) ∷ []) in omega (arith, h)

@@ -17,7 +17,6 @@ use Rattle.flags_classes.specs.Marked.{unshared_marks, shared_marks, named}
 use Rattle.flags_table.specs.Table.{flags_of_f_by, flags_of_g_by}
 use Rattle.flags_masks.specs.declared.FlagMasks.{FlagMasks}
 use Rattle.flags_masks.specs.Wanted.{only}
-use Rattle.walk_flags.specs.declared.Degrees.{Degrees}
 use Rattle.walk_flags.specs.declared.Marks.{Marks}
 use Rattle.walk_flags.specs.declared.Side.{Side}
 
@@ -113,21 +112,7 @@ module _ (f g : Shape) (want : FlagMasks) (m : Meetings) (c : Classes) where
 -- what the table gives of marks, each a bit of a number
 module _ (f g : Shape) (want : FlagMasks) (m : Marks) where
   abbrev pub marked_f : ℕ
-  marked_f = wanted_f f g want (met.named m.met.0) (named m.classes.0)
+  marked_f = wanted_f f g want (met.named m.met) (named m.classes)
 
   abbrev pub marked_g : ℕ
-  marked_g = wanted_g f g want (met.named m.met.0) (named m.classes.0)
-
--- of a point with these degrees: the element i of F alone, the element j of G alone, and each of the two where they are one event
-module _ (s : List ℕ) (sc : Scene) (notes : List ℕ) (want : FlagMasks) (at : Degrees) where
-  abbrev pub alone_of_f : ℕ → ℕ
-  alone_of_f i = let note = get_or notes i 0 in wanted_f sc.f.shape sc.g.shape want (met_at at.f at.g note) (class_of_one (side_of s sc.f i) note)
-
-  abbrev pub alone_of_g : ℕ → ℕ
-  alone_of_g j = let note = get_or notes (1024 + j) 0 in wanted_g sc.f.shape sc.g.shape want (met_at at.f at.g note) (class_of_one (side_of s sc.g j) note)
-
-  abbrev pub both_of_f : ℕ → ℕ → ℕ
-  both_of_f i j = wanted_f sc.f.shape sc.g.shape want (met_at at.f at.g (get_or notes i 0)) (class_of_two (side_of s sc.f i) (side_of s sc.g j))
-
-  abbrev pub both_of_g : ℕ → ℕ → ℕ
-  both_of_g i j = wanted_g sc.f.shape sc.g.shape want (met_at at.f at.g (get_or notes i 0)) (class_of_two (side_of s sc.g j) (side_of s sc.f i))
+  marked_g = wanted_g f g want (met.named m.met) (named m.classes)

@@ -4,11 +4,10 @@
 
 ghost use Rattle.std.specs.Prelude.{ℕ, ◌≡◌, ◌<◌};
 ghost use Rattle.std.specs.Int.Bits.{bit_or};
-ghost use Rattle.flags_meetings.specs.Met.{is_inner};
 ghost use Rattle.sweep_notes.specs.Numbers.{note_number};
 ghost use Rattle.walk_flags.specs.OneTaken.{alone_marks, met_marks, marks_of_one, marks_of_two, marked_f, marked_g};
 
-use flags::{MarkSet, packed};
+use flags::MarkSet;
 use flags_masks::FlagMasks;
 use scene::Shape;
 use sweep_notes::Note;
@@ -27,12 +26,12 @@ pub struct Side {
     pub ia: bool,
 }
 
-/// The marks that elements of an object leave: of the meetings at their points, and of the classes of their segments. Those of several elements are put together, and the table is read
-/// off all of them at once.
+/// The marks that elements of an object leave: of the meetings at their points, and of the classes of their segments, a byte each. Those of several elements are put together, and the table
+/// is read off all of them at once.
 #[derive(Clone, Copy)]
 pub struct Marks {
-    pub met: MarkSet,
-    pub classes: MarkSet,
+    pub met: u8,
+    pub classes: u8,
 }
 
 /// What is asked of each event: the types of F and of G, and the wanted flags of each.
@@ -43,90 +42,92 @@ pub struct Asked {
     pub want: FlagMasks,
 }
 
-// Some element has the point, and it is no boundary point.
-fn is_inner(degree: usize) -> bool
-    ensures { result ≡ is_inner degree }
+// The mark of the meeting at a point that is none of G's, by an element with this note: bit 0, 1 or 2 by the note, where the point is bound in F.
+fn met_alone(of_f: usize, note: Note) -> u8
+    ensures { result ≡ alone_marks of_f (note_number note) }
 {
-    degree > 0 && !flags_meetings::is_bound(degree)
+    if !flags_meetings::is_bound(of_f) {
+        return 0;
+    }
+    match note {
+        Note::Even => 1,
+        Note::Odd => 2,
+        Note::On => 4,
+    }
 }
 
-// The marks of the meeting at a point that is none of G's, by an element with this note.
-fn met_alone(of_f: usize, note: Note) -> MarkSet
-    ensures { result.0 ≡ alone_marks of_f (note_number note) }
+// At a point of both, whatever the note: bits 3 to 6, by its kind in F and its kind in G.
+fn met_by_both(at: Degrees) -> u8
+    requires { (0 < at.f) × (0 < at.g) }
+    ensures { (n : ℕ) → result ≡ met_marks at.f at.g n }
 {
-    let bound = flags_meetings::is_bound(of_f);
-    MarkSet(packed([
-        bound && note == Note::Even,
-        bound && note == Note::Odd,
-        bound && note == Note::On,
-    ]))
-}
-
-// At a point of G's, whatever the note.
-fn met_of_g(at: Degrees) -> MarkSet
-    requires { 0 < at.g }
-    ensures { (n : ℕ) → result.0 ≡ met_marks at.f at.g n }
-{
-    let bound_f = flags_meetings::is_bound(at.f);
     let bound_g = flags_meetings::is_bound(at.g);
-    let inner_f = is_inner(at.f);
-    MarkSet(packed([
-        false,
-        false,
-        false,
-        bound_f && bound_g,
-        bound_f && !bound_g,
-        inner_f && bound_g,
-        inner_f && !bound_g,
-        at.f == 0 && bound_g,
-    ]))
+    if flags_meetings::is_bound(at.f) {
+        if bound_g { 8 } else { 16 }
+    } else {
+        if bound_g { 32 } else { 64 }
+    }
+}
+
+// At a point of G's alone: bit 7, where it is bound in G.
+#[tactic(auto, using(crate::proofs::Additive::met_of_g))]
+fn met_by_g(of_g: usize) -> u8
+    requires { 0 < of_g }
+    ensures { (n : ℕ) → result ≡ met_marks 0 of_g n }
+{
+    if flags_meetings::is_bound(of_g) {
+        128
+    } else {
+        0
+    }
 }
 
 // The marks of the meeting at a point, by an element with this note.
 #[tactic(auto, using(crate::proofs::Additive::alone_is))]
-fn met(at: Degrees, note: Note) -> MarkSet
-    ensures { result.0 ≡ met_marks at.f at.g (note_number note) }
+fn met(at: Degrees, note: Note) -> u8
+    ensures { result ≡ met_marks at.f at.g (note_number note) }
 {
     if at.g == 0 {
         met_alone(at.f, note)
+    } else if at.f == 0 {
+        met_by_g(at.g)
     } else {
-        met_of_g(at)
+        met_by_both(at)
     }
 }
 
 // The mark of an element's class: a right halfsegment and a point have none.
-fn class_alone(own: Side, note: Note) -> MarkSet
-    ensures { result.0 ≡ marks_of_one own (note_number note) }
+#[tactic(auto, using(crate::proofs::Additive::unshared_small))]
+fn class_alone(own: Side, note: Note) -> u8
+    ensures { result ≡ marks_of_one own (note_number note) }
 {
     if own.is_left {
-        flags_classes::unshared(own.ia, note)
+        flags_classes::unshared(own.ia, note).0 as u8
     } else {
-        MarkSet::NONE
+        0
     }
 }
 
-fn class_of_both(own: Side, other: Side) -> MarkSet
-    ensures { result.0 ≡ marks_of_two own other }
+#[tactic(auto, using(crate::proofs::Additive::shared_small))]
+fn class_of_both(own: Side, other: Side) -> u8
+    ensures { result ≡ marks_of_two own other }
 {
     if own.is_left {
-        flags_classes::shared(own.ia, other.ia)
+        flags_classes::shared(own.ia, other.ia).0 as u8
     } else {
-        MarkSet::NONE
+        0
     }
 }
 
 impl Marks {
-    pub const NONE: Marks = Marks {
-        met: MarkSet::NONE,
-        classes: MarkSet::NONE,
-    };
+    pub const NONE: Marks = Marks { met: 0, classes: 0 };
 
     pub fn with(self, more: Marks) -> Marks
-        ensures { (result.met.0 ≡ bit_or self.met.0 more.met.0) × (result.classes.0 ≡ bit_or self.classes.0 more.classes.0) }
+        ensures { (result.met ≡ bit_or self.met more.met) × (result.classes ≡ bit_or self.classes more.classes) }
     {
         Marks {
-            met: self.met.with(more.met),
-            classes: self.classes.with(more.classes),
+            met: self.met | more.met,
+            classes: self.classes | more.classes,
         }
     }
 
@@ -134,7 +135,7 @@ impl Marks {
 
     // Of an element, with its note, that is an event of its object alone.
     pub fn alone(at: Degrees, note: Note, own: Side) -> Marks
-        ensures { (result.met.0 ≡ met_marks at.f at.g (note_number note)) × (result.classes.0 ≡ marks_of_one own (note_number note)) }
+        ensures { (result.met ≡ met_marks at.f at.g (note_number note)) × (result.classes ≡ marks_of_one own (note_number note)) }
     {
         Marks {
             met: met(at, note),
@@ -144,7 +145,7 @@ impl Marks {
 
     // Of an element that is the same event as one of the other object. The note is that of the element of F.
     pub fn of_both(at: Degrees, note: Note, own: Side, other: Side) -> Marks
-        ensures { (result.met.0 ≡ met_marks at.f at.g (note_number note)) × (result.classes.0 ≡ marks_of_two own other) }
+        ensures { (result.met ≡ met_marks at.f at.g (note_number note)) × (result.classes ≡ marks_of_two own other) }
     {
         Marks {
             met: met(at, note),
@@ -158,14 +159,16 @@ impl Asked {
     pub fn of_f(self, marks: Marks) -> u16
         ensures { result ≡ marked_f self.f self.g self.want marks }
     {
-        flags_table::flags_of_f(self.f, self.g, marks.met.into(), marks.classes.into())
-            & self.want.f
+        let met = MarkSet(marks.met as u16);
+        let classes = MarkSet(marks.classes as u16);
+        flags_table::flags_of_f(self.f, self.g, met.into(), classes.into()) & self.want.f
     }
 
     pub fn of_g(self, marks: Marks) -> u16
         ensures { result ≡ marked_g self.f self.g self.want marks }
     {
-        flags_table::flags_of_g(self.f, self.g, marks.met.into(), marks.classes.into())
-            & self.want.g
+        let met = MarkSet(marks.met as u16);
+        let classes = MarkSet(marks.classes as u16);
+        flags_table::flags_of_g(self.f, self.g, met.into(), classes.into()) & self.want.g
     }
 }

@@ -3,7 +3,6 @@ use Rattle.std.proofs.Common.{◌∙◌, ap, subst, refl}
 use Rattle.flags_vectors.proofs.NoFlagWrong.{with_meaning}
 use Rattle.walk.specs.Walked.{WalkAnswer, GroundAfter}
 use Rattle.walk.specs.Theorems.{WalkPromised}
-use Rattle.walk.proofs.Theorems.{walk_promised}
 use Rattle.karvoiss.specs.Walks.{walk_for_c}
 use Rattle.karvoiss.proofs.karvoiss_walk_begin.Goals as goal
 
@@ -15,6 +14,6 @@ returns c =
     let laid = c.begin.new.ground in (
       c.into.ensures ∙ ap walk_for_c e,
       subst (λ (r : WalkAnswer). GroundAfter s a.ground.now laid r) e c.begin.ensures.ground,
-      subst (λ (r : WalkAnswer). WalkPromised s a.want_f a.want_g laid r) e (walk_promised s a.want_f a.want_g a.ground.now laid c.begin.result e c.begin.ensures.ground),
+      subst (λ (r : WalkAnswer). WalkPromised s a.want_f a.want_g laid r) e c.begin.ensures.promised,
       (with_meaning s a.want_f a.want_g refl).2,
     )

@@ -1,24 +1,38 @@
--- The state does not fit, a record is at fault, or the walk is moved.
-use Rattle.std.proofs.Common.{◌∙◌, sym, ap}
-use Rattle.scene.proofs.Outcomes.{handed_on}
-use Rattle.walk.specs.Walking.{walked}
-use Rattle.walk.specs.Walked.{moved}
-use Rattle.walk.proofs.Portioning.{not_over, over_is}
+-- A state that does not fit the ground, or one that goes on.
+use Rattle.std.proofs.Common.{ℕ, Ok, ◌∙◌, ◌+◌, sym, ap, bit_or, arith}
+use Rattle.walk_flags.specs.OneTaken.{marked_f, marked_g}
+use Rattle.walk.specs.Walked.{marks_of_f, marks_of_g}
+use Rattle.walk.proofs.Portioning.{at_rest, goes_on}
 use Rattle.walk.proofs.Walk.portion.Goals as goal
+use Rattle.walk.proofs.Walk.portion.Goals.{then-self-gt-MOST-via-then-self-gt-MOST, then-self-gt-MOST-via-else-self-gt-MOST+then-self-ground, then-self-gt-MOST-via-else-self-gt-MOST+else-self-ground+then-self}
 
-pub returns-in_default : goal.returns-in_default
-returns-in_default c = c.at.ensures ∙ sym (not_over c.args.ground.now c.args.self c.args.n c.in_default.ensures)
-
-pub returns-in_err-at : goal.returns-in_err-at
-returns-in_err-at c =
-    let w = c.args.self in
-    let q = c.in-Some.ensures in
-    let over = c.advanced.ensures ∙ (λ i. walked (q.1 i) (q.2 i) (q.3 i) (q.4 i) c.args.n w.at) in
-    handed_on c.from_residual.result c.from_residual.ensures.1 ∙ sym (over_is c.args.ground.now w c.args.n q.0 ∙ ap (moved w) (sym over ∙ c.in_err-at.was))
+pub returns-then-self-gt-MOST : goal.returns-then-self-gt-MOST
+returns-then-self-gt-MOST c =
+    c.at.ensures
+    ∙ sym (at_rest c.args.ground.now c.args.self c.args.n (elim c.then-self-gt-MOST.branch [
+      | then-self-gt-MOST-via-then-self-gt-MOST w ↦ λ a b d. omega (arith, a, w.if-self-gt-MOST.true)
+      | then-self-gt-MOST-via-else-self-gt-MOST+then-self-ground w ↦ λ a b d. omega (arith, b, w.if-self-ground.true)
+      | then-self-gt-MOST-via-else-self-gt-MOST+else-self-ground+then-self w ↦ λ a b d. omega (arith, d, w.if-self.true)
+    ]))
 
 pub returns : goal.returns
 returns c =
     let w = c.args.self in
-    let q = c.in-Some.ensures in
-    let over = c.advanced.ensures ∙ (λ i. walked (q.1 i) (q.2 i) (q.3 i) (q.4 i) c.args.n w.at) in
-    sym (over_is c.args.ground.now w c.args.n q.0 ∙ ap (moved w) (sym over ∙ c.in_ok-at.was))
+    let g = c.args.ground.now in
+    let to = ap (λ (m : ℕ). w.taken + m) c.min.ensures in
+    let asked = c.asked-asked.ensures in
+    let marks = c.marks_in-marks.ensures in
+    let marks_f = marks.0 ∙ ap (marks_of_f g w.taken) to in
+    let marks_g = marks.1 ∙ ap (marks_of_g g w.taken) to in
+    let of_f = c.of_f.ensures ∙ (λ x. marked_f (asked x).f (asked x).g (asked x).want (marks_f x)) in
+    let of_g = c.of_g.ensures ∙ (λ x. marked_g (asked x).f (asked x).g (asked x).want (marks_g x)) in
+    (λ x. Ok (record {
+      f = w.f;
+      g = w.g;
+      is_turned = w.is_turned;
+      want = w.want;
+      events = w.events;
+      taken = to x;
+      found = record { f = bit_or w.found.f (of_f x); g = bit_or w.found.g (of_g x) };
+    }))
+    ∙ sym (goes_on g w c.args.n (omega (arith, c.if-self-gt-MOST.false)) (omega (arith, c.if-self-ground.false)) (omega (arith, c.if-self.false)))

@@ -1,2 +1,0 @@
--- Notes as numbers, and back.
-pub mod Numbers
