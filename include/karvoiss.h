@@ -129,8 +129,8 @@ extern "C" {
  * was measured on scenes of full size, of every pair of types in either order,
  * to need about 6,000 bytes, karvoiss_summary 25,520, since it copies its object,
  * karvoiss_far 160, karvoiss_estimate 40, karvoiss_in_window 216 and
- * karvoiss_walk_portion 329; karvoiss_read_wkb 104,328 and karvoiss_write_wkb 46,408,
- * since they build and check an object, and karvoiss_split 332,440; the numbers leave
+ * karvoiss_walk_portion 329; karvoiss_read_wkb 104,328 and karvoiss_write_wkb 46,376,
+ * since they build and check an object, and karvoiss_split 332,392; the numbers leave
  * room for other compilers.
  */
 #define KARVOISS_VECTORS_STACK 11200
