@@ -5,4 +5,5 @@ pub mod Counting
 pub mod Halves
 pub mod Together
 pub mod Earliest
+pub mod Numbered
 pub mod Pass

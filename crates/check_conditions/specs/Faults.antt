@@ -2,7 +2,7 @@
 -- before it and looks at fewer elements than its definition in scene's Conditions.antt; where they hold, the earliest record at fault is the same
 -- (proofs/Earliest.antt).
 use Rattle.scene.specs.Read.{Fault}
-use Rattle.std.specs.Prelude.{ℕ, ◌+◌, Bool, not, ◌&&◌, List}
+use Rattle.std.specs.Prelude.{ℕ, ◌+◌, Bool, not, ◌&&◌, cond, List, eqb}
 use Rattle.scene.specs.declared.Layout.{Layout}
 use Rattle.scene.specs.declared.Flaw.{Flaw}
 use Rattle.scene.specs.declared.Flaw.TheVariants.{Misplaced, Unpaired, Touching, OddEnd, WrongIa, TouchingAcross}
@@ -28,3 +28,15 @@ module _ (s : List ℕ) (l other : Layout) where
 
   abbrev pub fault_under : Flaw → Fault
   fault_under f = earliest l (is_at_fault f) (elements l)
+
+  -- the same by the number of the condition: what is none of 10 to 14 is 15
+  abbrev pub is_at_fault_by : ℕ → ℕ → Bool
+  is_at_fault_by n i =
+      cond (eqb n 10) (is_misplaced s l i)
+      (cond (eqb n 11) (has_segments l.shape && not (has_partner s l i))
+      (cond (eqb n 12) (touches_any s l l (i + 1) i)
+      (cond (eqb n 13) (begins_oddly s l i)
+      (cond (eqb n 14) (is_mismarked s l i) (touches_any s l other 0 i)))))
+
+  abbrev pub fault_by : ℕ → Fault
+  fault_by n = earliest l (is_at_fault_by n) (elements l)

@@ -2,8 +2,9 @@
 // order 10, partners 11, touch 12 and 15, ends 13, interior 14.
 #![tactic(auto)]
 
-ghost use Rattle.std.specs.Prelude.{◌≡◌, ◌<◌};
-ghost use Rattle.check_conditions.specs.Faults.{is_at_fault, fault_under};
+ghost use Rattle.std.specs.Prelude.{ℕ, ◌≡◌, ◌<◌};
+ghost use Rattle.scene.specs.Read.{flaw_of};
+ghost use Rattle.check_conditions.specs.Faults.{is_at_fault, fault_under, fault_by};
 
 use scene::Flaw;
 use scene_segments::Pair;
@@ -30,7 +31,7 @@ fn is_at_fault(pair: Pair<'_>, flaw: Flaw, i: usize) -> bool
 }
 
 // The earliest record of an object that has a flaw. For `TouchingAcross`, the other one is the scene's other object.
-pub fn fault_under(pair: Pair<'_>, flaw: Flaw) -> Option<usize>
+fn earliest_under(pair: Pair<'_>, flaw: Flaw) -> Option<usize>
     ensures { result ≡ fault_under pair.entry.bytes.now pair.entry.own pair.entry.other flaw }
 {
     for i in 0..pair.own.count {
@@ -39,4 +40,12 @@ pub fn fault_under(pair: Pair<'_>, flaw: Flaw) -> Option<usize>
         }
     }
     None
+}
+
+// The same; and of the flaw that a number stands for, that of the number.
+pub fn fault_under(pair: Pair<'_>, flaw: Flaw) -> Option<usize>
+    ensures is { result ≡ fault_under pair.entry.bytes.now pair.entry.own pair.entry.other flaw }
+    ensures of_number { (n : ℕ) → flaw ≡ flaw_of n → result ≡ fault_by pair.entry.bytes.now pair.entry.own pair.entry.other n }
+{
+    earliest_under(pair, flaw)
 }

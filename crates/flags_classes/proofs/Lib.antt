@@ -4,3 +4,4 @@ pub mod Merging
 pub mod Behind
 pub mod Standing
 pub mod Walking
+pub mod AsRead

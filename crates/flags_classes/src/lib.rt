@@ -2,10 +2,10 @@
 // Both are found in one walk over the left halfsegments of both objects in their order.
 #![tactic(auto)]
 
-ghost use Rattle.std.specs.Prelude.{◌≡◌};
+ghost use Rattle.std.specs.Prelude.{ℕ, ◌≡◌, List, map, take};
 ghost use Rattle.flags_classes.specs.Classed.{classes_of_f, classes_of_g};
 ghost use Rattle.flags_classes.specs.Marked.{unshared_marks, shared_marks, named};
-ghost use Rattle.sweep_notes.specs.Numbers.{note_number};
+ghost use Rattle.sweep_notes.specs.Numbers.{note_number, as_read};
 
 use check_verdict::taken::TakenScene;
 use flags::MarkSet;
@@ -89,9 +89,11 @@ impl From<MarkSet> for Classes {
     }
 }
 
-// The classes of both objects of a scene that is taken.
+// The classes of both objects of a scene that is taken. Of notes that bytes hold they are the bytes' own.
 pub fn classes_of(taken: TakenScene<'_>, notes: &Notes) -> ClassesOfBoth
-    ensures { (result.f ≡ classes_of_f taken.entry.bytes.now taken.entry.scene notes.now) × (result.g ≡ classes_of_g taken.entry.bytes.now taken.entry.scene notes.now) }
+    ensures is { (result.f ≡ classes_of_f taken.entry.bytes.now taken.entry.scene notes.now) × (result.g ≡ classes_of_g taken.entry.bytes.now taken.entry.scene notes.now) }
+    ensures of_bytes { (bytes : List ℕ) → notes.now ≡ map as_read (take 2048 bytes)
+        → (result.f ≡ classes_of_f taken.entry.bytes.now taken.entry.scene bytes) × (result.g ≡ classes_of_g taken.entry.bytes.now taken.entry.scene bytes) }
 {
     let pair = taken.read().pair();
     let f = pair.own();

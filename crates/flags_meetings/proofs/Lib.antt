@@ -3,3 +3,5 @@ pub mod PointKinds
 pub mod Runs
 pub mod Elements
 pub mod Walking
+-- notes that bytes hold
+pub mod AsRead

@@ -1,12 +1,12 @@
 // Where elements of two objects meet: one walk over the points of both, in their order, by their keys.
 #![tactic(auto)]
 
-ghost use Rattle.std.specs.Prelude.{◌≡◌, ◌<◌, ◌≤◌};
+ghost use Rattle.std.specs.Prelude.{ℕ, ◌≡◌, ◌<◌, ◌≤◌, List, map, take};
 ghost use Rattle.plane.specs.Plane.{is_boundary};
 ghost use Rattle.scene.specs.Conditions.{out_of_order};
 ghost use Rattle.flags_meetings.specs.Met.{meetings};
 ghost use Rattle.scene_keys.specs.Keyed.{top, keys};
-ghost use Rattle.sweep_notes.specs.Numbers.{note_number};
+ghost use Rattle.sweep_notes.specs.Numbers.{note_number, as_read};
 ghost use Rattle.flags_meetings.specs.Keyed.{Passed, mark_of_note, marks_of_notes, marks, named};
 
 use flags::MarkSet;
@@ -137,11 +137,12 @@ impl From<MarkSet> for Meetings {
     }
 }
 
-// How elements of both objects meet, point by point: F is the own one, whose notes count, and G the other.
+// How elements of both objects meet, point by point: F is the own one, whose notes count, and G the other. Of notes that bytes hold they are the bytes' own.
 // Kept as a while: each cursor moves by the elements that have the point, which no range or slice gives.
 pub fn meetings_of(pair: Pair<'_>, notes: &Notes) -> Meetings
     requires { (out_of_order pair.bytes.now pair.own ≡ None) × (out_of_order pair.bytes.now pair.other ≡ None) }
-    ensures { result ≡ meetings pair.entry.bytes.now (record { f = pair.entry.own; g = pair.entry.other }) notes.now }
+    ensures is { result ≡ meetings pair.entry.bytes.now (record { f = pair.entry.own; g = pair.entry.other }) notes.now }
+    ensures of_bytes { (bytes : List ℕ) → notes.now ≡ map as_read (take 2048 bytes) → result ≡ meetings pair.entry.bytes.now (record { f = pair.entry.own; g = pair.entry.other }) bytes }
 {
     let mut c = Cursor::first(pair.own());
     let mut d = Cursor::first(pair.other());

@@ -6,8 +6,11 @@ ghost use Rattle.flags_table.specs.Walks.{off_classes_f, off_classes_g, reads_me
 use flags_masks::FlagMasks;
 use scene::Shape;
 
-// The flags that are read off the classes of segments. Every other flag is read off the meetings at points.
-fn class_flags(f: Shape, g: Shape) -> FlagMasks
+// The flags of F and of G that are read off the classes of segments.
+pub type ClassFlags = FlagMasks;
+
+// Every other flag is read off the meetings at points.
+fn class_flags(f: Shape, g: Shape) -> ClassFlags
     ensures { (result.f ≡ pack (off_classes_f f g)) × (result.g ≡ pack (off_classes_g f g)) }
 {
     match (f, g) {

@@ -1,8 +1,8 @@
 // The byte of a segment of two regions, by the sides where their interiors adjoin it: by ia, and by the sweep's note.
-ghost use Rattle.std.specs.Prelude.{◌≡◌, not, ◌&&◌, ◌+◌, ◌*◌, ◌<◌, eqb};
+ghost use Rattle.std.specs.Prelude.{ℕ, ◌≡◌, not, ◌&&◌, ◌+◌, ◌*◌, ◌<◌, eqb};
 ghost use Rattle.whole.specs.Count.{bit};
 ghost use Rattle.scene.specs.Conditions.{ia};
-ghost use Rattle.sweep_notes.specs.Numbers.{note_number};
+ghost use Rattle.sweep_notes.specs.Numbers.{note_number, as_read};
 
 use scene_segments::Object;
 use sweep_notes::Note;
@@ -49,9 +49,11 @@ pub fn own_sides(o: Object<'_>, i: usize) -> Sides
     }
 }
 
-// And of a segment that is none of its own, by the sweep's note of it.
+// And of a segment that is none of its own, by the sweep's note of it, or by the byte that it is of.
+#[tactic(auto, using(sweep_notes::proofs::AsRead::even_read))]
 pub fn noted_sides(note: Note) -> Sides
-    ensures { (result.below ≡ not (eqb (note_number note) 0)) × (result.above ≡ not (eqb (note_number note) 0)) }
+    ensures is { (result.below ≡ not (eqb (note_number note) 0)) × (result.above ≡ not (eqb (note_number note) 0)) }
+    ensures of_byte { (byte : ℕ) → note_number note ≡ as_read byte → (result.below ≡ not (eqb byte 0)) × (result.above ≡ not (eqb byte 0)) }
 {
     let inside = note != Note::Even;
     Sides {

@@ -92,6 +92,15 @@ flaw_number OddEnd = 13
 flaw_number WrongIa = 14
 flaw_number TouchingAcross = 15
 
+-- a condition by its number, as `fault_under` (check_conditions) is asked of it: every other number asks for the last
+unfoldable pub flaw_of : ℕ → Flaw
+flaw_of n =
+    cond (eqb n 10) Misplaced
+    (cond (eqb n 11) Unpaired
+    (cond (eqb n 12) Touching
+    (cond (eqb n 13) OddEnd
+    (cond (eqb n 14) WrongIa TouchingAcross))))
+
 abbrev pub number_of : Reason → ℕ
 number_of CutShort = 1
 number_of WrongKind = 2

@@ -44,13 +44,21 @@ pub fn segment(s: &[u8], at: usize) -> Segment
     }
 }
 
+// Is the halfsegment record at an offset a left one?
+pub fn is_left(s: &[u8], at: usize) -> bool
+    requires { at + 18 ≤ length s.now }
+    ensures { result ≡ (halfsegment_at s.now at).is_left }
+{
+    s[at + 17] == 1
+}
+
 pub fn halfsegment(s: &[u8], at: usize) -> Halfsegment
     requires { at + 18 ≤ length s.now }
     ensures { result ≡ halfsegment_at s.now at }
 {
     Halfsegment {
         segment: segment(s, at),
-        is_left: s[at + 17] == 1,
+        is_left: is_left(s, at),
     }
 }
 

@@ -3,7 +3,7 @@
 #![tactic(auto)]
 
 ghost use Rattle.std.specs.Prelude.{◌≡◌, Err};
-ghost use Rattle.scene.specs.Read.{flaw_number, number_of};
+ghost use Rattle.scene.specs.Read.{flaw_number, flaw_of, number_of};
 
 // An object's type: 1, 2, 3 in a type record, and in the order of these numbers.
 #[derive(Clone, Copy, PartialEq, Eq, PartialOrd, Ord)]
@@ -60,6 +60,22 @@ impl From<Flaw> for u8 {
             Flaw::OddEnd => 13,
             Flaw::WrongIa => 14,
             Flaw::TouchingAcross => 15,
+        }
+    }
+}
+
+impl From<u8> for Flaw {
+    ghost from_gives = { λ n flaw. flaw ≡ flaw_of n };
+
+    #[tactic(auto, unfolding(crate::specs::Read::flaw_of))]
+    fn from(n: u8) -> Flaw {
+        match n {
+            10 => Flaw::Misplaced,
+            11 => Flaw::Unpaired,
+            12 => Flaw::Touching,
+            13 => Flaw::OddEnd,
+            14 => Flaw::WrongIa,
+            _ => Flaw::TouchingAcross,
         }
     }
 }

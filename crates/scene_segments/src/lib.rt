@@ -68,6 +68,14 @@ impl<'a> Object<'a> {
         bytes::halfsegment(self.bytes, self.layout.place(i))
     }
 
+    // Is it a left halfsegment? A search asks this before it reads one, since half of them are right ones.
+    fn is_left(self, i: usize) -> bool
+        requires { (i < self.layout.count) × T (has_segments self.layout.shape) }
+        ensures { result ≡ (half self.entry.bytes.now self.entry.layout i).is_left }
+    {
+        bytes::is_left(self.bytes, self.layout.place(i))
+    }
+
     // Is the interior of a region above the segment of an element? A line has none.
     pub fn ia(self, i: usize) -> bool
         requires { i < self.layout.count }

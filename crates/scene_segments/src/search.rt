@@ -63,6 +63,9 @@ impl<'a> Object<'a> {
             return false;
         }
         for i in k..self.layout.count {
+            if !self.is_left(i) {
+                continue;
+            }
             let h = self.half(i);
             if is_beyond(h, t) {
                 return false;

@@ -165,7 +165,7 @@ fn sink(row: Row<'_>, order: &mut ArrayVec<Half, 1024>, rises: bool, h: Half) ->
 {
     let k = place(row, order.as_slice(), rises, h);
     let still = rises && follows(row, order.as_slice(), k, h);
-    order.insert(k, h);
+    rows::insert(order, k, h);
     still
 }
 

@@ -94,7 +94,7 @@ pub fn hand_over(
     if out.len() < bytes.len() {
         return Reason::NoRoom.at(0);
     }
-    out[..bytes.len()].copy_from_slice(bytes);
+    rows::lay(bytes, out);
     Ok(Splitted {
         added_f,
         added_g,

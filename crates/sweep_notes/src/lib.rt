@@ -1,9 +1,11 @@
 // What the sweep notes down of each element of a scene: how it lies beside the other object.
 #![tactic(auto)]
 
-ghost use Rattle.std.specs.Prelude.{◌≡◌, ◌<◌, get_or, length, set};
+ghost use Rattle.std.specs.Prelude.{ℕ, ◌≡◌, ◌<◌, ◌≤◌, List, ◌++◌, get_or, length, set, map, take, drop};
+ghost use Rattle.scene.specs.declared.Scene.{Scene};
 ghost use Rattle.sweep_laws.specs.Swept.{slot};
-ghost use Rattle.sweep_notes.specs.Numbers.{note_number};
+ghost use Rattle.sweep_laws.specs.Noted.{Noted};
+ghost use Rattle.sweep_notes.specs.Numbers.{note_number, as_read};
 
 use std::marker::Model;
 
@@ -22,6 +24,33 @@ impl From<bool> for Note {
 
     fn from(odd: bool) -> Note {
         if odd { Note::Odd } else { Note::Even }
+    }
+}
+
+// By a byte: a number above 1 is read as 2 is.
+impl From<u8> for Note {
+    ghost use Rattle.sweep_notes.specs.Numbers.{as_read};
+
+    ghost from_gives = { λ byte note. note_number note ≡ as_read byte };
+
+    fn from(byte: u8) -> Note {
+        match byte {
+            0 => Note::Even,
+            1 => Note::Odd,
+            _ => Note::On,
+        }
+    }
+}
+
+impl From<Note> for u8 {
+    ghost from_gives = { λ note byte. byte ≡ note_number note };
+
+    fn from(note: Note) -> u8 {
+        match note {
+            Note::Even => 0,
+            Note::Odd => 1,
+            Note::On => 2,
+        }
     }
 }
 
@@ -72,6 +101,37 @@ impl Notes {
             self.of_f[k] = note;
         } else {
             self.of_g[k] = note;
+        }
+    }
+
+    /// The notes that lent bytes hold: those of F, and 1,024 further on those of G. A byte above 1 is `On`, as the definitions read it.
+    pub fn of_bytes(bytes: &[u8]) -> Self
+        requires { 2048 ≤ length bytes.now }
+        ensures is { result ≡ map as_read (take 2048 bytes.now) }
+        ensures noted { (s : List ℕ) (scene : Scene) → (scene.f.count ≤ 1024) × (scene.g.count ≤ 1024) → Noted s scene bytes.now → Noted s scene result }
+    {
+        let mut notes = Notes::new();
+        for k in 0..ROOM {
+            notes.write(true, k, Note::from(bytes[k]));
+        }
+        for j in 0..ROOM {
+            notes.write(false, j, Note::from(bytes[ROOM + j]));
+        }
+        notes
+    }
+
+    /// Lays their numbers into lent bytes, a byte for each; what is lent beyond them stays.
+    pub fn lay(&self, bytes: &mut [u8])
+        requires { 2048 ≤ length bytes.old }
+        ensures is { bytes.new ≡ self.now ++ drop 2048 bytes.old }
+        ensures room { (length self.now ≡ 2048) × (length bytes.new ≡ length bytes.old) }
+        ensures noted { (s : List ℕ) (scene : Scene) → (scene.f.count ≤ 1024) × (scene.g.count ≤ 1024) → Noted s scene self.now → Noted s scene bytes.new }
+    {
+        for k in 0..ROOM {
+            bytes[k] = u8::from(self.of_f[k]);
+        }
+        for j in 0..ROOM {
+            bytes[ROOM + j] = u8::from(self.of_g[j]);
         }
     }
 }

@@ -66,7 +66,7 @@ impl<const ROOM: usize> Status<ROOM> {
         requires { (k ≤ length self.old) × (length self.old < ROOM) }
         ensures { self.new ≡ inserted k at self.old }
     {
-        self.entries.insert(k, at);
+        rows::insert(&mut self.entries, k, at);
         self.near = k + 1;
     }
 
@@ -75,7 +75,7 @@ impl<const ROOM: usize> Status<ROOM> {
         requires { k < length self.old }
         ensures { self.new ≡ removed k self.old }
     {
-        let _ = self.entries.remove(k);
+        rows::remove(&mut self.entries, k);
         self.near = k;
     }
 }

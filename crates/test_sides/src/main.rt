@@ -35,7 +35,9 @@ fn turns(a: Point, b: Point, c: Point, d: Point) -> [Turn; 2]
 }
 
 // What is written of a quadruple.
-fn letters(quadruple: &[u8; SIZE]) -> [u8; 2] {
+pub type Letters = [u8; 2];
+
+fn letters(quadruple: &[u8; SIZE]) -> Letters {
     let a = bytes::point_from(quadruple, 0);
     let b = bytes::point_from(quadruple, 8);
     let c = bytes::point_from(quadruple, 16);

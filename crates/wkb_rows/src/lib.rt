@@ -62,7 +62,7 @@ impl<K: Ord + Copy + Default, const ROOM: usize> OrderedRow<K, ROOM> {
     {
         match self.find(&key) {
             Ok(_) => Ok(()),
-            Err(place) => self.keys.try_insert(place, key),
+            Err(place) => rows::try_insert(&mut self.keys, place, key),
         }
     }
 }

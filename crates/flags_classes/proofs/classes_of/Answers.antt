@@ -1,9 +1,11 @@
 -- `flags_classes::classes_of` meets its contract, step by step: a segment of F, of G or of both.
-use Rattle.std.proofs.Common.{arith, ℕ, ◌≡◌, List, [], ap₂, ◌∙◌, Ok}
+use Rattle.std.proofs.Common.{arith, ℕ, ◌≡◌, List, [], ap, ap₂, ◌∙◌, Ok}
 use Rattle.scene.specs.declared.Scene.{Scene}
 use Rattle.scene.specs.Conditions.{check_scene}
 use Rattle.check_verdict.proofs.Laws.{SoundScene, sound_scene}
+use Rattle.flags_classes.specs.Classed.{classes_of_f, classes_of_g}
 use Rattle.flags_classes.specs.Marked.{unshared_marks, shared_marks}
+use Rattle.flags_classes.proofs.AsRead.{classes_read_f, classes_read_g}
 use Rattle.flags_classes.proofs.Merging.{few}
 use Rattle.flags_classes.proofs.Walking.{walking_f, walking_g, walking_both, walked}
 use Rattle.flags_classes.proofs.classes_of.Goals as goal
@@ -83,5 +85,14 @@ returns c =
     let z = c.args.taken in
     let h = c.loop-step.invariant in
     let n = rw (h.same.0, h.same.1, h.same.2) at c.in-None.ensures.steps.0 in
-    let w = walked (sound z.bytes.now z.scene z.taken) c.args.notes.now h.walking n in
-    (c.into.ensures ∙ w.0, c.into-2.ensures ∙ w.1)
+    let o = sound z.bytes.now z.scene z.taken in
+    let w = walked o c.args.notes.now h.walking n in
+    let f = c.into.ensures ∙ w.0 in
+    let g = c.into-2.ensures ∙ w.1 in
+    record {
+      is = (f, g);
+      of_bytes = λ bytes e. (
+        f ∙ ap (classes_of_f z.bytes.now z.scene) e ∙ classes_read_f z.bytes.now z.scene bytes (few z.bytes.now z.scene.f o.f_sound.read),
+        g ∙ ap (classes_of_g z.bytes.now z.scene) e ∙ classes_read_g z.bytes.now z.scene bytes (few z.bytes.now z.scene.g o.g_sound.read),
+      );
+    }

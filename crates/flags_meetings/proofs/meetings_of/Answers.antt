@@ -2,6 +2,8 @@
 use Rattle.std.proofs.Common.{arith, bit_or, sym, ap, ap₂, subst, ◌∙◌, min}
 use Rattle.scene.specs.declared.Layout.{Layout}
 use Rattle.scene.proofs.Taken.{taken_object}
+use Rattle.flags_meetings.specs.Met.{meetings}
+use Rattle.flags_meetings.proofs.AsRead.{meetings_read}
 use Rattle.flags_meetings.proofs.Walking.{Walking, walked, walked_on}
 use Rattle.flags_meetings.proofs.meetings_of.Goals as goal
 
@@ -38,5 +40,13 @@ loop-k-preserved c =
 pub returns : goal.returns
 returns c =
     let p = c.args.pair in
+    let is =
     c.into.ensures
-    ∙ walked p.bytes.now (record { f = p.own; g = p.other }) c.args.notes.now p.own_read p.other_read c.requires.0 c.requires.1 c.loop-k.invariant.walking c.loop-k-test.false
+    ∙ walked p.bytes.now (record { f = p.own; g = p.other }) c.args.notes.now p.own_read p.other_read c.requires.0 c.requires.1 c.loop-k.invariant.walking c.loop-k-test.false in
+    record {
+      is = is;
+      of_bytes = λ bytes e.
+          is
+          ∙ ap (meetings p.bytes.now (record { f = p.own; g = p.other })) e
+          ∙ meetings_read p.bytes.now (record { f = p.own; g = p.other }) (taken_object p.bytes.now p.own.start p.own p.own_read).few bytes;
+    }

@@ -24,5 +24,5 @@ pub returns-then-reads_meetings : goal.returns-then-reads_meetings
 returns-then-reads_meetings c = λ reads.
     let pair = c.pair.ensures in
     let scene = c.read.ensures.1 ∙ c.taken.ensures.1 in
-    c.meetings_of.ensures
+    c.meetings_of.ensures.is
     ∙ of_scene c.args.noted.notes.now (pair.0 ∙ c.read.ensures.0 ∙ c.taken.ensures.0) (pair.1 ∙ ap (λ (sc : Scene). sc.f) scene) (pair.2 ∙ ap (λ (sc : Scene). sc.g) scene)

@@ -37,7 +37,7 @@ returns-clause-still_rising c = λ t. elim c.if-rises.branch [ then-rises w ↦ 
     k : ℕ
     k = c.place-k.result
 
-    on : {o : List Half} {r : Bool} → c.args.rises ≡ true → o ≡ c.args.order.now.items → ((i : ℕ) → i + 1 ≡ k → r ≡ less (get_or o i no_half) c.args.h) → T r → AreRising row c.insert.new.self.items
+    on : {o : List Half} {r : Bool} → c.args.rises ≡ true → o ≡ c.args.order.now.items → ((i : ℕ) → i + 1 ≡ k → r ≡ less (get_or o i no_half) c.args.h) → T r → AreRising row c.insert.new.row.items
     on {r = r} f e n t =
         subst (AreRising row) (sym c.insert.ensures.items)
         (rises_on less (λ h. h.index < length row) (earlier_trans row c.args.row.good) no_half c.args.h c.requires.h_in c.requires.order_in

@@ -18,4 +18,4 @@ pub invariant_of-self : goal.invariant_of-self
 invariant_of-self g c =
     let o = g.met.K.Ord.total in
     let p = subst (λ r. GoesTo g.K.Ord.cmp c.args.key r c.in-Err.place) (sym c.self.view_is) c.in-Err.ensures in
-    still o c.args.key c.in-Err.place c.self.inside.keys c.try_insert.new.self c.self.invariant p c.try_insert.result c.try_insert.ensures.ok c.try_insert.ensures.err
+    still o c.args.key c.in-Err.place c.self.inside.keys c.try_insert.new.row c.self.invariant p c.try_insert.result c.try_insert.ensures.ok c.try_insert.ensures.err

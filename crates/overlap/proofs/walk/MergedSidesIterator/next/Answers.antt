@@ -30,7 +30,7 @@ returns-in-OfF-clause-steps c =
     let n = rw (z.bytes, z.own, z.other) at step.0 in
     let h = rw (f.0, f.1, z.bytes, z.own) at c.half.ensures.is in
     let own = rw (f.0, f.1, z.bytes, z.own) at c.own_sides.ensures in
-    let sides = noted_f z.regions.two z.regions.noted z.stands c.half.ensures.in_range n (ap (λ h. h.segment) h) own (rw c.of.ensures at c.noted_sides.ensures) in
+    let sides = noted_f z.regions.two z.regions.noted z.stands c.half.ensures.in_range n (ap (λ h. h.segment) h) own (rw c.of.ensures at c.noted_sides.ensures.is) in
     (refl, rw (step.2, step.3) sides)
 
 pub returns-in-OfG-clause-steps : goal.returns-in-OfG-clause-steps
@@ -41,7 +41,7 @@ returns-in-OfG-clause-steps c =
     let n = rw (z.bytes, z.own, z.other) at step.0 in
     let h = rw (g.0, g.1, z.bytes, z.other) at c.half-in-OfG.ensures.is in
     let own = rw (g.0, g.1, z.bytes, z.other) at c.own_sides-in-OfG.ensures in
-    let sides = noted_g z.regions.two z.regions.noted z.stands c.half-in-OfG.ensures.in_range n (ap (λ h. h.segment) h) (rw c.of-in-OfG.ensures at c.noted_sides-in-OfG.ensures) own in
+    let sides = noted_g z.regions.two z.regions.noted z.stands c.half-in-OfG.ensures.in_range n (ap (λ h. h.segment) h) (rw c.of-in-OfG.ensures at c.noted_sides-in-OfG.ensures.is) own in
     (refl, rw (step.2, step.3) sides)
 
 pub returns-in-OfBoth-clause-steps : goal.returns-in-OfBoth-clause-steps

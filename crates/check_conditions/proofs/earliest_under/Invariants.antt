@@ -3,7 +3,7 @@ use Rattle.std.proofs.Common.{◌≡◌}
 use Rattle.scene.specs.Conditions.{earliest}
 use Rattle.scene_segments.proofs.Walk.{between}
 use Rattle.check_conditions.specs.Faults.{is_at_fault, fault_under}
-use Rattle.check_conditions.proofs.fault_under.Given as goal
+use Rattle.check_conditions.proofs.earliest_under.Given as goal
 
 abbrev pub invariant-loop-i : goal.invariant-loop-i
 invariant-loop-i l =
