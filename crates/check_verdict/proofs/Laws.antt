@@ -9,9 +9,9 @@ use mathlib.Core.List.{List, [], ◌∷◌, ◌++◌, map}
 use Rattle.plane.proofs.Accepted.{Across, across_from_touch}
 use Rattle.scene.specs.declared.Layout.{Layout}
 use Rattle.scene.specs.declared.Scene.{Scene}
-use Rattle.scene.specs.Read.{shape_number, given_first, given_second, IsObject}
+use Rattle.scene.specs.Read.{shape_number, given_first, given_second, IsObject, IsScene}
 use Rattle.scene.specs.Conditions.{segments, Rule, rule, object_rules, over_both, touching_across, scene_rules, check_scene_by, check_object}
-use Rattle.scene.proofs.Taken.{TakenScene, both_of_given}
+use Rattle.scene.proofs.Taken.{TakenScene, both_of_given, taken_read}
 use Rattle.scene.proofs.Given.{NoFault, in_neither, checked_scene_lem, checked_object_lem}
 use Rattle.sweep_laws.proofs.SoundObject.{no_touch_across}
 pub use Rattle.sweep_laws.proofs.SoundObject.{SoundObject, in_strict_order, no_half_twice, no_point_twice, left_in, in_left, segments_in_range, all_ordered, segments_sorted, no_touch, split, partner_of, segment_in, half_of_lem, regular, ia_is, point_in_range, points_sorted}
@@ -23,6 +23,10 @@ pub record SoundScene (s : List ℕ) (sc : Scene) : Type 0 where
   pub f_sound : SoundObject s sc.f
   pub g_sound : SoundObject s sc.g
   pub apart : touching_across s sc ≡ None
+
+-- it was read
+pub sound_read : {s : List ℕ} {sc : Scene} → SoundScene s sc → IsScene s sc
+sound_read o = taken_read o.taken
 
 -- F's type is not above G's
 pub ascending : {s : List ℕ} {sc : Scene} → SoundScene s sc → shape_number sc.f.shape ≤ shape_number sc.g.shape

@@ -10,6 +10,7 @@ ghost use Rattle.scene.specs.Conditions.{or_else, check_scene};
 ghost use Rattle.check_conditions.specs.Faults.{fault_under};
 ghost use Rattle.sweep_laws.specs.Swept.{InOrder};
 ghost use Rattle.sweep_laws.specs.Noted.{Noted};
+ghost use Rattle.sweep_notes.specs.Lent.{OnceLaid};
 ghost use Rattle.check_verdict.specs.Refusals.{scene_fault_under, flawed, verdict, Finds, geometry_verdict};
 ghost use Rattle.check_verdict.specs.SharedPoints.{CheckedMeans};
 
@@ -88,7 +89,8 @@ fn is_swept(read: ReadScene<'_>, notes: &mut Notes) -> bool
 
 // The first refusal under 10 to 15 of a scene: none, by the sweep, which leaves its notes; else condition by condition, which says where the fault lies.
 pub fn noted_verdict(read: ReadScene<'_>, notes: &mut Notes) -> Result<(), Refusal>
-    ensures { (result ≡ geometry_verdict read.entry.bytes.now read.entry.scene) × (result ≡ Ok tt → Noted read.entry.bytes.now read.entry.scene notes.new) }
+    ensures is { (result ≡ geometry_verdict read.entry.bytes.now read.entry.scene) × (result ≡ Ok tt → Noted read.entry.bytes.now read.entry.scene notes.new) }
+    ensures lent { OnceLaid notes.new (λ bytes. result ≡ Ok tt → Noted read.entry.bytes.now read.entry.scene bytes) }
 {
     if is_swept(read, notes) {
         return Ok(());

@@ -1,4 +1,5 @@
--- The check of two regions: the verdicts that lead to it, with 16 last; the check before the list, with 17 after it; and what a scene gives that passes all.
+-- The check of two regions: the verdicts that lead to it, with 16 last; the check before the list, with 17 after it; and what a scene gives that passes all,
+-- its notes in lent bytes too.
 use Rattle.scene.specs.declared.Reason.TheVariants.{NotRegions, ShortBuffer}
 use Rattle.std.specs.Prelude.{Err, None, Ok, Some}
 use Rattle.scene.specs.Read.{CheckedScene, Fault}
@@ -27,6 +28,8 @@ use Rattle.check_verdict.proofs.CheckedMeans.{checked_means_by}
 use Rattle.check_verdict.proofs.Laws.{sound_scene}
 use Rattle.overlap.specs.Walked.{TwoRegions}
 use Rattle.sweep_laws.specs.Noted.{Noted}
+use Rattle.sweep_notes.specs.Lent.{OnceLaid}
+use Rattle.sweep_notes.proofs.Kept.{laid_length, laid_noted}
 use Rattle.overlap.specs.Rules.{list_of, not_regions, shorter, region_rules, judged, check_regions, list_rules, check_list, NotedWhere}
 
 -- ---- 16 comes last
@@ -171,3 +174,17 @@ list_read s room sc e = (subst (CheckedMeans s) e (list_means s room)).0
 
 pub regions_read : (s : List ℕ) (sc : Scene) → check_regions s ≡ Ok sc → IsScene s sc
 regions_read s sc e = (subst (CheckedMeans s) e (regions_mean s)).0
+
+-- ---- the notes of the scene that is taken, in lent bytes too
+
+noted_lent : {s : List ℕ} {checked : CheckedScene} {notes : List ℕ}
+    → ((sc : Scene) → checked ≡ Ok sc → IsScene s sc)
+    → NotedWhere s checked notes
+    → OnceLaid notes (NotedWhere s checked)
+noted_lent read noted old new h laid = (laid_length h laid, λ sc taken. laid_noted (read sc taken) laid (noted sc taken))
+
+pub regions_lent : {s : List ℕ} {checked : CheckedScene} {notes : List ℕ} → checked ≡ check_regions s → NotedWhere s checked notes → OnceLaid notes (NotedWhere s checked)
+regions_lent {s} is = noted_lent (λ sc taken. regions_read s sc (sym is ∙ taken))
+
+pub list_lent : {s : List ℕ} (room : ℕ) {checked : CheckedScene} {notes : List ℕ} → checked ≡ check_list s room → NotedWhere s checked notes → OnceLaid notes (NotedWhere s checked)
+list_lent {s} room is = noted_lent (λ sc taken. list_read s room sc (sym is ∙ taken))

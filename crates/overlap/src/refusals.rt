@@ -1,5 +1,6 @@
 // Whether a scene has two regions, and whether their overlap list fits a buffer: the scene's bytes checked whole, with 16 last, and 17 after it.
 ghost use Rattle.std.specs.Prelude.{◌≡◌, List, ℕ};
+ghost use Rattle.sweep_notes.specs.Lent.{OnceLaid};
 ghost use Rattle.overlap.specs.Rules.{not_regions, judged, check_regions, check_list, NotedWhere};
 
 use crate::walk;
@@ -35,7 +36,8 @@ fn judge(scene: Scene) -> Result<Scene, Refusal>
 
 // A scene's bytes, checked whole, with 16 last.
 pub fn check_regions(s: &[u8], notes: &mut Notes) -> Result<Scene, Refusal>
-    ensures { (result ≡ check_regions s.now) × NotedWhere s.now result notes.new }
+    ensures is { (result ≡ check_regions s.now) × NotedWhere s.now result notes.new }
+    ensures lent { OnceLaid notes.new (NotedWhere s.now result) }
 {
     let scene = scene_reading::read_scene(s)?;
     check_verdict::noted_verdict(ReadScene { bytes: s, scene }, notes)?;
@@ -44,7 +46,8 @@ pub fn check_regions(s: &[u8], notes: &mut Notes) -> Result<Scene, Refusal>
 
 // And with 17 after 16, for a buffer of so many bytes.
 pub fn check_list(s: &[u8], room: usize, notes: &mut Notes) -> Result<Scene, Refusal>
-    ensures { (result ≡ check_list s.now room) × NotedWhere s.now result notes.new }
+    ensures is { (result ≡ check_list s.now room) × NotedWhere s.now result notes.new }
+    ensures lent { OnceLaid notes.new (NotedWhere s.now result) }
 {
     let scene = check_regions(s, notes)?;
     let read = ReadScene { bytes: s, scene };

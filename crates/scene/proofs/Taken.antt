@@ -328,6 +328,24 @@ pub scene_read : (s : List ℕ) (a b : Layout) → read_object s 0 ≡ Ok a → 
 unfolding read_scene
 scene_read s a b p q all = ap (scene_with_first s) p ∙ ap (scene_with_second s a) q ∙ no_seven Err (Ok (arranged a b)) s b all
 
+pub taken_read : {s : List ℕ} {sc : Scene} → TakenScene s sc → read_scene s ≡ Ok sc
+taken_read {s} {sc} t =
+    scene_read s a b (at_start a t.first_read t.first_taken.starts) (at_start b t.second_taken.read t.second_taken.object.starts) t.second_taken.all
+    ∙ ap Ok (arranged_again (turned sc) t.by_types)
+  where
+    a : Layout
+    a = given_first sc
+
+    b : Layout
+    b = given_second sc
+
+    at_start : (l : Layout) {at : ℕ} → IsObject s l → l.start ≡ at → read_object s at ≡ Ok l
+    at_start l is starts = subst (λ (n : ℕ). read_object s n ≡ Ok l) starts is
+
+    arranged_again : (d : Bool) → d ≡ descends (cond d sc.g sc.f).shape (cond d sc.f sc.g).shape → arranged (cond d sc.g sc.f) (cond d sc.f sc.g) ≡ sc
+    arranged_again true e = rw (sym e)
+    arranged_again false e = rw (sym e)
+
 -- no object takes more than 19,459 bytes, and no scene more than 38,918
 abbrev pub longest : ℕ
 longest = 19459

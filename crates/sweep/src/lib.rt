@@ -10,6 +10,7 @@ ghost use Rattle.sweep_laws.specs.Swept.{total, is_beginning, takes_first, InOrd
 ghost use Rattle.sweep_laws.specs.Event.{Taken, CanTake};
 ghost use Rattle.sweep_laws.specs.Held.{Held};
 ghost use Rattle.sweep_laws.specs.Noted.{SegmentsNoted, Noted};
+ghost use Rattle.sweep_notes.specs.Lent.{OnceLaid};
 ghost use Rattle.sweep_event.specs.Steps.{Steps};
 ghost use Rattle.sweep.specs.Walk.{Walks};
 
@@ -122,9 +123,10 @@ fn has_points(scene: Scene) -> bool
     !scene.f.shape.has_segments() && scene.g.shape.has_segments()
 }
 
-// Do 11 to 15 find no fault in a scene in order? If so, each element is noted.
+// Do 11 to 15 find no fault in a scene in order? If so, each element is noted, and in lent bytes too, once the notes are laid into them.
 pub fn accepts(ordered: OrderedScene<'_>, notes: &mut Notes) -> bool
-    ensures { Decides (Passes ordered.entry.read.bytes.now ordered.entry.read.scene) result × (T result → Noted ordered.entry.read.bytes.now ordered.entry.read.scene notes.new) }
+    ensures is { Decides (Passes ordered.entry.read.bytes.now ordered.entry.read.scene) result × (T result → Noted ordered.entry.read.bytes.now ordered.entry.read.scene notes.new) }
+    ensures lent { OnceLaid notes.new (λ bytes. T result → Noted ordered.entry.read.bytes.now ordered.entry.read.scene bytes) }
 {
     if !evenly::regions_end_evenly(ordered) {
         return false;

@@ -11,6 +11,7 @@ ghost use Rattle.sweep_laws.specs.Evenly.{RegionsEndEvenly};
 ghost use Rattle.sweep_laws.specs.Noted.{Noted};
 ghost use Rattle.sweep_laws.specs.Swept.{total, Passes};
 ghost use Rattle.sweep_notes.specs.Numbers.{note_number};
+ghost use Rattle.sweep_notes.specs.Lent.{OnceLaid};
 
 use crate::{OrderedScene, ROOM};
 use plane::{Point, Turn};
@@ -85,7 +86,8 @@ fn note_points(
 // Kept beside run_events: there the next event is of either object, told by keys, and no points stand between.
 pub fn run_points(ordered: OrderedScene<'_>, notes: &mut Notes) -> bool
     requires { (ordered.read.scene.f.shape ≡ Points) × T (has_segments ordered.read.scene.g.shape) × RegionsEndEvenly ordered.read.bytes.now ordered.read.scene }
-    ensures { Decides (Passes ordered.entry.read.bytes.now ordered.entry.read.scene) result × (T result → Noted ordered.entry.read.bytes.now ordered.entry.read.scene notes.new) }
+    ensures is { Decides (Passes ordered.entry.read.bytes.now ordered.entry.read.scene) result × (T result → Noted ordered.entry.read.bytes.now ordered.entry.read.scene notes.new) }
+    ensures lent { OnceLaid notes.new (λ bytes. T result → Noted ordered.entry.read.bytes.now ordered.entry.read.scene bytes) }
 {
     let read = ordered.read;
     let all = crate::event_count(read.scene.g);

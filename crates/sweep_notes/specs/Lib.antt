@@ -1,2 +1,3 @@
--- The notes of the sweep as numbers.
+-- The notes of the sweep as numbers, and in lent bytes.
 pub mod Numbers
+pub mod Lent

@@ -1,11 +1,12 @@
 // What the sweep notes down of each element of a scene: how it lies beside the other object.
 #![tactic(auto)]
 
-ghost use Rattle.std.specs.Prelude.{ℕ, ◌≡◌, ◌<◌, ◌≤◌, List, ◌++◌, get_or, length, set, map, take, drop};
+ghost use Rattle.std.specs.Prelude.{ℕ, ◌≡◌, ◌<◌, ◌≤◌, List, get_or, length, set, map, take};
 ghost use Rattle.scene.specs.declared.Scene.{Scene};
 ghost use Rattle.sweep_laws.specs.Swept.{slot};
 ghost use Rattle.sweep_laws.specs.Noted.{Noted};
 ghost use Rattle.sweep_notes.specs.Numbers.{note_number, as_read};
+ghost use Rattle.sweep_notes.specs.Lent.{Laid};
 
 use std::marker::Model;
 
@@ -123,8 +124,8 @@ impl Notes {
     /// Lays their numbers into lent bytes, a byte for each; what is lent beyond them stays.
     pub fn lay(&self, bytes: &mut [u8])
         requires { 2048 ≤ length bytes.old }
-        ensures is { bytes.new ≡ self.now ++ drop 2048 bytes.old }
-        ensures room { (length self.now ≡ 2048) × (length bytes.new ≡ length bytes.old) }
+        ensures is { Laid self.now bytes.old bytes.new }
+        ensures room { length bytes.new ≡ length bytes.old }
         ensures noted { (s : List ℕ) (scene : Scene) → (scene.f.count ≤ 1024) × (scene.g.count ≤ 1024) → Noted s scene self.now → Noted s scene bytes.new }
     {
         for k in 0..ROOM {

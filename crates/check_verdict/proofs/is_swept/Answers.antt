@@ -12,7 +12,7 @@ returns-then-is_in_order c =
     let s = c.args.read.bytes.now in
     let sc = c.args.read.scene in
     let order = c.is_in_order.ensures.sound (is_true c.is_in_order.result c.if-is_in_order.true) in
-    (same_as (passes_sound s sc order) (λ sound. (sound_passes s sc sound).1) c.accepts.ensures.0, c.accepts.ensures.1)
+    (same_as (passes_sound s sc order) (λ sound. (sound_passes s sc sound).1) c.accepts.ensures.is.0, c.accepts.ensures.is.1)
 
 pub returns-else-is_in_order : goal.returns-else-is_in_order
 returns-else-is_in_order c =

@@ -22,18 +22,18 @@ returns-in_err-noted_verdict-clause-is c =
     let r = c.from_residual-in_err-noted_verdict in
     handed_on r.result r.ensures.1
     ∙ sym (at_fault c.args.s.now sc (sym c.read_scene.ensures ∙ c.in_ok-scene.was) c.args.wanted (sym (c.any_stray.ensures ∙ ap (stray_in sc) c.masks_for-masks.ensures) ∙ c.if-any_stray.false)
-    c.in_err-noted_verdict.field-0.0 (sym c.noted_verdict.ensures.0 ∙ c.in_err-noted_verdict.was))
+    c.in_err-noted_verdict.field-0.0 (sym c.noted_verdict.ensures.is.0 ∙ c.in_err-noted_verdict.was))
 
 pub returns-clause-is : goal.returns-clause-is
 returns-clause-is c =
     let sc = c.in_ok-scene.scene in
     ap (λ (m : FlagMasks). Ok (record { scene = sc; masks = m })) c.masks_for-masks.ensures
     ∙ sym (taken c.args.s.now sc (sym c.read_scene.ensures ∙ c.in_ok-scene.was) c.args.wanted (sym (c.any_stray.ensures ∙ ap (stray_in sc) c.masks_for-masks.ensures) ∙ c.if-any_stray.false)
-    (sym c.noted_verdict.ensures.0 ∙ c.in_ok-noted_verdict.was))
+    (sym c.noted_verdict.ensures.is.0 ∙ c.in_ok-noted_verdict.was))
 
 pub returns-clause-noted : goal.returns-clause-noted
 returns-clause-noted c =
     let sc = c.in_ok-scene.scene in (
-      sound c.args.s.now sc (sym c.read_scene.ensures ∙ c.in_ok-scene.was) (sym c.noted_verdict.ensures.0 ∙ c.in_ok-noted_verdict.was),
-      c.noted_verdict.ensures.1 c.in_ok-noted_verdict.was,
+      sound c.args.s.now sc (sym c.read_scene.ensures ∙ c.in_ok-scene.was) (sym c.noted_verdict.ensures.is.0 ∙ c.in_ok-noted_verdict.was),
+      c.noted_verdict.ensures.is.1 c.in_ok-noted_verdict.was,
     )

@@ -5,10 +5,12 @@ use Rattle.whole.proofs.Deciding.{no}
 use Rattle.scene.specs.declared.Scene.{Scene}
 use Rattle.sweep_laws.specs.Swept.{total}
 use Rattle.sweep_laws.specs.Located.{is_point_next, PointsTaken}
+use Rattle.sweep_laws.specs.Noted.{Noted}
 use Rattle.sweep_laws.proofs.Lasting.{at_end_lem}
 use Rattle.sweep_laws.proofs.Objects.{few_elements}
 use Rattle.sweep_laws.proofs.PointRun.{Passed, passed_none, still_noted, no_events, passed_points, passed_event, all_noted}
 use Rattle.sweep_notes.specs.Numbers.{note_number}
+use Rattle.sweep_notes.proofs.Kept.{once_laid}
 use Rattle.sweep.proofs.Turn.{SoFar, none_yet, point_turn, at_end, short, on_second, can_take, taken_on, before}
 use Rattle.sweep.proofs.points.run_points.Goals as goal
 
@@ -25,7 +27,10 @@ loop-j-init c =
 pub returns-in_default : goal.returns-in_default
 returns-in_default c =
     let t = point_turn c.args.ordered.read.read c.args.ordered.in_order c.requires.0 c.requires.1 {j = c.loop-j.j} (omega arith) in
-    (no (λ pass. c.take_event.ensures.goes_on (can_take t c.loop-j.invariant.so_far pass) c.in_default.is), λ t. absurd t)
+    record {
+      is = (no (λ pass. c.take_event.ensures.goes_on (can_take t c.loop-j.invariant.so_far pass) c.in_default.is), λ t. absurd t);
+      lent = once_laid c.args.ordered.read.read (λ t. absurd t);
+    }
 
 pub write-requires : goal.write-requires
 write-requires c = short (point_turn c.args.ordered.read.read c.args.ordered.in_order c.requires.0 c.requires.1 {j = c.loop-j.j} (omega arith))
@@ -70,14 +75,14 @@ returns c =
     let all : c.event_count-all.result ≡ c.loop-j.j = omega arith in
     let points = subst (λ (j : ℕ). PointsTaken s sc j c.loop-j.status c.loop-j.i i c.loop-j.notes notes) all p.2 in
     let so_far = still points (omega (arith, p.0, few_elements s sc is true)) inv.so_far in
-    let decided = at_end is order r.2 of_f of_g so_far c.is_empty.ensures in (
-      decided.0,
-      λ t.
-          let none = eqb→eq (length c.loop-j.status) 0 (subst T c.is_empty.ensures t) in
-          record {
-            of_segments = decided.1 t;
-            of_points = all_noted s sc is order r.0 r.1
-                (at_end_lem s sc c.loop-j.status of_f of_g (λ k j l. Passed s sc i j l notes) none (passed_points s sc is order r.0 r.1 inv.so_far.run (omega arith) inv.passed p.0 points))
-                (subst (λ (j : ℕ). is_point_next s sc i j ≡ false) (all ∙ of_g) p.1);
-          },
-    )
+    let decided = at_end is order r.2 of_f of_g so_far c.is_empty.ensures in
+    let noted : T c.is_empty.result → Noted s sc notes = λ t.
+    let none = eqb→eq (length c.loop-j.status) 0 (subst T c.is_empty.ensures t) in
+    record {
+      of_segments = decided.1 t;
+      of_points = all_noted s sc is order r.0 r.1
+          (at_end_lem s sc c.loop-j.status of_f of_g (λ k j l. Passed s sc i j l notes) none (passed_points s sc is order r.0 r.1 inv.so_far.run (omega arith) inv.passed p.0 points))
+          (subst (λ (j : ℕ). is_point_next s sc i j ≡ false) (all ∙ of_g) p.1);
+    }
+    in
+    record { is = (decided.0, noted); lent = once_laid is noted }

@@ -96,7 +96,7 @@ returns c =
     let bytes = c.args.bytes.now in
     let is = laid_to bytes notes h.bytes (1024 + h.j) 2048 (omega arith) h.invariant.laid ∙ paste_all bytes 0 notes 2048 (sym h.invariant.room) in
     record {
-      is = is;
-      room = (h.invariant.room, h.auto.bytes ∙ c.loop-k.auto.bytes);
+      is = record { all = h.invariant.room; is = is };
+      room = h.auto.bytes ∙ c.loop-k.auto.bytes;
       noted = λ s scene few noted. subst (Noted s scene) (sym is) (kept_before s scene few notes (drop 2048 bytes) h.invariant.room noted);
     }
